@@ -1,0 +1,4 @@
+-- What the codec means: numbers and ids as bytes, a copied part, and the answer of a call that writes.
+pub mod Number
+pub mod Part
+pub mod Reply

@@ -1,0 +1,43 @@
+-- The answer of a call that writes. Document 01: "Only the number returns; buffers are unaltered" on a refusal;
+-- demand 1: "a success writes the stated bytes from the front and none after them."
+use Prim.Native.Nat.{ℕ}
+use mathlib.Core.Bool.{Bool, true, false}
+use mathlib.Core.List.{List, [], _∷_, _++_}
+use lib.Dec.{leb}
+use lib.ListN.{length, drop}
+use Rattle.codec.specs.declared.Answer.{Answer}
+use Rattle.codec.specs.declared.Answer.the-variants.{Written, Refused}
+
+-- what a call comes to before its output buffer is looked at: the bytes to be written, or the refusal's number
+pub data Reply : Type 0 where
+  gives : List ℕ → Reply
+  refuses : ℕ → Reply
+
+-- 14: the output buffer is shorter than the result. It is the last line of document 01's table.
+unfoldable pub answer : Reply → ℕ → Answer
+answer (gives bs) room = elim (leb (length bs) room) [ true ↦ Written (length bs) | false ↦ Refused 14 ]
+answer (refuses n) room = Refused n
+
+-- the output buffer after the call: the bytes, then the rest as it was; on a refusal, 14 too, all as it was
+unfoldable pub after : Reply → List ℕ → List ℕ
+after (gives bs) out = elim (leb (length bs) (length out)) [ true ↦ bs ++ drop (length bs) out | false ↦ out ]
+after (refuses n) out = out
+
+-- an answer's number, 0 where nothing is refused, and how many bytes were written
+unfoldable pub numberOf : Answer → ℕ
+numberOf (Written n) = 0
+numberOf (Refused n) = n
+
+unfoldable pub writtenOf : Answer → ℕ
+writtenOf (Written n) = n
+writtenOf (Refused n) = 0
+
+-- a line of a table of refusals: a number, and whether its condition holds
+pub record Line : Type 0 where
+  pub number : ℕ
+  pub holds : Bool
+
+-- the first line whose condition holds refuses; where none does, the reply stands
+unfoldable pub firstFault : List Line → Reply → Reply
+firstFault [] r = r
+firstFault (l ∷ ls) r = elim (l .holds) [ true ↦ refuses (l .number) | false ↦ firstFault ls r ]
