@@ -6,3 +6,4 @@ pub mod Encode
 pub mod Lawful
 pub mod Read
 pub mod Parse
+pub mod Answer

@@ -1,0 +1,3 @@
+-- Document 01's instances: the bytes, and the table of what each comes to.
+pub mod Given
+pub mod Table
