@@ -1,0 +1,4 @@
+-- The laws of the codec.
+pub mod Numbers
+pub mod Order
+pub mod Replies
