@@ -2,6 +2,7 @@
 -- r, v, e and g. On a refusal only the number returns: where the sizes are put, nothing changes.
 use Prim.Native.Nat.{ℕ}
 use mathlib.Core.List.{List, [], _∷_}
+use lib.Seq.{sets}
 use Rattle.layout.specs.declared.Checked.{Checked}
 use Rattle.layout.specs.declared.Checked.the-variants.{Accepted, Refused}
 
@@ -11,5 +12,5 @@ checkedNumber (Refused n) = n
 
 -- the four numbers after the call, from the four before it
 unfoldable pub checkedSizes : Checked → List ℕ → List ℕ
-checkedSizes (Accepted r v e g) old = r ∷ v ∷ e ∷ g ∷ []
+checkedSizes (Accepted r v e g) old = sets old 0 (r ∷ v ∷ e ∷ g ∷ [])
 checkedSizes (Refused n) old = old
