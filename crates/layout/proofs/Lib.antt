@@ -8,3 +8,4 @@ pub mod BackwardParts
 pub mod BackwardRefused
 pub mod Backward
 pub mod Prefix
+pub mod Exact
