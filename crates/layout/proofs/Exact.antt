@@ -12,7 +12,8 @@ use lib.ListN.{length}
 use Rattle.codec.specs.Number.{Bytes}
 use Rattle.layout.specs.declared.Checked.{Checked}
 use Rattle.layout.specs.declared.Checked.the-variants.{Accepted, Refused}
-use Rattle.layout.specs.Rules.{Rules, Permitted}
+use lib.Dec.{lit≤}
+use Rattle.layout.specs.Rules.{Rules, Permitted, base, longest}
 use Rattle.layout.specs.Knowledge.{Knowledge, elements}
 use Rattle.layout.specs.Encode.{encode}
 use Rattle.layout.specs.Lawful.{Lawful}
@@ -75,3 +76,8 @@ module _ (R : Rules) (permitted : Permitted (R .limits)) where
   pub refused-exact : (s : List ℕ) (n : ℕ) → (checked R s ≡ Refused n) ↔ (parse R s ≡ refused n)
   unfolding parse
   refused-exact s n = (λ h. ap (told s) h ∙ told-refusal s n, λ h. told-refused s n (checked R s) h)
+
+-- document 01's limits are permitted
+pub base-permitted : Permitted base
+unfolding longest
+base-permitted = record { replicas = lit≤ tt; ranges = lit≤ tt; records = lit≤ tt; lengths = lit≤ tt }

@@ -18,15 +18,10 @@ use Rattle.layout.specs.declared.Got.{Got}
 use Rattle.layout.specs.declared.Got.the-variants.{Num, Fault}
 use Rattle.layout.specs.declared.Checked.{Checked}
 use Rattle.layout.specs.declared.Checked.the-variants.{Accepted}
-use Rattle.layout.specs.Rules.{Limits, Rules, mostVectors, largestTick, base, basic}
+use Rattle.layout.specs.Rules.{longest, Limits, Rules, mostVectors, largestTick, base, basic}
 use Rattle.layout.specs.Fields.{Field, opening, beforeVectors, beforeElements, beforeRanges, closing}
 use Rattle.layout.specs.Read.{_▷_, repeat, number, same, fields, limit, empty, among, judged, replicaId, tick, element, firstVector, vector, index, range}
 use Rattle.layout.specs.Parse.{replicaMap, vectorCount, vectorList, rangeList, _▶_, ended, checked}
-
--- the length of a knowledge with all counts at their limits; its first vector is empty
-unfoldable pub longest : Limits → ℕ
-longest L =
-    77 + 16 * L .replicas + 8 * mostVectors L + 12 * (L .replicas * L .ranges) + 28 * L .ranges
 
 pub longest-base : longest base ≡ 14933
 unfolding longest
