@@ -1,0 +1,7 @@
+//! The engine from outside, through its C interface: called, compared with the reference, and measured.
+
+#![deny(unsafe_code)]
+
+pub mod compare;
+#[allow(unsafe_code)]
+pub mod engine;

@@ -1,0 +1,12 @@
+//! The sync knowledge engine once more, in plain Rust.
+//!
+//! It is written from the paper that sets the layout, the limits and the numbers of the refusals, and from nothing
+//! else, so that the engine can be compared with it. It is also what the engine's speed is measured against.
+
+#![forbid(unsafe_code)]
+
+mod cursor;
+mod knowledge;
+pub mod refusal;
+
+pub use knowledge::{Sizes, check};

@@ -1,0 +1,22 @@
+//! The numbers of the refusals.
+
+/// The bytes end inside a field.
+pub const CUT: u32 = 1;
+/// A fixed field differs.
+pub const FIXED_FIELD: u32 = 2;
+/// The count of replicas, vectors or ranges is beyond its limits, or an element count is above the count of replicas.
+pub const COUNT: u32 = 3;
+/// The first clock vector is not empty.
+pub const FIRST_VECTOR: u32 = 4;
+/// A replica id has been seen before.
+pub const REPLICA_ID: u32 = 5;
+/// A replica key is at or above the count of replicas, or repeated in its vector.
+pub const KEY: u32 = 6;
+/// A tick is above 2^63 − 1.
+pub const TICK: u32 = 7;
+/// A range's bound is not above the one before.
+pub const BOUND: u32 = 8;
+/// A clock vector index is at or above the count of vectors.
+pub const INDEX: u32 = 9;
+/// Bytes are left over behind the last field.
+pub const LEFT_OVER: u32 = 10;

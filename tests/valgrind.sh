@@ -1,0 +1,16 @@
+#!/usr/bin/env bash
+# Compares the engine with the reference under valgrind, which sees reading and writing beyond a buffer. The inputs are
+# those of the tests, fewer of them. SYNC_INPUTS sets their number, SYNC_SEED the seed, SYNC_ENGINE_LIB the folder of
+# the engine's library.
+set -euo pipefail
+export SYNC_ENGINE_LIB SYNC_INPUTS
+SYNC_ENGINE_LIB=$(realpath -m "${SYNC_ENGINE_LIB:-$(dirname "${BASH_SOURCE[0]}")/../target/staticlib}")
+SYNC_INPUTS=${SYNC_INPUTS:-40000}
+cd "$(dirname "${BASH_SOURCE[0]}")"
+PATH="$PATH:$HOME/.cargo/bin"
+
+echo "valgrind: building"
+cargo build --quiet --release --offline --locked --bin inputs
+echo "valgrind: $SYNC_INPUTS inputs under memcheck"
+valgrind --quiet --tool=memcheck --leak-check=full --error-exitcode=1 target/release/inputs
+echo "valgrind: no errors"
