@@ -3,7 +3,7 @@
 -- fault, and its values are those that were written. Backward, accepted bytes are the encoding of some lawful
 -- knowledge, whose values are then the ones that reading gives. So two lawful knowledges with the same bytes are the
 -- same, and the sizes that the check answers are those of the knowledge.
-use Prim.Native.Nat.{ℕ, _+_, _*_}
+use Prim.Native.Nat.{ℕ, suc, _+_, _*_, _^_}
 use mathlib.Core.Path.{_≡_, refl, sym, ap, _∙_, subst}
 use mathlib.Core.List.{List}
 use mathlib.Core.Logic.{_↔_}
@@ -13,7 +13,7 @@ use Rattle.codec.specs.Number.{Bytes}
 use Rattle.layout.specs.declared.Checked.{Checked}
 use Rattle.layout.specs.declared.Checked.the-variants.{Accepted, Refused}
 use lib.Dec.{lit≤}
-use Rattle.layout.specs.Rules.{Rules, Permitted, base, longest}
+use Rattle.layout.specs.Rules.{Rules, Permitted, base, longest, largestTick}
 use Rattle.layout.specs.Knowledge.{Knowledge, elements}
 use Rattle.layout.specs.Encode.{encode}
 use Rattle.layout.specs.Lawful.{Lawful}
@@ -81,3 +81,7 @@ module _ (R : Rules) (permitted : Permitted (R .limits)) where
 pub base-permitted : Permitted base
 unfolding longest
 base-permitted = record { replicas = lit≤ tt; ranges = lit≤ tt; records = lit≤ tt; lengths = lit≤ tt }
+
+-- document 01's numbers: the largest tick is 2^63 − 1
+pub largest-tick : suc largestTick ≡ 2 ^ 63
+largest-tick = refl
