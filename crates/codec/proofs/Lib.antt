@@ -1,4 +1,7 @@
 -- The laws of the codec.
 pub mod Numbers
 pub mod Order
+pub mod Reading
 pub mod Replies
+pub mod Words
+pub mod Writing

@@ -1,7 +1,225 @@
 // Numbers and ids as bytes, copying, and the answer of a call that writes.
+//
+// Every public function is total: a byte that is missing is read as 0, and what has no room is not written at all.
+ghost use mathlib.Core.Path.{_≡_};
+ghost use Prim.Native.Nat.{_+_, _≤_, _<_, _^_};
+ghost use lib.Dec.{eqb, ltb};
+ghost use lib.ListN.{length, getD};
+ghost use Rattle.codec.specs.Number.{beAt, words2, words3};
+ghost use Rattle.codec.specs.Part.{placed, part, bytes};
+
 pub enum Answer {
     // a success: how many bytes were written from the front of the buffer
     Written(usize),
     // a refusal: its number
     Refused(u32),
+}
+
+// A byte as a number of 64 bits.
+fn wide(x: u8) -> u64
+    ensures { λ r. ⌜ (r ≡ x) × (r < 256) ⌝ }
+{
+    x as u64
+}
+
+// The byte i places after `at`, 0 where `s` has none there.
+fn byte(s: &[u8], at: usize, i: usize) -> u64
+    ensures { λ r. ⌜ (r ≡ getD (now (s .entry)) (at + i) 0) × (r < 256) ⌝ }
+{
+    if s.len() <= at {
+        return 0;
+    }
+    if s.len() - at <= i {
+        return 0;
+    }
+    wide(s[at + i])
+}
+
+// The number in the n bytes from `at` on, byte by byte: for a place where some of them are missing. It calls itself,
+// so that the compiler puts no copy of it where numbers are read.
+fn read_slowly(s: &[u8], at: usize, n: usize) -> u64
+    requires { ⌜ n ≤ 8 ⌝ }
+    ensures { λ r. ⌜ (r ≡ beAt (now (s .entry)) n at) × (r < 256 ^ n) ⌝ }
+{
+    if n == 0 {
+        return 0;
+    }
+    let i = n - 1;
+    let x = read_slowly(s, at, i);
+    x * 256 + byte(s, at, i)
+}
+
+// The number in the four bytes from `at` on, all there: one load and an exchange of bytes.
+fn four(s: &[u8], at: usize) -> u64
+    requires { ⌜ at + 4 ≤ length (now s) ⌝ }
+    ensures { λ r. ⌜ (r ≡ beAt (now (s .entry)) 4 at) × (r < 2 ^ 32) ⌝ }
+{
+    wide(s[at]) * 16777216 + wide(s[at + 1]) * 65536 + wide(s[at + 2]) * 256 + wide(s[at + 3])
+}
+
+// The big-endian number in the 1, 2, 4 or 8 bytes from `at` on.
+pub fn read1(s: &[u8], at: usize) -> u64
+    ensures { λ r. ⌜ r ≡ beAt (now (s .entry)) 1 at ⌝ }
+    ensures { λ r. ⌜ r < 2 ^ 8 ⌝ }
+{
+    if s.len() <= at {
+        return 0;
+    }
+    wide(s[at])
+}
+
+pub fn read2(s: &[u8], at: usize) -> u64
+    ensures { λ r. ⌜ r ≡ beAt (now (s .entry)) 2 at ⌝ }
+    ensures { λ r. ⌜ r < 2 ^ 16 ⌝ }
+{
+    if s.len() <= at {
+        return 0;
+    }
+    if s.len() - at < 2 {
+        return read_slowly(s, at, 2);
+    }
+    wide(s[at]) * 256 + wide(s[at + 1])
+}
+
+pub fn read4(s: &[u8], at: usize) -> u64
+    ensures { λ r. ⌜ r ≡ beAt (now (s .entry)) 4 at ⌝ }
+    ensures { λ r. ⌜ r < 2 ^ 32 ⌝ }
+{
+    if s.len() <= at {
+        return 0;
+    }
+    if s.len() - at < 4 {
+        return read_slowly(s, at, 4);
+    }
+    four(s, at)
+}
+
+pub fn read8(s: &[u8], at: usize) -> u64
+    ensures { λ r. ⌜ r ≡ beAt (now (s .entry)) 8 at ⌝ }
+    ensures { λ r. ⌜ r < 2 ^ 64 ⌝ }
+{
+    if s.len() <= at {
+        return 0;
+    }
+    if s.len() - at < 8 {
+        return read_slowly(s, at, 8);
+    }
+    four(s, at) * 4294967296 + four(s, at + 4)
+}
+
+// The 1, 2, 4 or 8 lowest bytes of x, big-endian, from `at` on, where there is room for all of them.
+pub fn write1(out: &mut [u8], at: usize, x: u64)
+    ensures { λ _. ⌜ now (out .exit) ≡ placed (now (out .entry)) at (bytes 1 x) ⌝ }
+{
+    if out.len() <= at {
+        return;
+    }
+    out[at] = (x % 256) as u8;
+}
+
+pub fn write2(out: &mut [u8], at: usize, x: u64)
+    ensures { λ _. ⌜ now (out .exit) ≡ placed (now (out .entry)) at (bytes 2 x) ⌝ }
+{
+    if out.len() < 2 {
+        return;
+    }
+    if out.len() - 2 < at {
+        return;
+    }
+    out[at] = (x / 256 % 256) as u8;
+    out[at + 1] = (x % 256) as u8;
+}
+
+pub fn write4(out: &mut [u8], at: usize, x: u64)
+    ensures { λ _. ⌜ now (out .exit) ≡ placed (now (out .entry)) at (bytes 4 x) ⌝ }
+{
+    if out.len() < 4 {
+        return;
+    }
+    if out.len() - 4 < at {
+        return;
+    }
+    out[at] = (x / 16777216 % 256) as u8;
+    out[at + 1] = (x / 65536 % 256) as u8;
+    out[at + 2] = (x / 256 % 256) as u8;
+    out[at + 3] = (x % 256) as u8;
+}
+
+pub fn write8(out: &mut [u8], at: usize, x: u64)
+    ensures { λ _. ⌜ now (out .exit) ≡ placed (now (out .entry)) at (bytes 8 x) ⌝ }
+{
+    if out.len() < 8 {
+        return;
+    }
+    if out.len() - 8 < at {
+        return;
+    }
+    out[at] = (x / 72057594037927936 % 256) as u8;
+    out[at + 1] = (x / 281474976710656 % 256) as u8;
+    out[at + 2] = (x / 1099511627776 % 256) as u8;
+    out[at + 3] = (x / 4294967296 % 256) as u8;
+    out[at + 4] = (x / 16777216 % 256) as u8;
+    out[at + 5] = (x / 65536 % 256) as u8;
+    out[at + 6] = (x / 256 % 256) as u8;
+    out[at + 7] = (x % 256) as u8;
+}
+
+// The n bytes of `src` from a place on, into `dst`: nothing where `src` has fewer there or `dst` has no room.
+pub fn copy_part(src: &[u8], from: usize, n: usize, dst: &mut [u8], at: usize)
+    ensures { λ _. ⌜ now (dst .exit) ≡ placed (now (dst .entry)) at (part (now (src .entry)) from n) ⌝ }
+{
+    if src.len() < n {
+        return;
+    }
+    if src.len() - n < from {
+        return;
+    }
+    if dst.len() < n {
+        return;
+    }
+    if dst.len() - n < at {
+        return;
+    }
+    let mut i: usize = 0;
+    while i < n {
+        dst[at + i] = src[from + i];
+        i += 1;
+    }
+}
+
+// Ids of two words and of three, the highest word first: is the first below the second, are they the same.
+pub fn less2(a0: u64, a1: u64, b0: u64, b1: u64) -> bool
+    ensures { λ r. ⌜ r ≡ ltb (words2 a0 a1) (words2 b0 b1) ⌝ }
+{
+    if a0 == b0 {
+        return a1 < b1;
+    }
+    a0 < b0
+}
+
+pub fn same2(a0: u64, a1: u64, b0: u64, b1: u64) -> bool
+    ensures { λ r. ⌜ r ≡ eqb (words2 a0 a1) (words2 b0 b1) ⌝ }
+{
+    if a0 == b0 {
+        return a1 == b1;
+    }
+    false
+}
+
+pub fn less3(a0: u64, a1: u64, a2: u64, b0: u64, b1: u64, b2: u64) -> bool
+    ensures { λ r. ⌜ r ≡ ltb (words3 a0 a1 a2) (words3 b0 b1 b2) ⌝ }
+{
+    if a0 == b0 {
+        return less2(a1, a2, b1, b2);
+    }
+    a0 < b0
+}
+
+pub fn same3(a0: u64, a1: u64, a2: u64, b0: u64, b1: u64, b2: u64) -> bool
+    ensures { λ r. ⌜ r ≡ eqb (words3 a0 a1 a2) (words3 b0 b1 b2) ⌝ }
+{
+    if a0 == b0 {
+        return same2(a1, a2, b1, b2);
+    }
+    false
 }

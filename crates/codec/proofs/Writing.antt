@@ -1,0 +1,97 @@
+-- Writing into a buffer: stores one after the other from a place on leave what `placed` says, where the place has
+-- room for all of them, and a buffer that has no room stays as it was. Copying a part byte by byte is the same.
+use mathlib.Core.Path.{_≡_, refl, sym, _∙_}
+use mathlib.Core.Bool.{Bool, true, false}
+use mathlib.Core.List.{List, [], _++_, append-assoc}
+use Prim.Native.Nat.{ℕ, _+_, _<_, _≤_}
+use native.Mathlib.Nat.{add-zero}
+use native.Mathlib.Numerals.{add-one}
+use native.Mathlib.Omega.{arith}
+use borrow.Author.Tests.{le-leb, lt-leb, leb-true, leb-false}
+use lib.Dec.{leb}
+use lib.ListN.{length, set, take, drop, getD, length-take, length-drop, take-append-drop}
+use lib.Seq.{sets, sets-eq, take-length, getD-take, getD-drop, paste, paste-zero, paste-suc}
+use Rattle.codec.specs.Part.{placed, part, bytes}
+use Rattle.codec.proofs.Numbers.{put-length}
+
+pub bytes-length : (n x : ℕ) → length (bytes n x) ≡ n
+unfolding bytes
+bytes-length n x = put-length n x [] ∙ add-zero n
+
+module _ (d : List ℕ) (at : ℕ) (vs : List ℕ) where
+  pub placed-in : at + length vs ≤ length d → placed d at vs ≡ take at d ++ (vs ++ drop (at + length vs) d)
+  unfolding placed
+  placed-in h = rw (le-leb (at + length vs) (length d) h, placed)
+
+  pub placed-out : length d < at + length vs → d ≡ placed d at vs
+  unfolding placed
+  placed-out h = rw (lt-leb (at + length vs) (length d) h, placed)
+
+  pub stored : at + length vs ≤ length d → sets d at vs ≡ placed d at vs
+  stored h = sets-eq vs d at h ∙ append-assoc (take at d) vs _ ∙ sym (placed-in h)
+
+-- nothing is nothing to write, anywhere
+nothing : (d : List ℕ) (at : ℕ) → d ≡ placed d at []
+nothing d at = go (leb (at + 0) (length d)) refl
+  where
+    go : (t : Bool) → leb (at + 0) (length d) ≡ t → d ≡ placed d at []
+    go true e = sym (placed-in d at [] (leb-true (at + 0) (length d) e) ∙ rw add-zero (take-append-drop at d))
+    go false e = placed-out d at [] (leb-false (at + 0) (length d) e)
+
+-- the n bytes of x: at a literal width `sets` computes to the stores that the code makes
+module _ (d : List ℕ) (at n x : ℕ) where
+  pub no-room : length d < at + n → d ≡ placed d at (bytes n x)
+  no-room h = placed-out d at (bytes n x) (rw bytes-length h)
+
+  pub written : at + n ≤ length d → sets d at (bytes n x) ≡ placed d at (bytes n x)
+  written h = stored d at (bytes n x) (rw bytes-length h)
+
+-- a part that is not there is empty, and so nothing is written
+module _ (s : List ℕ) (from n : ℕ) where
+  part-in : from + n ≤ length s → part s from n ≡ take n (drop from s)
+  unfolding part
+  part-in h = rw (le-leb (from + n) (length s) h, part)
+
+  part-out : length s < from + n → part s from n ≡ []
+  unfolding part
+  part-out h = rw (lt-leb (from + n) (length s) h, part)
+
+  part-length : from + n ≤ length s → length (part s from n) ≡ n
+  part-length h = rw (part-in h, length-take, length-drop) (omega arith)
+
+module _ (d s : List ℕ) (at from n : ℕ) where
+  pub no-part : length s < from + n → d ≡ placed d at (part s from n)
+  no-part h = rw (part-out s from n h) (nothing d at)
+
+  pub no-place : from + n ≤ length s → length d < at + n → d ≡ placed d at (part s from n)
+  no-place h k = placed-out d at (part s from n) (rw (part-length s from n h) k)
+
+-- ---- copying a part, byte by byte
+
+-- d, with the first i of vs from a place on
+pub copying : List ℕ → ℕ → List ℕ → ℕ → List ℕ
+copying d at vs i = paste d at vs i
+
+pub copying-none : (d : List ℕ) (at : ℕ) (vs : List ℕ) → d ≡ copying d at vs 0
+unfolding copying
+copying-none d at vs = paste-zero d at vs
+
+module _ (d s : List ℕ) (at from n : ℕ) (h : from + n ≤ length s) (k : at + n ≤ length d) where
+  part-at : (i : ℕ) → i < n → getD (part s from n) i 0 ≡ getD s (from + i) 0
+  part-at i l = rw (part-in s from n h, getD-take, getD-drop)
+
+  pub copying-more :
+      (e : List ℕ) (i : ℕ)
+      → i < n
+      → e ≡ copying d at (part s from n) i
+      → set e (at + i) (getD s (from + i) 0) ≡ copying d at (part s from n) (i + 1)
+  unfolding copying
+  copying-more e i l c =
+      let v : i < length (part s from n) = rw (part-length s from n h) l in
+      rw (c, ← part-at i l, add-one i) (paste-suc d at (part s from n) i 0 (omega arith) v)
+
+  pub copying-all : (e : List ℕ) (i : ℕ) → i ≡ n → e ≡ copying d at (part s from n) i → e ≡ placed d at (part s from n)
+  unfolding copying
+  copying-all e i l c =
+      let z : length (part s from n) ≡ i = part-length s from n h ∙ sym l in
+      c ∙ rw (placed-in d at (part s from n) (omega arith), ← z, take-length, append-assoc)
