@@ -1,0 +1,11 @@
+-- The laws that the reader's functions are proved by.
+pub mod Digits
+pub mod Steps
+pub mod Among
+pub mod Repeat
+pub mod Fixed
+pub mod Ids
+pub mod Element
+pub mod Vector
+pub mod Bound
+pub mod Parts

@@ -1,0 +1,91 @@
+use lib.ListN.{length}
+use Rattle.reader.specs.Method.{rangesAfter}
+use Prim.Native.Nat.{_-_, _≤_}
+use mathlib.Core.Path.{_≡_, refl}
+use Rattle.reader.proofs.Bound.{range-went, ranges-stop, ranges-on, ranges-end}
+use borrow.Author.Needs.{needs}
+use native.Mathlib.Omega.{arith}
+use Rattle.reader.proofs.more_ranges.Statement.{statement}
+use Rattle.reader.proofs.more_ranges.Tie as tie
+use Rattle.reader.proofs.more_ranges.Reads as reads
+use Rattle.reader.proofs.more_ranges.Lts as lts
+use Rattle.reader.proofs.next_range.Reads as next-range-reads
+
+abbrev Inv-loop : tie.InvT-loop
+Inv-loop s v g start k₀ at₀ k at =
+    (rangesAfter s v g (g - 1) start ≡ rangesAfter s v g (g - k) at) × (28 ≤ at) × (at ≤ length s)
+
+abbrev μ-loop : tie.MeasureT-loop
+μ-loop s v g start k₀ at₀ k at = g - k
+
+-- src/lib.rt:457:5
+loop-holds : tie.Need-loop-holds Inv-loop μ-loop
+loop-holds c =
+    (refl, omega arith, omega arith)
+
+-- src/lib.rt:458:34
+sub-next-range : tie.Need-sub-next-range Inv-loop μ-loop
+sub-next-range c =
+    omega arith
+
+-- src/lib.rt:458:13
+next-range-requires : tie.Need-next-range-requires Inv-loop μ-loop
+next-range-requires c κs =
+    omega arith
+
+-- src/lib.rt:459:25
+enum-known-f : tie.Need-enum-known-f Inv-loop μ-loop
+enum-known-f c =
+    search needs
+
+-- src/lib.rt:460:13
+enum-told : tie.Need-enum-told Inv-loop μ-loop
+enum-told c =
+    search needs
+
+-- src/lib.rt:460:13
+returns : tie.Need-returns Inv-loop μ-loop
+returns c =
+    search (ranges-stop)
+
+-- src/lib.rt:463:9
+add-k : tie.Need-add-k Inv-loop μ-loop
+add-k c =
+    omega arith
+
+-- src/lib.rt:457:5
+loop-less : tie.Need-loop-less Inv-loop μ-loop
+loop-less c =
+    omega arith
+
+-- src/lib.rt:457:5
+loop-again : tie.Need-loop-again Inv-loop μ-loop
+loop-again c =
+    let d = c .before .before .before in
+    let w = range-went _ _ _ _ _ (d .next-range .ensures) _ _ (c .before .f .given .1) in (
+      ranges-on _ _ _ _ _ _ (d .before .before .loop .inv .0) (omega arith) _ (d .next-range .ensures) _ _ (c .before .f .given .1),
+      omega arith,
+      omega arith,
+    )
+
+-- src/lib.rt:451:1
+returns-2 : tie.Need-returns-2 Inv-loop μ-loop
+returns-2 c =
+    search (ranges-end)
+
+pub more-ranges-spec : {M : Type 1} → statement M
+more-ranges-spec =
+    tie.close
+    (tie.spec
+    Inv-loop
+    μ-loop
+    loop-holds
+    sub-next-range
+    next-range-requires
+    enum-known-f
+    enum-told
+    returns
+    add-k
+    loop-less
+    loop-again
+    returns-2)

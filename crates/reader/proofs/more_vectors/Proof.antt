@@ -1,0 +1,83 @@
+use Rattle.layout.specs.Read.{repeat, vector}
+use Prim.Native.Nat.{_-_, _≤_}
+use mathlib.Core.Path.{_≡_, refl}
+use Rattle.reader.proofs.Vector.{vector-below}
+use Rattle.reader.proofs.Repeat.{repeats, repeat-on}
+use borrow.Author.Needs.{needs}
+use native.Mathlib.Omega.{arith}
+use Rattle.reader.proofs.more_vectors.Statement.{statement}
+use Rattle.reader.proofs.more_vectors.Tie as tie
+use Rattle.reader.proofs.more_vectors.Reads as reads
+use Rattle.reader.proofs.more_vectors.Lts as lts
+use Rattle.reader.proofs.next_vector.Reads as next-vector-reads
+
+abbrev Inv-loop : tie.InvT-loop
+Inv-loop s r v start k₀ e₀ at₀ k e at =
+    (repeat (vector s r) (v - 1) 0 start ≡ repeat (vector s r) (v - k) e at) × (e ≤ at)
+
+abbrev μ-loop : tie.MeasureT-loop
+μ-loop s r v start k₀ e₀ at₀ k e at = v - k
+
+-- src/lib.rt:365:5
+loop-holds : tie.Need-loop-holds Inv-loop μ-loop
+loop-holds c =
+    (refl, omega arith)
+
+-- src/lib.rt:366:13
+next-vector-requires : tie.Need-next-vector-requires Inv-loop μ-loop
+next-vector-requires c κs =
+    omega arith
+
+-- src/lib.rt:367:22
+enum-known-g : tie.Need-enum-known-g Inv-loop μ-loop
+enum-known-g c =
+    search needs
+
+-- src/lib.rt:368:13
+enum-told : tie.Need-enum-told Inv-loop μ-loop
+enum-told c =
+    search needs
+
+-- src/lib.rt:368:13
+returns : tie.Need-returns Inv-loop μ-loop
+returns c =
+    search repeats
+
+-- src/lib.rt:372:9
+add-k : tie.Need-add-k Inv-loop μ-loop
+add-k c =
+    omega arith
+
+-- src/lib.rt:365:5
+loop-less : tie.Need-loop-less Inv-loop μ-loop
+loop-less c =
+    omega arith
+
+-- src/lib.rt:365:5
+loop-again : tie.Need-loop-again Inv-loop μ-loop
+loop-again c =
+    let d = c .before .before .before in (
+      repeat-on _ _ _ _ _ _ (d .before .before .loop .inv .0) (omega arith) _ (d .next-vector .ensures) _ _ (c .before .g .given .1),
+      vector-below _ _ _ _ _ (d .next-vector .ensures) _ _ (c .before .g .given .1) (omega arith),
+    )
+
+-- src/lib.rt:359:1
+returns-2 : tie.Need-returns-2 Inv-loop μ-loop
+returns-2 c =
+    search repeats
+
+pub more-vectors-spec : {M : Type 1} → statement M
+more-vectors-spec =
+    tie.close
+    (tie.spec
+    Inv-loop
+    μ-loop
+    loop-holds
+    next-vector-requires
+    enum-known-g
+    enum-told
+    returns
+    add-k
+    loop-less
+    loop-again
+    returns-2)

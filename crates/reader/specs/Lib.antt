@@ -1,0 +1,2 @@
+-- The reader's own method.
+pub mod Method
