@@ -13,7 +13,7 @@ use Rattle.codec.specs.Number.{Bytes}
 use Rattle.layout.specs.declared.Checked.{Checked}
 use Rattle.layout.specs.declared.Checked.the-variants.{Accepted, Refused}
 use lib.Dec.{lit≤}
-use Rattle.layout.specs.Rules.{Rules, Permitted, base, longest, largestTick}
+use Rattle.layout.specs.Rules.{Rules, Permitted, base, longest, largestTick, mostVectors}
 use Rattle.layout.specs.Knowledge.{Knowledge, elements}
 use Rattle.layout.specs.Encode.{encode}
 use Rattle.layout.specs.Lawful.{Lawful}
@@ -80,8 +80,11 @@ module _ (R : Rules) (permitted : Permitted (R .limits)) where
 -- document 01's limits are permitted
 pub base-permitted : Permitted base
 unfolding longest
-base-permitted = record { replicas = lit≤ tt; ranges = lit≤ tt; records = lit≤ tt; lengths = lit≤ tt }
+base-permitted = record { someRange = lit≤ tt; replicas = lit≤ tt; ranges = lit≤ tt; records = lit≤ tt; lengths = lit≤ tt }
 
--- document 01's numbers: the largest tick is 2^63 − 1
+-- document 01's numbers: the largest tick is 2^63 − 1; at most 16 replicas, 64 ranges, 65 vectors and 256 records
 pub largest-tick : suc largestTick ≡ 2 ^ 63
 largest-tick = refl
+
+pub base-limits : (base .replicas ≡ 16) × (base .ranges ≡ 64) × (mostVectors base ≡ 65) × (base .records ≡ 256)
+base-limits = (refl, refl, refl, refl)

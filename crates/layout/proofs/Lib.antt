@@ -9,3 +9,4 @@ pub mod BackwardRefused
 pub mod Backward
 pub mod Prefix
 pub mod Exact
+pub mod Faults

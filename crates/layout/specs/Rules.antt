@@ -37,8 +37,10 @@ longest L = 77 + 16 * L .replicas + 8 * mostVectors L + 12 * (L .replicas * L .r
 abbrev pub mostCount : ℕ
 mostCount = 4294967294
 
--- the only premise of the laws on the limits: counts and lengths have room in their fields
+-- the only premise of the laws on the limits: counts and lengths have room in their fields, and a knowledge may have
+-- the one range that every knowledge has
 pub record Permitted (L : Limits) : Type 0 where
+  pub someRange : 1 ≤ L .ranges
   pub replicas : L .replicas ≤ mostCount
   pub ranges : L .ranges ≤ mostCount
   pub records : L .records ≤ mostCount
