@@ -1,14 +1,48 @@
 -- Every row of document 01's table of instances holds: both sides are closed, so the definitions are computed and
 -- the results compared.
 use mathlib.Core.Path.{refl}
-use Rattle.codec.specs.Number.{put, beAt, beFrom}
+use Rattle.codec.specs.Number.{beFrom, beAt, put}
+use Rattle.codec.specs.Reply.{firstFault}
+use Rattle.layout.specs.Encode.{putFields, putIds, putElements, putVectors, putRanges, encode}
 use Rattle.layout.specs.Fields.{opening, beforeVectors, beforeElements, beforeRanges, closing}
-use Rattle.layout.specs.Encode.{encode, putFields, putIds, putElements, putVectors, putRanges}
-use Rattle.layout.specs.Read.{repeat, number, same, fields, limit, empty, among, judged, replicaId, tick, element, firstVector, vector, index, range}
+use Rattle.layout.specs.Knowledge.{elements}
+use Rattle.layout.specs.Lawful.{keys, bounds}
 use Rattle.layout.specs.Parse.{replicaMap, vectorCount, vectorList, rangeList, ended, checked, idsAt, elementsAt, vectorsAt, afterVectors, rangesAt, decode, told, parse}
-use Rattle.instances.specs.Given.{emptyValue, smallest}
-use Rattle.instances.specs.Table.{AllHold, table}
+use Rattle.layout.specs.Read.{repeat, number, same, fields, limit, empty, among, judged, replicaId, tick, element, firstVector, vector, index, range}
+use Rattle.ticks.specs.Calls.{idOf, readAs, ownFault, wrongLength, wrongPlace, wrongSpan, refusedOr, containFound, containAnswer, leadOf, leadAnswer, resultLines, mergeReply, projectReply}
+use Rattle.ticks.specs.Known.{highest, placeBy, tickAt, indexAt, vectorAt, known, contains}
+use Rattle.ticks.specs.Normal.{vectorFrom, spansFrom, spans, eqElement, grown, vectorsOf, rangesOf, numbered, written, normalOf, indices, eqRange, eqKnowledge, isNormal}
+use Rattle.ticks.specs.Operations.{emptyKnowledge, normalise, larger, merge, knownInside, project, knownRaised, raise, lackingAt, orElse, lackingFrom, lacking, isNowhere, covers, coversFor, largestAt, largestFrom, largest, alikeFrom, ownAlike, tooManyReplicas, tooManyRanges}
+use Rattle.ticks.specs.Table.{get, at, eqList, eqPair, insert, sorted, inside, within, sample, build, canonical, rowIds, stepIds, usedIds}
+use Rattle.replication.specs.Batch.{encodeBatch, batchWith, batchAfter, batchFrom, decodeBatch, inSpan, lacksChange, carried, validBatch, ifValidBatch, openBatch}
+use Rattle.replication.specs.Calls.{then, noStore, storeOr, noBatch, batchOr, uncovered, ownAhead, exhausted, tooManyRecords, storeLines, newReply, editLines, edited, editReply, makeLines, makes, makeReply, applyLines, applyReply}
+use Rattle.replication.specs.Operate.{find, replace, nextTick, changedRec, changed, selected, made, wins, winnerOf, joinFrom, join, applied}
+use Rattle.replication.specs.Record.{recLength, putRec, putRecs, recAt, whole, front, recsAt, tagKept, validRec, validRecs}
+use Rattle.replication.specs.Store.{newStore, encodeStore, storeWith, storeFrom, decodeStore, versionsIn, validStore, ifValid, openStore}
+use Rattle.instances.specs.Given.{emptyValue, smallest, itemBytes, replicaBytes, tagBytes, one, two, parts, fresh, again, store, batch, p1, q1, p2, q2}
+use Rattle.instances.specs.Table.{alone, knowledgeRows, newOf, editedOnce, editedTwice, batchOne, batchTwo, storeRows, table}
+use Rattle.instances.specs.Table.{AllHold, Tables}
 
-pub instances : AllHold table
-unfolding table emptyValue smallest opening beforeVectors beforeElements beforeRanges closing encode putFields putIds putElements putVectors putRanges put beAt beFrom repeat number same fields limit empty among judged replicaId tick element firstVector vector index range replicaMap vectorCount vectorList rangeList ended checked parse told decode idsAt elementsAt vectorsAt afterVectors rangesAt
-instances = ((refl, refl), (refl, (refl, (refl, (refl, (refl, (refl, tt)))))))
+alone-hold : AllHold alone
+unfolding beFrom beAt put firstFault putFields putIds putElements putVectors putRanges encode opening beforeVectors beforeElements beforeRanges closing elements keys bounds replicaMap vectorCount vectorList rangeList ended checked idsAt elementsAt vectorsAt afterVectors rangesAt decode told parse repeat number same fields limit empty among judged replicaId tick element firstVector vector index range idOf readAs ownFault wrongLength wrongPlace wrongSpan refusedOr containFound containAnswer leadOf leadAnswer resultLines mergeReply projectReply highest placeBy tickAt indexAt vectorAt known contains vectorFrom spansFrom spans eqElement grown vectorsOf rangesOf numbered written normalOf indices eqRange eqKnowledge isNormal emptyKnowledge normalise larger merge knownInside project knownRaised raise lackingAt orElse lackingFrom lacking isNowhere covers coversFor largestAt largestFrom largest alikeFrom ownAlike tooManyReplicas tooManyRanges get at eqList eqPair insert sorted inside within sample build canonical rowIds stepIds usedIds encodeBatch batchWith batchAfter batchFrom decodeBatch inSpan lacksChange carried validBatch ifValidBatch openBatch then noStore storeOr noBatch batchOr uncovered ownAhead exhausted tooManyRecords storeLines newReply editLines edited editReply makeLines makes makeReply applyLines applyReply find replace nextTick changedRec changed selected made wins winnerOf joinFrom join applied recLength putRec putRecs recAt whole front recsAt tagKept validRec validRecs newStore encodeStore storeWith storeFrom decodeStore versionsIn validStore ifValid openStore emptyValue smallest itemBytes replicaBytes tagBytes one two parts fresh again store batch p1 q1 p2 q2 alone knowledgeRows newOf editedOnce editedTwice batchOne batchTwo storeRows table
+alone-hold = ((refl, refl), (refl, (refl, (refl, (refl, (refl, (refl, tt)))))))
+
+first-knowledge : AllHold (knowledgeRows p1 q1)
+unfolding beFrom beAt put firstFault putFields putIds putElements putVectors putRanges encode opening beforeVectors beforeElements beforeRanges closing elements keys bounds replicaMap vectorCount vectorList rangeList ended checked idsAt elementsAt vectorsAt afterVectors rangesAt decode told parse repeat number same fields limit empty among judged replicaId tick element firstVector vector index range idOf readAs ownFault wrongLength wrongPlace wrongSpan refusedOr containFound containAnswer leadOf leadAnswer resultLines mergeReply projectReply highest placeBy tickAt indexAt vectorAt known contains vectorFrom spansFrom spans eqElement grown vectorsOf rangesOf numbered written normalOf indices eqRange eqKnowledge isNormal emptyKnowledge normalise larger merge knownInside project knownRaised raise lackingAt orElse lackingFrom lacking isNowhere covers coversFor largestAt largestFrom largest alikeFrom ownAlike tooManyReplicas tooManyRanges get at eqList eqPair insert sorted inside within sample build canonical rowIds stepIds usedIds encodeBatch batchWith batchAfter batchFrom decodeBatch inSpan lacksChange carried validBatch ifValidBatch openBatch then noStore storeOr noBatch batchOr uncovered ownAhead exhausted tooManyRecords storeLines newReply editLines edited editReply makeLines makes makeReply applyLines applyReply find replace nextTick changedRec changed selected made wins winnerOf joinFrom join applied recLength putRec putRecs recAt whole front recsAt tagKept validRec validRecs newStore encodeStore storeWith storeFrom decodeStore versionsIn validStore ifValid openStore emptyValue smallest itemBytes replicaBytes tagBytes one two parts fresh again store batch p1 q1 p2 q2 alone knowledgeRows newOf editedOnce editedTwice batchOne batchTwo storeRows table
+first-knowledge = ((refl, refl), (refl, (refl, (refl, (refl, (refl, (refl, (refl, ((refl, refl), ((refl, refl), (refl, (refl, tt))))))))))))
+
+last-knowledge : AllHold (knowledgeRows p2 q2)
+unfolding beFrom beAt put firstFault putFields putIds putElements putVectors putRanges encode opening beforeVectors beforeElements beforeRanges closing elements keys bounds replicaMap vectorCount vectorList rangeList ended checked idsAt elementsAt vectorsAt afterVectors rangesAt decode told parse repeat number same fields limit empty among judged replicaId tick element firstVector vector index range idOf readAs ownFault wrongLength wrongPlace wrongSpan refusedOr containFound containAnswer leadOf leadAnswer resultLines mergeReply projectReply highest placeBy tickAt indexAt vectorAt known contains vectorFrom spansFrom spans eqElement grown vectorsOf rangesOf numbered written normalOf indices eqRange eqKnowledge isNormal emptyKnowledge normalise larger merge knownInside project knownRaised raise lackingAt orElse lackingFrom lacking isNowhere covers coversFor largestAt largestFrom largest alikeFrom ownAlike tooManyReplicas tooManyRanges get at eqList eqPair insert sorted inside within sample build canonical rowIds stepIds usedIds encodeBatch batchWith batchAfter batchFrom decodeBatch inSpan lacksChange carried validBatch ifValidBatch openBatch then noStore storeOr noBatch batchOr uncovered ownAhead exhausted tooManyRecords storeLines newReply editLines edited editReply makeLines makes makeReply applyLines applyReply find replace nextTick changedRec changed selected made wins winnerOf joinFrom join applied recLength putRec putRecs recAt whole front recsAt tagKept validRec validRecs newStore encodeStore storeWith storeFrom decodeStore versionsIn validStore ifValid openStore emptyValue smallest itemBytes replicaBytes tagBytes one two parts fresh again store batch p1 q1 p2 q2 alone knowledgeRows newOf editedOnce editedTwice batchOne batchTwo storeRows table
+last-knowledge = ((refl, refl), (refl, (refl, (refl, (refl, (refl, (refl, (refl, ((refl, refl), ((refl, refl), (refl, (refl, tt))))))))))))
+
+first-stores : AllHold (storeRows p1 q1)
+unfolding beFrom beAt put firstFault putFields putIds putElements putVectors putRanges encode opening beforeVectors beforeElements beforeRanges closing elements keys bounds replicaMap vectorCount vectorList rangeList ended checked idsAt elementsAt vectorsAt afterVectors rangesAt decode told parse repeat number same fields limit empty among judged replicaId tick element firstVector vector index range idOf readAs ownFault wrongLength wrongPlace wrongSpan refusedOr containFound containAnswer leadOf leadAnswer resultLines mergeReply projectReply highest placeBy tickAt indexAt vectorAt known contains vectorFrom spansFrom spans eqElement grown vectorsOf rangesOf numbered written normalOf indices eqRange eqKnowledge isNormal emptyKnowledge normalise larger merge knownInside project knownRaised raise lackingAt orElse lackingFrom lacking isNowhere covers coversFor largestAt largestFrom largest alikeFrom ownAlike tooManyReplicas tooManyRanges get at eqList eqPair insert sorted inside within sample build canonical rowIds stepIds usedIds encodeBatch batchWith batchAfter batchFrom decodeBatch inSpan lacksChange carried validBatch ifValidBatch openBatch then noStore storeOr noBatch batchOr uncovered ownAhead exhausted tooManyRecords storeLines newReply editLines edited editReply makeLines makes makeReply applyLines applyReply find replace nextTick changedRec changed selected made wins winnerOf joinFrom join applied recLength putRec putRecs recAt whole front recsAt tagKept validRec validRecs newStore encodeStore storeWith storeFrom decodeStore versionsIn validStore ifValid openStore emptyValue smallest itemBytes replicaBytes tagBytes one two parts fresh again store batch p1 q1 p2 q2 alone knowledgeRows newOf editedOnce editedTwice batchOne batchTwo storeRows table
+first-stores = ((refl, refl), ((refl, refl), ((refl, refl), ((refl, refl), ((refl, refl), (refl, ((refl, refl), ((refl, refl), ((refl, refl), ((refl, refl), (refl, ((refl, refl), ((refl, refl), tt)))))))))))))
+
+last-stores : AllHold (storeRows p2 q2)
+unfolding beFrom beAt put firstFault putFields putIds putElements putVectors putRanges encode opening beforeVectors beforeElements beforeRanges closing elements keys bounds replicaMap vectorCount vectorList rangeList ended checked idsAt elementsAt vectorsAt afterVectors rangesAt decode told parse repeat number same fields limit empty among judged replicaId tick element firstVector vector index range idOf readAs ownFault wrongLength wrongPlace wrongSpan refusedOr containFound containAnswer leadOf leadAnswer resultLines mergeReply projectReply highest placeBy tickAt indexAt vectorAt known contains vectorFrom spansFrom spans eqElement grown vectorsOf rangesOf numbered written normalOf indices eqRange eqKnowledge isNormal emptyKnowledge normalise larger merge knownInside project knownRaised raise lackingAt orElse lackingFrom lacking isNowhere covers coversFor largestAt largestFrom largest alikeFrom ownAlike tooManyReplicas tooManyRanges get at eqList eqPair insert sorted inside within sample build canonical rowIds stepIds usedIds encodeBatch batchWith batchAfter batchFrom decodeBatch inSpan lacksChange carried validBatch ifValidBatch openBatch then noStore storeOr noBatch batchOr uncovered ownAhead exhausted tooManyRecords storeLines newReply editLines edited editReply makeLines makes makeReply applyLines applyReply find replace nextTick changedRec changed selected made wins winnerOf joinFrom join applied recLength putRec putRecs recAt whole front recsAt tagKept validRec validRecs newStore encodeStore storeWith storeFrom decodeStore versionsIn validStore ifValid openStore emptyValue smallest itemBytes replicaBytes tagBytes one two parts fresh again store batch p1 q1 p2 q2 alone knowledgeRows newOf editedOnce editedTwice batchOne batchTwo storeRows table
+last-stores = ((refl, refl), ((refl, refl), ((refl, refl), ((refl, refl), ((refl, refl), (refl, ((refl, refl), ((refl, refl), ((refl, refl), ((refl, refl), (refl, ((refl, refl), ((refl, refl), tt)))))))))))))
+
+pub instances : Tables table
+unfolding table
+instances = (alone-hold, (first-knowledge, (last-knowledge, (first-stores, (last-stores, tt)))))

@@ -8,5 +8,6 @@ pub mod BackwardParts
 pub mod BackwardRefused
 pub mod Backward
 pub mod Prefix
+pub mod Lengths
 pub mod Exact
 pub mod Faults

@@ -1,0 +1,224 @@
+-- What a call that was not refused has met. Each call is a table of refusals and then its bytes, so bytes come out
+-- exactly where no line of the table holds; here the lines of each table are read back one by one. A store or batch
+-- that opens stands for its value.
+use Prim.Native.Nat.{ℕ, zero, suc, _≤_, _<_}
+use mathlib.Core.Path.{_≡_, refl, sym, ap, _∙_}
+use mathlib.Core.Bool.{Bool, true, false, not, _||_}
+use mathlib.Core.List.{List, [], _∷_}
+use mathlib.Core.Option.{Option, none, some}
+use native.Mathlib.Omega.{arith}
+use lib.Dec.{leb, ltb, eqb}
+use lib.ListN.{length}
+use borrow.Author.Tests.{leb-true, leb-false, ltb-true, ltb-false, eqb-true, not-false}
+use Rattle.codec.specs.Reply.{Reply, gives, refuses, Line, firstFault}
+use Rattle.codec.proofs.Replies.{None, fault-gives}
+use Rattle.layout.specs.Rules.{Limits, Rules, largestTick}
+use Rattle.layout.specs.Knowledge.{Knowledge}
+use Rattle.layout.specs.Parse.{Parsed, accepted, refused, parse}
+use Rattle.ticks.specs.Known.{highest}
+use Rattle.ticks.specs.Operations.{covers, coversFor, largest, tooManyReplicas, tooManyRanges}
+use Rattle.ticks.specs.Calls.{line, idOf, readAs, ownFault, wrongLength, wrongSpan, resultLines}
+use Rattle.ticks.proofs.ForCalls.{or-false, length-right, span-right, read-accepted, fault-refused, Within, within-lines}
+use Rattle.replication.specs.Record.{Rec, live, tombstone}
+use Rattle.replication.specs.Store.{Store, encodeStore, openStore}
+use Rattle.replication.specs.Batch.{Batch, encodeBatch, openBatch}
+use Rattle.replication.specs.Operate.{find, changed, made, applied}
+use Rattle.replication.specs.Calls.{then, noStore, storeOr, noBatch, batchOr, uncovered, ownAhead, gone, exhausted, tooManyRecords, storeLines, editLines, edited, editReply, deleteLines, deleted, deleteReply, makeLines, makes, makeReply, applyLines, applyReply}
+use Rattle.replication.specs.Lists.{outcome}
+
+-- ---- the buffer
+
+outcome-gives : (r : Reply) (room : ℕ) (bs : List ℕ) → outcome r room ≡ some bs → r ≡ gives bs
+unfolding outcome
+outcome-gives (refuses n) room bs e =
+    let z : _≡_ {A = ℕ} 0 1 = cc in
+    absurd (omega arith)
+outcome-gives (gives cs) room bs e = by-case (leb (length cs) room) refl
+  where
+    by-case : (t : Bool) → leb (length cs) room ≡ t → gives cs ≡ gives bs
+    by-case true h =
+        let f : outcome (gives cs) room ≡ some cs = rw (h, outcome) in
+        cc
+    by-case false h =
+        let f : outcome (gives cs) room ≡ none = rw (h, outcome) in
+        let z : _≡_ {A = ℕ} 0 1 = cc in
+        absurd (omega arith)
+
+-- bytes that come out of a table: no line holds, and they are the bytes behind it
+pub outcome-lines : (ls : List Line) (cs bs : List ℕ) (room : ℕ) → outcome (firstFault ls (gives cs)) room ≡ some bs → None ls × (cs ≡ bs)
+outcome-lines ls cs bs room e = fault-gives ls cs bs (outcome-gives (firstFault ls (gives cs)) room bs e)
+
+-- ---- pieces of tables
+
+none-then : (ls ms : List Line) → None (then ls ms) → None ls × None ms
+unfolding then
+none-then [] ms h = (tt, h)
+none-then (l ∷ ls) ms h = let r = none-then ls ms (h .1) in ((h .0, r .0), r .1)
+
+count-right : (L : Limits) (rs : List Rec) → tooManyRecords L rs ≡ false → length rs ≤ L .records
+unfolding tooManyRecords
+count-right L rs h = ltb-false (L .records) (length rs) h
+
+-- a resulting store within the limits
+pub record Room (R : Rules) (st : Store) : Type 0 where
+  pub knowledge : Within R (st .knowledge)
+  pub records : length (st .records) ≤ R .limits .records
+
+room-lines : (R : Rules) (st : Store) → None (storeLines R st) → Room R st
+unfolding storeLines
+room-lines R st h =
+    let p = none-then (resultLines R (st .knowledge)) (line 13 (tooManyRecords (R .limits) (st .records)) ∷ []) h in
+    record { knowledge = within-lines R (st .knowledge) (p .0); records = count-right (R .limits) (st .records) (p .1 .0) }
+
+exhausted-below : (st : Store) → exhausted st ≡ false → largest (st .knowledge) < largestTick
+unfolding exhausted
+exhausted-below st h = leb-false largestTick (largest (st .knowledge)) h
+
+-- ---- edit
+
+pub record EditMet (R : Rules) (st : Store) (item tag bs : List ℕ) : Type 0 where
+  pub item24 : length item ≡ 24
+  pub tag16 : length tag ≡ 16
+  pub below : largest (st .knowledge) < largestTick
+  pub room : Room R (changed live (idOf 24 item) (idOf 16 tag) st)
+  pub bytes : bs ≡ encodeStore (changed live (idOf 24 item) (idOf 16 tag) st)
+
+pub edit-reply : (R : Rules) (s item tag : List ℕ) (st : Store) → openStore R s ≡ some st → editReply R s item tag ≡ firstFault (editLines R (some st) item tag (changed live (idOf 24 item) (idOf 16 tag) st)) (gives (encodeStore (changed live (idOf 24 item) (idOf 16 tag) st)))
+unfolding editReply edited storeOr
+edit-reply R s item tag st e =
+    ap (λ (o : Option Store). firstFault (editLines R o item tag (edited o item tag)) (gives (encodeStore (edited o item tag)))) e
+
+edit-lines : (R : Rules) (st : Store) (item tag bs : List ℕ) (result : Store) → None (editLines R (some st) item tag result) → (length item ≡ 24) × ((length tag ≡ 16) × ((largest (st .knowledge) < largestTick) × Room R result))
+unfolding editLines storeOr
+edit-lines R st item tag bs result h =
+    let w = or-false (wrongLength 24 item) (wrongLength 16 tag) (h .1 .0) in
+    (length-right 24 item (w .0), (length-right 16 tag (w .1), (exhausted-below st (h .1 .1 .0), room-lines R result (h .1 .1 .1))))
+
+pub edit-met : (R : Rules) (s item tag : List ℕ) (st : Store) (room : ℕ) (bs : List ℕ) → openStore R s ≡ some st → outcome (editReply R s item tag) room ≡ some bs → EditMet R st item tag bs
+edit-met R s item tag st room bs o e =
+    let result = changed live (idOf 24 item) (idOf 16 tag) st in
+    let m = outcome-lines (editLines R (some st) item tag result) (encodeStore result) bs room (ap (λ (r : Reply). outcome r room) (sym (edit-reply R s item tag st o)) ∙ e) in
+    let l = edit-lines R st item tag bs result (m .0) in
+    record { item24 = l .0; tag16 = l .1 .0; below = l .1 .1 .0; room = l .1 .1 .1; bytes = sym (m .1) }
+
+-- ---- delete
+
+pub record DeleteMet (R : Rules) (st : Store) (item bs : List ℕ) : Type 0 where
+  pub item24 : length item ≡ 24
+  pub there : gone (find (idOf 24 item) (st .records)) ≡ false
+  pub below : largest (st .knowledge) < largestTick
+  pub room : Room R (changed tombstone (idOf 24 item) 0 st)
+  pub bytes : bs ≡ encodeStore (changed tombstone (idOf 24 item) 0 st)
+
+pub delete-reply : (R : Rules) (s item : List ℕ) (st : Store) → openStore R s ≡ some st → deleteReply R s item ≡ firstFault (deleteLines R (some st) item (changed tombstone (idOf 24 item) 0 st)) (gives (encodeStore (changed tombstone (idOf 24 item) 0 st)))
+unfolding deleteReply deleted storeOr
+delete-reply R s item st e =
+    ap (λ (o : Option Store). firstFault (deleteLines R o item (deleted o item)) (gives (encodeStore (deleted o item)))) e
+
+delete-lines : (R : Rules) (st : Store) (item : List ℕ) (result : Store) → None (deleteLines R (some st) item result) → (length item ≡ 24) × ((gone (find (idOf 24 item) (st .records)) ≡ false) × ((largest (st .knowledge) < largestTick) × Room R result))
+unfolding deleteLines storeOr
+delete-lines R st item result h =
+    (length-right 24 item (h .1 .0), (h .1 .1 .0, (exhausted-below st (h .1 .1 .1 .0), room-lines R result (h .1 .1 .1 .1))))
+
+pub delete-met : (R : Rules) (s item : List ℕ) (st : Store) (room : ℕ) (bs : List ℕ) → openStore R s ≡ some st → outcome (deleteReply R s item) room ≡ some bs → DeleteMet R st item bs
+delete-met R s item st room bs o e =
+    let result = changed tombstone (idOf 24 item) 0 st in
+    let m = outcome-lines (deleteLines R (some st) item result) (encodeStore result) bs room (ap (λ (r : Reply). outcome r room) (sym (delete-reply R s item st o)) ∙ e) in
+    let l = delete-lines R st item result (m .0) in
+    record { item24 = l .0; there = l .1 .0; below = l .1 .1 .0; room = l .1 .1 .1; bytes = sym (m .1) }
+
+-- ---- make
+
+pub record MakeMet (R : Rules) (st : Store) (knowledge first last bs : List ℕ) : Type 0 where
+  pub given : Knowledge
+  pub reads : parse R knowledge ≡ accepted given
+  pub first24 : length first ≡ 24
+  pub last24 : length last ≡ 24
+  pub span : idOf 24 first ≤ idOf 24 last
+  pub needed : Within R (made st given (idOf 24 first) (idOf 24 last) .needed)
+  pub learned : Within R (made st given (idOf 24 first) (idOf 24 last) .learned)
+  pub records : length (made st given (idOf 24 first) (idOf 24 last) .records) ≤ R .limits .records
+  pub bytes : bs ≡ encodeBatch (made st given (idOf 24 first) (idOf 24 last))
+
+pub make-reply : (R : Rules) (s knowledge first last : List ℕ) (st : Store) → openStore R s ≡ some st → makeReply R s knowledge first last ≡ firstFault (makeLines R (some st) knowledge first last (makes R (some st) knowledge first last)) (gives (encodeBatch (makes R (some st) knowledge first last)))
+unfolding makeReply
+make-reply R s knowledge first last st e =
+    ap (λ (o : Option Store). firstFault (makeLines R o knowledge first last (makes R o knowledge first last)) (gives (encodeBatch (makes R o knowledge first last)))) e
+
+unread : (n : ℕ) → ownFault (refused n) .holds ≡ false → ⊥
+unread n h =
+    let e : ownFault (refused n) .holds ≡ true = fault-refused n in
+    let z : _≡_ {A = ℕ} 0 1 = cc in
+    absurd (omega arith)
+
+pub make-met : (R : Rules) (s knowledge first last : List ℕ) (st : Store) (room : ℕ) (bs : List ℕ) → openStore R s ≡ some st → outcome (makeReply R s knowledge first last) room ≡ some bs → MakeMet R st knowledge first last bs
+unfolding makeLines makes storeOr
+make-met R s knowledge first last st room bs o e =
+    read (parse R knowledge) refl
+    (outcome-lines (makeLines R (some st) knowledge first last (makes R (some st) knowledge first last)) (encodeBatch (makes R (some st) knowledge first last)) bs room
+    (ap (λ (r : Reply). outcome r room) (sym (make-reply R s knowledge first last st o)) ∙ e))
+  where
+    lines :
+        (b : Batch)
+        → None (then (resultLines R (b .needed)) (then (resultLines R (b .learned)) (line 13 (tooManyRecords (R .limits) (b .records)) ∷ [])))
+        → Within R (b .needed) × (Within R (b .learned) × (length (b .records) ≤ R .limits .records))
+    lines b h =
+        let p = none-then (resultLines R (b .needed)) (then (resultLines R (b .learned)) (line 13 (tooManyRecords (R .limits) (b .records)) ∷ [])) h in
+        let q = none-then (resultLines R (b .learned)) (line 13 (tooManyRecords (R .limits) (b .records)) ∷ []) (p .1) in
+        (within-lines R (b .needed) (p .0), (within-lines R (b .learned) (q .0), count-right (R .limits) (b .records) (q .1 .0)))
+
+    read :
+        (p : Parsed)
+        → parse R knowledge ≡ p
+        → None
+        (line 15 (noStore (some st)) ∷
+        ownFault (parse R knowledge) ∷
+        line 17 (wrongSpan first last) ∷
+        then (resultLines R (made st (readAs (parse R knowledge)) (idOf 24 first) (idOf 24 last) .needed))
+        (then (resultLines R (made st (readAs (parse R knowledge)) (idOf 24 first) (idOf 24 last) .learned))
+        (line 13 (tooManyRecords (R .limits) (made st (readAs (parse R knowledge)) (idOf 24 first) (idOf 24 last) .records)) ∷ [])))
+        × (encodeBatch (made st (readAs (parse R knowledge)) (idOf 24 first) (idOf 24 last)) ≡ bs)
+        → MakeMet R st knowledge first last bs
+    read (refused n) h m = absurd (unread n (rw h at (m .0 .1 .0)))
+    read (accepted k) h m =
+        let w = span-right first last (m .0 .1 .1 .0) in
+        let same : readAs (parse R knowledge) ≡ k = ap readAs h ∙ read-accepted k in
+        let l = lines (made st (readAs (parse R knowledge)) (idOf 24 first) (idOf 24 last)) (m .0 .1 .1 .1) in
+        let l2 : Within R (made st k (idOf 24 first) (idOf 24 last) .needed) × (Within R (made st k (idOf 24 first) (idOf 24 last) .learned) × (length (made st k (idOf 24 first) (idOf 24 last) .records) ≤ R .limits .records)) = rw same at l in
+        record {
+          given = k;
+          reads = h;
+          first24 = w .0;
+          last24 = w .1 .0;
+          span = w .1 .1;
+          needed = l2 .0;
+          learned = l2 .1 .0;
+          records = l2 .1 .1;
+          bytes = sym (m .1) ∙ ap (λ (x : Knowledge). encodeBatch (made st x (idOf 24 first) (idOf 24 last))) same;
+        }
+
+-- ---- apply
+
+pub record ApplyMet (R : Rules) (st : Store) (b : Batch) (bs : List ℕ) : Type 0 where
+  pub covered : covers (st .knowledge) (b .needed) (b .first) (b .last) ≡ true
+  pub behind : ownAhead st b ≡ false
+  pub room : Room R (applied st b)
+  pub bytes : bs ≡ encodeStore (applied st b)
+
+pub apply-reply : (R : Rules) (s t : List ℕ) (st : Store) (b : Batch) → openStore R s ≡ some st → openBatch R t ≡ some b → applyReply R s t ≡ firstFault (applyLines R (some st) (some b) (applied st b)) (gives (encodeStore (applied st b)))
+unfolding applyReply storeOr batchOr
+apply-reply R s t st b e f =
+    ap (λ (o : Option Store). firstFault (applyLines R o (openBatch R t) (applied (storeOr o) (batchOr (openBatch R t)))) (gives (encodeStore (applied (storeOr o) (batchOr (openBatch R t)))))) e
+    ∙ ap (λ (p : Option Batch). firstFault (applyLines R (some st) p (applied st (batchOr p))) (gives (encodeStore (applied st (batchOr p))))) f
+
+apply-lines : (R : Rules) (st : Store) (b : Batch) (result : Store) → None (applyLines R (some st) (some b) result) → (covers (st .knowledge) (b .needed) (b .first) (b .last) ≡ true) × ((ownAhead st b ≡ false) × Room R result)
+unfolding applyLines storeOr batchOr uncovered
+apply-lines R st b result h =
+    let w = or-false (uncovered st b) (ownAhead st b) (h .1 .1 .0) in
+    (not-false (covers (st .knowledge) (b .needed) (b .first) (b .last)) (w .0), (w .1, room-lines R result (h .1 .1 .1)))
+
+pub apply-met : (R : Rules) (s t : List ℕ) (st : Store) (b : Batch) (room : ℕ) (bs : List ℕ) → openStore R s ≡ some st → openBatch R t ≡ some b → outcome (applyReply R s t) room ≡ some bs → ApplyMet R st b bs
+apply-met R s t st b room bs o p e =
+    let m = outcome-lines (applyLines R (some st) (some b) (applied st b)) (encodeStore (applied st b)) bs room (ap (λ (r : Reply). outcome r room) (sym (apply-reply R s t st b o p)) ∙ e) in
+    let l = apply-lines R st b (applied st b) (m .0) in
+    record { covered = l .0; behind = l .1 .0; room = l .1 .1; bytes = sym (m .1) }

@@ -1,0 +1,276 @@
+-- Batches and their bytes, both ways. A batch whose values have room in their fields and that is valid is read back
+-- from its bytes; bytes that open as a batch are exactly its bytes, and it is such a batch. The fields in front have
+-- fixed places, the needed knowledge stands at 61 and the learned one after it, each exact by the laws of its layout,
+-- and the records follow to the very end. Last, the parts of "a valid batch" by their names.
+use Prim.Native.Nat.{ℕ, _+_, _^_, _<_, _≤_}
+use mathlib.Core.Path.{_≡_, refl, sym, ap, ap₂, _∙_}
+use mathlib.Core.Bool.{true}
+use mathlib.Core.Logic.{_↔_}
+use mathlib.Core.List.{List, [], _++_}
+use mathlib.Core.Option.{Option, none, some}
+use native.Mathlib.Omega.{arith}
+use lib.Dec.{leb, eqb}
+use lib.ListN.{length, take, drop}
+use borrow.Author.Tests.{le-leb, eq-eqb, leb-true, eqb-true}
+use Rattle.codec.specs.Number.{Bytes, beAt, put}
+use Rattle.codec.proofs.Numbers.{be-below, put-bytes}
+use Rattle.layout.specs.Rules.{Limits, Rules, Permitted}
+use Rattle.layout.specs.Knowledge.{Knowledge}
+use Rattle.layout.specs.Encode.{encode}
+use Rattle.layout.specs.Lawful.{All, Lawful}
+use Rattle.layout.specs.Parse.{Parsed, accepted, refused, parse}
+use Rattle.layout.proofs.Chain.{Stands, stands-whole, over, reads}
+use Rattle.layout.proofs.Forward.{encode-bytes}
+use Rattle.layout.proofs.Exact.{exact, read-back}
+use Rattle.ticks.specs.Normal.{isNormal, eqKnowledge}
+use Rattle.ticks.specs.Operations.{project}
+use Rattle.replication.specs.Record.{Rec, putRecs, recsAt, validRecs}
+use Rattle.replication.specs.Batch.{Batch, encodeBatch, batchWith, batchAfter, batchFrom, decodeBatch, carried, validBatch, ifValidBatch, openBatch}
+use Rattle.replication.proofs.PartBytes.{part-over, part-reads, part-length, part-back, no-bytes, append-bytes, part-bytes, test-back, both-of, both-left, both-right}
+use Rattle.replication.proofs.RecordBytes.{FitsRec, put-upto, recs-bytes, recs-read, Read, recs-back}
+use Rattle.replication.proofs.StoreBytes.{length-fits}
+
+-- a batch whose values have room in their fields
+pub record FitsBatch (R : Rules) (b : Batch) : Type 0 where
+  pub first : b .first < 256 ^ 24
+  pub last : b .last < 256 ^ 24
+  pub needed : Lawful R (b .needed)
+  pub learned : Lawful R (b .learned)
+  pub count : length (b .records) < 256 ^ 4
+  pub records : All FitsRec (b .records)
+
+pub batch-bytes : (b : Batch) → Bytes (encodeBatch b)
+unfolding encodeBatch
+batch-bytes b =
+    put-bytes 1 _ _ (put-bytes 24 _ _ (put-bytes 24 _ _ (put-bytes 4 _ _ (put-bytes 4 _ _ (put-bytes 4 _ _
+    (append-bytes (encode (b .needed)) (encode (b .learned) ++ putRecs (b .records) []) (encode-bytes (b .needed))
+    (append-bytes (encode (b .learned)) (putRecs (b .records) []) (encode-bytes (b .learned)) (recs-bytes (b .records) [] no-bytes))))))))
+
+-- ---- writing and reading back
+
+-- the parts after the fields
+abbrev bodies : Batch → List ℕ
+bodies b = encode (b .needed) ++ (encode (b .learned) ++ putRecs (b .records) [])
+
+module _ (b : Batch) where
+  at-first : Stands (encodeBatch b) 1 (put 24 (b .first) (put 24 (b .last) (put 4 (length (encode (b .needed))) (put 4 (length (encode (b .learned))) (put 4 (length (b .records)) (bodies b))))))
+  unfolding encodeBatch
+  at-first = over (encodeBatch b) 0 1 4 _ (stands-whole (encodeBatch b))
+
+  at-last : Stands (encodeBatch b) 25 (put 24 (b .last) (put 4 (length (encode (b .needed))) (put 4 (length (encode (b .learned))) (put 4 (length (b .records)) (bodies b)))))
+  at-last = over (encodeBatch b) 1 24 _ _ at-first
+
+  at-needed-length : Stands (encodeBatch b) 49 (put 4 (length (encode (b .needed))) (put 4 (length (encode (b .learned))) (put 4 (length (b .records)) (bodies b))))
+  at-needed-length = over (encodeBatch b) 25 24 _ _ at-last
+
+  at-learned-length : Stands (encodeBatch b) 53 (put 4 (length (encode (b .learned))) (put 4 (length (b .records)) (bodies b)))
+  at-learned-length = over (encodeBatch b) 49 4 _ _ at-needed-length
+
+  at-count : Stands (encodeBatch b) 57 (put 4 (length (b .records)) (bodies b))
+  at-count = over (encodeBatch b) 53 4 _ _ at-learned-length
+
+  at-needed : Stands (encodeBatch b) 61 (encode (b .needed) ++ (encode (b .learned) ++ putRecs (b .records) []))
+  at-needed = over (encodeBatch b) 57 4 _ _ at-count
+
+  at-learned : Stands (encodeBatch b) (61 + length (encode (b .needed))) (encode (b .learned) ++ putRecs (b .records) [])
+  at-learned = part-over (encodeBatch b) 61 (encode (b .needed)) _ at-needed
+
+  at-records : Stands (encodeBatch b) (61 + length (encode (b .needed)) + length (encode (b .learned))) (putRecs (b .records) [])
+  at-records = part-over (encodeBatch b) (61 + length (encode (b .needed))) (encode (b .learned)) _ at-learned
+
+  kind-read : beAt (encodeBatch b) 1 0 ≡ 4
+  unfolding encodeBatch
+  kind-read = reads (encodeBatch b) 0 1 4 _ (stands-whole (encodeBatch b)) (omega arith)
+
+-- the tests in front hold
+tests-hold : (R : Rules) (s : List ℕ) → beAt s 1 0 ≡ 4 → 61 + beAt s 4 49 + beAt s 4 53 ≤ length s →
+    decodeBatch R s ≡ batchFrom R s (parse R (take (beAt s 4 49) (drop 61 s)))
+unfolding decodeBatch
+tests-hold R s e l = rw (eq-eqb (beAt s 1 0) 4 e, le-leb (61 + beAt s 4 49 + beAt s 4 53) (length s) l, decodeBatch)
+
+-- bytes whose parts are known are read as a batch
+decode-of : (R : Rules) (s : List ℕ) (n m c : ℕ) (k l : Knowledge) (rs : List Rec) → beAt s 1 0 ≡ 4 → beAt s 4 49 ≡ n → beAt s 4 53 ≡ m →
+    beAt s 4 57 ≡ c → 61 + n + m ≤ length s → parse R (take n (drop 61 s)) ≡ accepted k →
+    parse R (take m (drop (61 + n) s)) ≡ accepted l → recsAt s c (61 + n + m) ≡ some rs →
+    decodeBatch R s ≡ some (record { first = beAt s 24 1; last = beAt s 24 25; needed = k; learned = l; records = rs })
+unfolding batchFrom batchAfter batchWith
+decode-of R s n m c k l rs e f g h i j q u =
+    tests-hold R s e (omega arith)
+    ∙ ap (batchFrom R s) (ap (λ x. parse R (take x (drop 61 s))) f ∙ j)
+    ∙ ap (batchAfter s k) (ap₂ (λ x y. parse R (take x (drop (61 + y) s))) g f ∙ q)
+    ∙ ap (batchWith s k l) (ap₂ (λ x y. recsAt s x (61 + y + beAt s 4 53)) h f ∙ ap (λ x. recsAt s c (61 + n + x)) g ∙ u)
+
+pub batch-decode : (R : Rules) (b : Batch) → Permitted (R .limits) → FitsBatch R b → decodeBatch R (encodeBatch b) ≡ some b
+batch-decode R b p f =
+    let s = encodeBatch b in
+    let n = length (encode (b .needed)) in
+    let m = length (encode (b .learned)) in
+    decode-of R s n m (length (b .records)) (b .needed) (b .learned) (b .records) (kind-read b)
+    (reads s 49 4 _ _ (at-needed-length b) (length-fits R (b .needed) p (f .needed)))
+    (reads s 53 4 _ _ (at-learned-length b) (length-fits R (b .learned) p (f .learned)))
+    (reads s 57 4 _ _ (at-count b) (f .count))
+    (at-records b .inside)
+    (ap (parse R) (part-reads s 61 (encode (b .needed)) _ (at-needed b)) ∙ read-back R p (b .needed) (f .needed))
+    (ap (parse R) (part-reads s (61 + n) (encode (b .learned)) _ (at-learned b)) ∙ read-back R p (b .learned) (f .learned))
+    (recs-read s (61 + n + m) (b .records) (f .records) (at-records b))
+    ∙ rw (reads s 1 24 _ _ (at-first b) (f .first), reads s 25 24 _ _ (at-last b) (f .last))
+
+if-valid : (L : Limits) (b : Batch) → validBatch L b ≡ true → ifValidBatch L (some b) ≡ some b
+unfolding ifValidBatch
+if-valid L b v = rw (v, ifValidBatch)
+
+pub batch-open : (R : Rules) (b : Batch) → Permitted (R .limits) → FitsBatch R b → validBatch (R .limits) b ≡ true →
+    openBatch R (encodeBatch b) ≡ some b
+unfolding openBatch
+batch-open R b p f v = ap (ifValidBatch (R .limits)) (batch-decode R b p f) ∙ if-valid (R .limits) b v
+
+-- ---- reading and writing again
+
+-- what bytes that are read as a batch hold
+record Holds (R : Rules) (s : List ℕ) (b : Batch) : Type 0 where
+  kind : beAt s 1 0 ≡ 4
+  inside : 61 + beAt s 4 49 + beAt s 4 53 ≤ length s
+  first : beAt s 24 1 ≡ b .first
+  last : beAt s 24 25 ≡ b .last
+  needed : parse R (take (beAt s 4 49) (drop 61 s)) ≡ accepted (b .needed)
+  learned : parse R (take (beAt s 4 53) (drop (61 + beAt s 4 49) s)) ≡ accepted (b .learned)
+  records : recsAt s (beAt s 4 57) (61 + beAt s 4 49 + beAt s 4 53) ≡ some (b .records)
+
+-- the parts of a batch that was put together
+record Parts (s : List ℕ) (k l : Knowledge) (o : Option (List Rec)) (b : Batch) : Type 0 where
+  first : beAt s 24 1 ≡ b .first
+  last : beAt s 24 25 ≡ b .last
+  needed : k ≡ b .needed
+  learned : l ≡ b .learned
+  records : o ≡ some (b .records)
+
+with-back : (s : List ℕ) (k l : Knowledge) (o : Option (List Rec)) (b : Batch) → batchWith s k l o ≡ some b → Parts s k l o b
+unfolding batchWith
+with-back s k l none b e = absurd (let z : _≡_ {A = ℕ} 0 1 = cc in omega arith)
+with-back s k l (some rs) b e = record { first = cc; last = cc; needed = cc; learned = cc; records = cc }
+
+after-back : (s : List ℕ) (k : Knowledge) (q : Parsed) (b : Batch) (C : Type 0) → batchAfter s k q ≡ some b →
+    ((l : Knowledge) → q ≡ accepted l → Parts s k l (recsAt s (beAt s 4 57) (61 + beAt s 4 49 + beAt s 4 53)) b → C) → C
+unfolding batchAfter
+after-back s k (refused n) b C e c = absurd (let z : _≡_ {A = ℕ} 0 1 = cc in omega arith)
+after-back s k (accepted l) b C e c = c l refl (with-back s k l (recsAt s (beAt s 4 57) (61 + beAt s 4 49 + beAt s 4 53)) b e)
+
+from-back : (R : Rules) (s : List ℕ) (q : Parsed) (b : Batch) (C : Type 0) → batchFrom R s q ≡ some b →
+    ((k : Knowledge) → q ≡ accepted k → batchAfter s k (parse R (take (beAt s 4 53) (drop (61 + beAt s 4 49) s))) ≡ some b → C) → C
+unfolding batchFrom
+from-back R s (refused n) b C e c = absurd (let z : _≡_ {A = ℕ} 0 1 = cc in omega arith)
+from-back R s (accepted k) b C e c = c k refl e
+
+decode-back : (R : Rules) (s : List ℕ) (b : Batch) → decodeBatch R s ≡ some b → Holds R s b
+unfolding decodeBatch
+decode-back R s b e =
+    test-back (eqb (beAt s 1 0) 4) _ b (Holds R s b) e (λ t e.
+    test-back (leb (61 + beAt s 4 49 + beAt s 4 53) (length s)) _ b (Holds R s b) e (λ u e.
+    from-back R s (parse R (take (beAt s 4 49) (drop 61 s))) b (Holds R s b) e (λ k v e.
+    after-back s k (parse R (take (beAt s 4 53) (drop (61 + beAt s 4 49) s))) b (Holds R s b) e (λ l w h.
+    record {
+      kind = eqb-true (beAt s 1 0) 4 t;
+      inside = leb-true (61 + beAt s 4 49 + beAt s 4 53) (length s) u;
+      first = h .first;
+      last = h .last;
+      needed = v ∙ ap accepted (h .needed);
+      learned = w ∙ ap accepted (h .learned);
+      records = h .records;
+    }))))
+
+open-back : (L : Limits) (o : Option Batch) (b : Batch) → ifValidBatch L o ≡ some b → (o ≡ some b) × (validBatch L b ≡ true)
+unfolding ifValidBatch
+open-back L none b e = absurd (let z : _≡_ {A = ℕ} 0 1 = cc in omega arith)
+open-back L (some x) b e = test-back (validBatch L x) (some x) b ((some x ≡ some b) × (validBatch L b ≡ true)) e (λ v f. (f, cc))
+
+module _ (R : Rules) (s : List ℕ) (b : Batch) (p : Permitted (R .limits)) (y : Bytes s) (h : Holds R s b) where
+  held-needed : (take (beAt s 4 49) (drop 61 s) ≡ encode (b .needed)) × Lawful R (b .needed)
+  held-needed = exact R p (take (beAt s 4 49) (drop 61 s)) (b .needed) (part-bytes s (beAt s 4 49) 61 y) .0 (h .needed)
+
+  held-learned : (take (beAt s 4 53) (drop (61 + beAt s 4 49) s) ≡ encode (b .learned)) × Lawful R (b .learned)
+  held-learned =
+      exact R p (take (beAt s 4 53) (drop (61 + beAt s 4 49) s)) (b .learned) (part-bytes s (beAt s 4 53) (61 + beAt s 4 49) y) .0 (h .learned)
+
+  needed-length : beAt s 4 49 ≡ length (encode (b .needed))
+  needed-length = sym (part-length s (beAt s 4 49) 61 (omega (arith, h .inside))) ∙ ap length (held-needed .0)
+
+  learned-length : beAt s 4 53 ≡ length (encode (b .learned))
+  learned-length = sym (part-length s (beAt s 4 53) (61 + beAt s 4 49) (h .inside)) ∙ ap length (held-learned .0)
+
+  held-records : Read s (beAt s 4 57) (61 + beAt s 4 49 + beAt s 4 53) (b .records)
+  held-records = recs-back s (beAt s 4 57) (61 + beAt s 4 49 + beAt s 4 53) (b .records) y (h .records)
+
+  held-fits : FitsBatch R b
+  held-fits = record {
+    first = rw (← h .first) (be-below s 24 1 y);
+    last = rw (← h .last) (be-below s 24 25 y);
+    needed = held-needed .1;
+    learned = held-learned .1;
+    count = rw (held-records .count) (be-below s 4 57 y);
+    records = held-records .fits;
+  }
+
+  held-bodies : drop 61 s ≡ bodies b
+  held-bodies =
+      part-back s (beAt s 4 49) 61
+      ∙ ap₂ (λ x t. x ++ t) (held-needed .0)
+      (part-back s (beAt s 4 53) (61 + beAt s 4 49) ∙ ap₂ (λ x t. x ++ t) (held-learned .0) (held-records .bytes))
+
+  held-bytes : s ≡ encodeBatch b
+  unfolding encodeBatch
+  held-bytes =
+      put-upto s 1 0 1 y refl (omega arith)
+      ∙ ap₂ (put 1) (h .kind)
+      (put-upto s 24 1 25 y refl (omega arith)
+      ∙ ap₂ (put 24) (h .first)
+      (put-upto s 24 25 49 y refl (omega arith)
+      ∙ ap₂ (put 24) (h .last)
+      (put-upto s 4 49 53 y refl (omega arith)
+      ∙ ap₂ (put 4) needed-length
+      (put-upto s 4 53 57 y refl (omega arith)
+      ∙ ap₂ (put 4) learned-length (put-upto s 4 57 61 y refl (omega arith) ∙ ap₂ (put 4) (sym (held-records .count)) held-bodies)))))
+
+pub batch-opened : (R : Rules) (s : List ℕ) (b : Batch) → Permitted (R .limits) → Bytes s → openBatch R s ≡ some b →
+    (s ≡ encodeBatch b) × (FitsBatch R b × (validBatch (R .limits) b ≡ true))
+unfolding openBatch
+batch-opened R s b p y e =
+    let o = open-back (R .limits) (decodeBatch R s) b e in
+    let h = decode-back R s b (o .0) in
+    (held-bytes R s b p y h, (held-fits R s b p y h, o .1))
+
+-- ---- a valid batch, part by part
+
+pub record ValidBatch (L : Limits) (b : Batch) : Type 0 where
+  pub count : length (b .records) ≤ L .records
+  pub span : b .first ≤ b .last
+  pub needed : isNormal (b .needed) ≡ true
+  pub learned : isNormal (b .learned) ≡ true
+  pub projected : eqKnowledge (project (b .first) (b .last) (b .learned)) (b .learned) ≡ true
+  pub records : validRecs (carried b) 0 (b .records) ≡ true
+
+module _ (L : Limits) (b : Batch) where
+  pub batch-valid-of : ValidBatch L b → validBatch L b ≡ true
+  unfolding validBatch
+  batch-valid-of v =
+      both-of _ _ (le-leb (length (b .records)) (L .records) (v .count))
+      (both-of _ _ (le-leb (b .first) (b .last) (v .span))
+      (both-of _ _ (v .needed) (both-of _ _ (v .learned) (both-of _ _ (v .projected) (v .records)))))
+
+  pub batch-valid-parts : validBatch L b ≡ true → ValidBatch L b
+  unfolding validBatch
+  batch-valid-parts v =
+      let spanned = both-right (leb (length (b .records)) (L .records)) _ v in
+      let needed = both-right (leb (b .first) (b .last)) _ spanned in
+      let learned = both-right (isNormal (b .needed)) _ needed in
+      let projected = both-right (isNormal (b .learned)) _ learned in
+      record {
+        count = leb-true (length (b .records)) (L .records) (both-left _ _ v);
+        span = leb-true (b .first) (b .last) (both-left _ _ spanned);
+        needed = both-left _ _ needed;
+        learned = both-left _ _ learned;
+        projected = both-left _ _ projected;
+        records = both-right (eqKnowledge (project (b .first) (b .last) (b .learned)) (b .learned)) _ projected;
+      }
+
+  pub valid-batch : (validBatch L b ≡ true) ↔ ValidBatch L b
+  valid-batch = (batch-valid-parts, batch-valid-of)

@@ -1,0 +1,211 @@
+-- Demand 3: for every list of calls, refused ones included, stores and machine agree at the end, every store and batch
+-- is valid, applying two batches in either order or one twice gives the same bytes, equal knowledge means equal tables,
+-- and the second half of 18 is never met. Bytes and machine stay together along the list; a store's bytes are decided
+-- by its replica's ticks in the machine and the versions made, since normal forms with equal ticks are equal and the
+-- records follow from the ticks; and in the machine two applies commute and one twice is as one.
+use Prim.Native.Nat.{ℕ, zero, suc, _≤_, _<_, _^_}
+use mathlib.Core.Path.{_≡_, refl, sym, ap, _∙_, subst}
+use mathlib.Core.Logic.{_⊎_, inl, inr, ⊎-elim}
+use mathlib.Core.Bool.{Bool, true, false, not}
+use mathlib.Core.List.{List, [], _∷_}
+use mathlib.Core.Option.{Option, none, some}
+use native.Mathlib.Omega.{arith}
+use lib.Dec.{leb, lit≤}
+use borrow.Author.Tests.{leb-true, leb-false}
+use Rattle.layout.specs.Rules.{Rules, Permitted, base, basic}
+use Rattle.layout.proofs.Exact.{base-permitted}
+use Rattle.layout.specs.Knowledge.{Knowledge}
+use Rattle.ticks.specs.Known.{highest, known}
+use Rattle.ticks.proofs.ForCover.{covers-for-exact}
+use Rattle.replication.specs.Record.{Rec}
+use Rattle.codec.proofs.Numbers.{power-positive}
+use Rattle.replication.specs.Store.{Store, newStore, encodeStore, openStore}
+use Rattle.replication.specs.Batch.{Batch, openBatch}
+use Rattle.replication.specs.Operate.{find}
+use Rattle.replication.specs.Calls.{applyReply, ownAhead}
+use Rattle.replication.specs.Lists.{Call, AllGiven, World, start, run, trace, outcome, batchNumber, putAt, keepStore}
+use Rattle.replication.specs.Machine.{Ticks, Remembered, State, initial, history, greatest, numbered, applies}
+use Rattle.replication.specs.Promise.{items, ends, machine, Agrees, Twofold, Promise}
+use Rattle.replication.proofs.Best.{Mem}
+use Rattle.replication.proofs.MachineGreatest.{greatest-equal}
+use Rattle.replication.proofs.MachineSteps.{numbered-mem, applies-versions, applies-batches, applies-commute, applies-twice}
+use Rattle.replication.proofs.Tables.{tables-equal}
+use Rattle.replication.proofs.StoreBytes.{store-bytes, store-opened}
+use Rattle.replication.proofs.AgreeForm.{form-unique}
+use Rattle.replication.proofs.AgreeInvariant.{StoreFollows, store-bounded, BatchFollows, Follows, grounds-store, own-alike, opens}
+use Rattle.replication.proofs.AgreeEdit.{put-same, store-moved}
+use Rattle.replication.proofs.AgreeRun.{start-follows, Numbered, paired-number, batch-open-at, apply-step, run-follows}
+
+-- ---- a store is decided by ticks and versions
+
+pub same-bytes : (R : Rules) (x y : List ℕ) (vs : List Rec) (k : Ticks) (p : ℕ) → StoreFollows R x vs k p → StoreFollows R y vs k p → x ≡ y
+same-bytes R x y vs k p f g =
+    let a : f .st .own ≡ g .st .own = f .own ∙ sym (g .own) in
+    let b : f .st .knowledge ≡ g .st .knowledge =
+    form-unique R (f .st .knowledge) (g .st .knowledge) (f .form) (g .form) (λ i q h. f .ticks i q h ∙ sym (g .ticks i q h)) in
+    let c : f .st .records ≡ g .st .records =
+    tables-equal 0 (f .st .records) (g .st .records) (f .rising) (g .rising) (λ i. f .records i ∙ sym (g .records i)) in
+    f .bytes ∙ (ap encodeStore (same-store (f .st) (g .st) a b c) ∙ sym (g .bytes))
+  where
+    same-store : (s t : Store) → s .own ≡ t .own → s .knowledge ≡ t .knowledge → s .records ≡ t .records → s ≡ t
+    same-store s t a b c =
+        ap (λ (x : ℕ). record { own = x; knowledge = s .knowledge; records = s .records }) a
+        ∙ (ap (λ (x : Knowledge). record { own = t .own; knowledge = x; records = s .records }) b
+        ∙ ap (λ (x : List Rec). record { own = t .own; knowledge = t .knowledge; records = x }) c)
+
+some-same : {A : Type 0} (x y : A) → some x ≡ some y → x ≡ y
+some-same x y e = cc
+
+-- ---- what bytes and machine that follow each other promise
+
+module _ (R : Rules) (permitted : Permitted (R .limits)) (accepts : (id : ℕ) → R .judge id ≡ 0) (w : World) (m : State) (f : Follows R w m) where
+  pub agree : (p : ℕ) → p < 256 ^ 16 → Agrees R w m p
+  agree p small =
+      let s = f .stores p small in
+      record {
+        store = s .st;
+        opens = opens R permitted w m f p small;
+        own = s .own;
+        ticks = λ i q h l. s .ticks i q h;
+        rising = s .rising;
+        records = λ i h. s .records i;
+        bounded =
+            store-bounded R permitted (w .stores p) (m .versions) (m .ticks p) p s small (grounds-store m (f .good) (f .proper) p) (own-alike m (f .good) (f .proper) p);
+      }
+
+  number : (n : ℕ) (s : List ℕ) → batchNumber n (w .batches) ≡ some s → Numbered R (m .versions) n s (m .batches)
+  number n s e = paired-number R (m .versions) n s (w .batches) (m .batches) (f .batches) e
+
+  pub batches-open : (n : ℕ) (s : List ℕ) → batchNumber n (w .batches) ≡ some s → (b : Batch) × (openBatch R s ≡ some b)
+  batches-open n s e =
+      let x = number n s e in
+      (x .follows .b, batch-open-at R permitted accepts w m f n s e x)
+
+  pub equal-tables : (p q : ℕ) (a b : Store) → p < 256 ^ 16 → q < 256 ^ 16 → openStore R (w .stores p) ≡ some a → openStore R (w .stores q) ≡ some b → a .knowledge ≡ b .knowledge → a .records ≡ b .records
+  unfolding agree
+  equal-tables p q a b sp sq oa ob same =
+      let s = agree p sp in
+      let t = agree q sq in
+      let ea : s .store ≡ a = some-same (s .store) a (sym (s .opens) ∙ oa) in
+      let eb : t .store ≡ b = some-same (t .store) b (sym (t .opens) ∙ ob) in
+      let k : s .store .knowledge ≡ t .store .knowledge = ap (λ (x : Store). x .knowledge) ea ∙ (same ∙ ap (λ (x : Store). x .knowledge) (sym eb)) in
+      sym (ap (λ (x : Store). x .records) ea)
+      ∙ (tables-equal 0 (s .store .records) (t .store .records) (s .rising) (t .rising) (λ i. each k i (leb i highest) refl)
+      ∙ ap (λ (x : Store). x .records) eb)
+    where
+      each : f .stores p sp .st .knowledge ≡ f .stores q sq .st .knowledge → (i : ℕ) → (t : Bool) → leb i highest ≡ t → find i (f .stores p sp .st .records) ≡ find i (f .stores q sq .st .records)
+      each k i true e =
+          let h : i ≤ highest = leb-true i highest e in
+          f .stores p sp .records i
+          ∙ (greatest-equal (m .versions) (m .ticks p) (m .ticks q) i
+          (λ r. sym (f .stores p sp .ticks i r h) ∙ (ap (λ (x : Knowledge). known x i r) k ∙ f .stores q sq .ticks i r h))
+          ∙ sym (f .stores q sq .records i))
+      each k i false e =
+          let h : highest < i = leb-false i highest e in
+          agree p sp .bounded i h ∙ sym (agree q sq .bounded i h)
+
+  -- no batch knows more of a replica than the replica itself
+  own-behind : (p : ℕ) (small : p < 256 ^ 16) (n : ℕ) (s : List ℕ) (x : Numbered R (m .versions) n s (m .batches)) (i q : ℕ) → i ≤ highest → q ≡ p → known (x .follows .b .learned) i q ≤ known (f .stores p small .st .knowledge) i q
+  own-behind p small n s x i q h e = go (leb (x .follows .b .first) i) refl (leb i (x .follows .b .last)) refl
+    where
+      go : (a : Bool) → leb (x .follows .b .first) i ≡ a → (b : Bool) → leb i (x .follows .b .last) ≡ b → known (x .follows .b .learned) i q ≤ known (f .stores p small .st .knowledge) i q
+      go true a true b =
+          let o : m .ticks q i q ≡ m .ticks p i q = ap (λ (y : ℕ). m .ticks y i q) e in
+          omega (
+            arith,
+            x .follows .inside i q (leb-true (x .follows .b .first) i a) (leb-true i (x .follows .b .last) b),
+            f .good .remembered (x .b) (numbered-mem n (m .batches) (x .b) (x .is)) q i i,
+            o,
+            f .stores p small .ticks i q h,
+          )
+      go true a false b = omega (arith, x .follows .outside i q h (inr (leb-false i (x .follows .b .last) b)))
+      go false a t b = omega (arith, x .follows .outside i q h (inl (leb-false (x .follows .b .first) i a)))
+
+  pub never-ahead : (p n : ℕ) (s : List ℕ) (st : Store) (b : Batch) → p < 256 ^ 16 → batchNumber n (w .batches) ≡ some s → openStore R (w .stores p) ≡ some st → openBatch R s ≡ some b → ownAhead st b ≡ false
+  unfolding ownAhead
+  never-ahead p n s st b small e os ob =
+      let x = number n s e in
+      let f1 = f .stores p small in
+      let es : f1 .st ≡ st = some-same (f1 .st) st (sym (opens R permitted w m f p small) ∙ os) in
+      let eb : x .follows .b ≡ b = some-same (x .follows .b) b (sym (batch-open-at R permitted accepts w m f n s e x) ∙ ob) in
+      subst (λ (y : Store). ownAhead y b ≡ false) es
+      (subst (λ (y : Batch). ownAhead (f1 .st) y ≡ false) eb
+      (ap not (covers-for-exact (f1 .st .own ∷ []) (f1 .st .knowledge) (x .follows .b .learned) 0 highest .1 (record { known = λ i q l h a. own-behind p small n s x i q h (⊎-elim (λ (d : q ≡ f1 .st .own). d ∙ f1 .own) (λ z. absurd z) a) }))))
+
+-- ---- two applies
+
+module _ (R : Rules) (permitted : Permitted (R .limits)) (accepts : (id : ℕ) → R .judge id ≡ 0) where
+  -- the store that an apply wrote, in a world with it and a machine that applied too
+  store-after : (w : World) (m : State) (p : ℕ) (bs : List ℕ) → p < 256 ^ 16 → Follows R (keepStore p (some bs) w) m → StoreFollows R bs (m .versions) (m .ticks p) p
+  unfolding keepStore
+  store-after w m p bs small f = subst (λ (s : List ℕ). StoreFollows R s (m .versions) (m .ticks p) p) (put-same p p bs (w .stores) refl) (f .stores p small)
+
+  module _ (w : World) (m : State) (f : Follows R w m) (p : ℕ) (small : p < 256 ^ 16) where
+    -- the same batch, seen from the world after an apply
+    number-after : (n : ℕ) (s : List ℕ) (b : Remembered) (bs : List ℕ) (x : Numbered R (m .versions) n s (m .batches)) → Numbered R (applies p (some b) m .versions) n s (applies p (some b) m .batches)
+    unfolding applies
+    number-after n s b bs x = x
+
+    kept-batches : (bs : List ℕ) → keepStore p (some bs) w .batches ≡ w .batches
+    unfolding keepStore
+    kept-batches bs = refl
+
+    kept-store : (bs : List ℕ) → keepStore p (some bs) w .stores p ≡ bs
+    unfolding keepStore
+    kept-store bs = put-same p p bs (w .stores) refl
+
+    -- after two applies the bytes are of a store that follows the machine after both
+    after-two : (n1 n2 room1 room2 : ℕ) (a b middle x : List ℕ) (u : Numbered R (m .versions) n1 a (m .batches)) (v : Numbered R (m .versions) n2 b (m .batches)) → batchNumber n1 (w .batches) ≡ some a → batchNumber n2 (w .batches) ≡ some b → outcome (applyReply R (w .stores p) a) room1 ≡ some middle → outcome (applyReply R middle b) room2 ≡ some x → StoreFollows R x (applies p (some (v .b)) (applies p (some (u .b)) m) .versions) (applies p (some (v .b)) (applies p (some (u .b)) m) .ticks p) p
+    unfolding applies
+    after-two n1 n2 room1 room2 a b middle x u v ea eb first second =
+        let g = apply-step R permitted accepts w m f p n1 room1 a middle small ea u first in
+        store-after (keepStore p (some middle) w) (applies p (some (v .b)) (applies p (some (u .b)) m)) p x small
+        (apply-step R permitted accepts (keepStore p (some middle) w) (applies p (some (u .b)) m) g p n2 room2 b x small
+        (ap (λ (l : List (List ℕ)). batchNumber n2 l) (kept-batches middle) ∙ eb) v
+        (ap (λ (s : List ℕ). outcome (applyReply R s b) room2) (kept-store middle) ∙ second))
+
+    pub either-order : (n1 n2 : ℕ) (a b x y : List ℕ) → batchNumber n1 (w .batches) ≡ some a → batchNumber n2 (w .batches) ≡ some b → Twofold R (w .stores p) a b x → Twofold R (w .stores p) b a y → x ≡ y
+    unfolding applies
+    either-order n1 n2 a b x y ea eb t1 t2 =
+        let u = paired-number R (m .versions) n1 a (w .batches) (m .batches) (f .batches) ea in
+        let v = paired-number R (m .versions) n2 b (w .batches) (m .batches) (f .batches) eb in
+        same-bytes R x y (m .versions) (applies p (some (u .b)) (applies p (some (v .b)) m) .ticks p) p
+        (store-moved R x (m .versions) (applies p (some (v .b)) (applies p (some (u .b)) m) .ticks p) (applies p (some (u .b)) (applies p (some (v .b)) m) .ticks p) p
+        (λ i q. applies-commute p (u .b) (v .b) m p i q)
+        (after-two n1 n2 (t1 .room) (t1 .room) a b (t1 .middle) x u v ea eb (t1 .first) (t1 .second)))
+        (after-two n2 n1 (t2 .room) (t2 .room) b a (t2 .middle) y v u eb ea (t2 .first) (t2 .second))
+
+    pub twice-once : (n room : ℕ) (a x y : List ℕ) → batchNumber n (w .batches) ≡ some a → outcome (applyReply R (w .stores p) a) room ≡ some x → outcome (applyReply R x a) room ≡ some y → x ≡ y
+    unfolding applies
+    twice-once n room a x y ea first second =
+        let u = paired-number R (m .versions) n a (w .batches) (m .batches) (f .batches) ea in
+        same-bytes R x y (m .versions) (applies p (some (u .b)) m .ticks p) p
+        (store-after w (applies p (some (u .b)) m) p x small (apply-step R permitted accepts w m f p n room a x small ea u first))
+        (store-moved R y (m .versions) (applies p (some (u .b)) (applies p (some (u .b)) m) .ticks p) (applies p (some (u .b)) m .ticks p) p
+        (λ i q. applies-twice p (u .b) m p i q)
+        (after-two n n room room a a x y u u ea ea first second))
+
+-- ---- the theorem
+
+pub ends-follow : (R : Rules) → Permitted (R .limits) → ((id : ℕ) → R .judge id ≡ 0) → (calls : List Call) → AllGiven calls → Follows R (ends R calls) (machine R calls)
+unfolding ends machine
+ends-follow R permitted accepts calls given =
+    run-follows R permitted accepts start initial calls (start-follows R (permitted .someRange)) given
+
+pub demand3 : (R : Rules) → Permitted (R .limits) → ((id : ℕ) → R .judge id ≡ 0) → (calls : List Call) → AllGiven calls → Promise R calls
+demand3 R permitted accepts calls given =
+    let w = ends R calls in
+    let m = machine R calls in
+    let f = ends-follow R permitted accepts calls given in
+    record {
+      agrees = agree R permitted accepts w m f;
+      batches = batches-open R permitted accepts w m f;
+      eitherOrder = λ p n1 n2 a b x y small ea eb t1 t2. either-order R permitted accepts w m f p small n1 n2 a b x y ea eb t1 t2;
+      twice = λ p n room a x y small ea first second. twice-once R permitted accepts w m f p small n room a x y ea first second;
+      equalTables = equal-tables R permitted accepts w m f;
+      never18 = never-ahead R permitted accepts w m f;
+    }
+
+-- document 01's limits
+pub demand3-basic : (calls : List Call) → AllGiven calls → Promise basic calls
+demand3-basic calls given = demand3 basic base-permitted (λ id. refl) calls given

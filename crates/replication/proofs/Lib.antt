@@ -1,0 +1,24 @@
+-- The laws of records, stores, batches, calls, the plain history machine and whole lists of calls.
+pub mod PartBytes
+pub mod RecordBytes
+pub mod StoreBytes
+pub mod BatchBytes
+pub mod Tables
+pub mod TablesJoin
+pub mod TablesSelected
+pub mod Best
+pub mod MachineGreatest
+pub mod Supremum
+pub mod MachineSteps
+pub mod MachineLaws
+pub mod MachineHistory
+pub mod MachineFresh
+pub mod AgreeLines
+pub mod AgreeForm
+pub mod AgreeInvariant
+pub mod AgreeEdit
+pub mod AgreeMake
+pub mod AgreeApply
+pub mod AgreeRun
+pub mod Demand3
+pub mod AgreeRefusals

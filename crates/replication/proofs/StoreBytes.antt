@@ -1,0 +1,220 @@
+-- Stores and their bytes, both ways. A store whose values have room in their fields and that is valid is read back
+-- from its bytes; bytes that open as a store are exactly its bytes, and it is such a store. The fields in front have
+-- fixed places, the knowledge stands at 25 and is exact by the laws of its layout, and the records follow to the very
+-- end. Last, the parts of "a valid store" by their names.
+use Prim.Native.Nat.{ℕ, _+_, _^_, _<_, _≤_}
+use mathlib.Core.Path.{_≡_, refl, sym, ap, ap₂, _∙_}
+use mathlib.Core.Bool.{true}
+use mathlib.Core.Logic.{_↔_}
+use mathlib.Core.List.{List, [], _++_}
+use mathlib.Core.Option.{Option, none, some}
+use native.Mathlib.Omega.{arith}
+use lib.Dec.{leb, eqb}
+use lib.ListN.{length, take, drop}
+use borrow.Author.Tests.{le-leb, eq-eqb, leb-true, eqb-true}
+use Rattle.codec.specs.Number.{Bytes, beAt, put}
+use Rattle.codec.proofs.Numbers.{be-below, put-bytes}
+use Rattle.layout.specs.Rules.{Limits, Rules, Permitted}
+use Rattle.layout.specs.Knowledge.{Knowledge}
+use Rattle.layout.specs.Encode.{encode}
+use Rattle.layout.specs.Lawful.{All, Lawful}
+use Rattle.layout.specs.Parse.{Parsed, accepted, refused, parse}
+use Rattle.layout.proofs.Chain.{Stands, stands-whole, over, reads}
+use Rattle.layout.proofs.Forward.{encode-bytes}
+use Rattle.layout.proofs.Lengths.{lawful-length}
+use Rattle.layout.proofs.Exact.{exact, read-back}
+use Rattle.ticks.specs.Normal.{isNormal}
+use Rattle.ticks.specs.Operations.{ownAlike}
+use Rattle.replication.specs.Record.{Rec, putRecs, recsAt, validRecs}
+use Rattle.replication.specs.Store.{Store, encodeStore, storeWith, storeFrom, decodeStore, versionsIn, validStore, ifValid, openStore}
+use Rattle.replication.proofs.PartBytes.{part-over, part-reads, part-length, part-back, no-bytes, append-bytes, part-bytes, test-back, both-of, both-left, both-right}
+use Rattle.replication.proofs.RecordBytes.{FitsRec, put-upto, recs-bytes, recs-read, Read, recs-back}
+
+-- a store whose values have room in their fields
+pub record FitsStore (R : Rules) (st : Store) : Type 0 where
+  pub own : st .own < 256 ^ 16
+  pub knowledge : Lawful R (st .knowledge)
+  pub count : length (st .records) < 256 ^ 4
+  pub records : All FitsRec (st .records)
+
+pub store-bytes : (st : Store) → Bytes (encodeStore st)
+unfolding encodeStore
+store-bytes st =
+    put-bytes 1 _ _ (put-bytes 16 _ _ (put-bytes 4 _ _ (put-bytes 4 _ _
+    (append-bytes (encode (st .knowledge)) (putRecs (st .records) []) (encode-bytes (st .knowledge)) (recs-bytes (st .records) [] no-bytes)))))
+
+-- the bytes of a lawful knowledge are few enough that their number has room in four bytes
+pub length-fits : (R : Rules) (k : Knowledge) → Permitted (R .limits) → Lawful R k → length (encode k) < 256 ^ 4
+length-fits R k p l = omega (arith, lawful-length R k l, p .lengths)
+
+-- ---- writing and reading back
+
+module _ (st : Store) where
+  at-own : Stands (encodeStore st) 1 (put 16 (st .own) (put 4 (length (encode (st .knowledge))) (put 4 (length (st .records)) (encode (st .knowledge) ++ putRecs (st .records) []))))
+  unfolding encodeStore
+  at-own = over (encodeStore st) 0 1 3 _ (stands-whole (encodeStore st))
+
+  at-length : Stands (encodeStore st) 17 (put 4 (length (encode (st .knowledge))) (put 4 (length (st .records)) (encode (st .knowledge) ++ putRecs (st .records) [])))
+  at-length = over (encodeStore st) 1 16 _ _ at-own
+
+  at-count : Stands (encodeStore st) 21 (put 4 (length (st .records)) (encode (st .knowledge) ++ putRecs (st .records) []))
+  at-count = over (encodeStore st) 17 4 _ _ at-length
+
+  at-knowledge : Stands (encodeStore st) 25 (encode (st .knowledge) ++ putRecs (st .records) [])
+  at-knowledge = over (encodeStore st) 21 4 _ _ at-count
+
+  at-records : Stands (encodeStore st) (25 + length (encode (st .knowledge))) (putRecs (st .records) [])
+  at-records = part-over (encodeStore st) 25 (encode (st .knowledge)) _ at-knowledge
+
+  kind-read : beAt (encodeStore st) 1 0 ≡ 3
+  unfolding encodeStore
+  kind-read = reads (encodeStore st) 0 1 3 _ (stands-whole (encodeStore st)) (omega arith)
+
+-- the tests in front hold
+tests-hold : (R : Rules) (s : List ℕ) → beAt s 1 0 ≡ 3 → 25 + beAt s 4 17 ≤ length s →
+    decodeStore R s ≡ storeFrom s (parse R (take (beAt s 4 17) (drop 25 s)))
+unfolding decodeStore
+tests-hold R s e l = rw (eq-eqb (beAt s 1 0) 3 e, le-leb (25 + beAt s 4 17) (length s) l, decodeStore)
+
+-- bytes whose parts are known are read as a store
+decode-of : (R : Rules) (s : List ℕ) (n c : ℕ) (k : Knowledge) (rs : List Rec) → beAt s 1 0 ≡ 3 → beAt s 4 17 ≡ n → beAt s 4 21 ≡ c →
+    25 + n ≤ length s → parse R (take n (drop 25 s)) ≡ accepted k → recsAt s c (25 + n) ≡ some rs →
+    decodeStore R s ≡ some (record { own = beAt s 16 1; knowledge = k; records = rs })
+unfolding storeFrom storeWith
+decode-of R s n c k rs e f g l h i =
+    tests-hold R s e (omega arith)
+    ∙ ap (storeFrom s) (ap (λ x. parse R (take x (drop 25 s))) f ∙ h)
+    ∙ ap (storeWith (beAt s 16 1) k) (ap₂ (λ x y. recsAt s x (25 + y)) g f ∙ i)
+
+pub store-decode : (R : Rules) (st : Store) → Permitted (R .limits) → FitsStore R st → decodeStore R (encodeStore st) ≡ some st
+store-decode R st p f =
+    let s = encodeStore st in
+    let k = st .knowledge in
+    decode-of R s (length (encode k)) (length (st .records)) k (st .records) (kind-read st)
+    (reads s 17 4 _ _ (at-length st) (length-fits R k p (f .knowledge)))
+    (reads s 21 4 _ _ (at-count st) (f .count))
+    (at-records st .inside)
+    (ap (parse R) (part-reads s 25 (encode k) _ (at-knowledge st)) ∙ read-back R p k (f .knowledge))
+    (recs-read s (25 + length (encode k)) (st .records) (f .records) (at-records st))
+    ∙ rw (reads s 1 16 _ _ (at-own st) (f .own))
+
+if-valid : (L : Limits) (st : Store) → validStore L st ≡ true → ifValid L (some st) ≡ some st
+unfolding ifValid
+if-valid L st v = rw (v, ifValid)
+
+pub store-open : (R : Rules) (st : Store) → Permitted (R .limits) → FitsStore R st → validStore (R .limits) st ≡ true →
+    openStore R (encodeStore st) ≡ some st
+unfolding openStore
+store-open R st p f v = ap (ifValid (R .limits)) (store-decode R st p f) ∙ if-valid (R .limits) st v
+
+-- ---- reading and writing again
+
+-- what bytes that are read as a store hold
+record Holds (R : Rules) (s : List ℕ) (st : Store) : Type 0 where
+  kind : beAt s 1 0 ≡ 3
+  inside : 25 + beAt s 4 17 ≤ length s
+  own : beAt s 16 1 ≡ st .own
+  knowledge : parse R (take (beAt s 4 17) (drop 25 s)) ≡ accepted (st .knowledge)
+  records : recsAt s (beAt s 4 21) (25 + beAt s 4 17) ≡ some (st .records)
+
+with-back : (own : ℕ) (k : Knowledge) (o : Option (List Rec)) (st : Store) → storeWith own k o ≡ some st →
+    (own ≡ st .own) × ((k ≡ st .knowledge) × (o ≡ some (st .records)))
+unfolding storeWith
+with-back own k none st e = absurd (let z : _≡_ {A = ℕ} 0 1 = cc in omega arith)
+with-back own k (some rs) st e = (cc, (cc, cc))
+
+from-back : (s : List ℕ) (p : Parsed) (st : Store) → storeFrom s p ≡ some st →
+    (beAt s 16 1 ≡ st .own) × ((p ≡ accepted (st .knowledge)) × (recsAt s (beAt s 4 21) (25 + beAt s 4 17) ≡ some (st .records)))
+unfolding storeFrom
+from-back s (refused n) st e = absurd (let z : _≡_ {A = ℕ} 0 1 = cc in omega arith)
+from-back s (accepted k) st e =
+    let w = with-back (beAt s 16 1) k (recsAt s (beAt s 4 21) (25 + beAt s 4 17)) st e in
+    (w .0, (ap accepted (w .1 .0), w .1 .1))
+
+decode-back : (R : Rules) (s : List ℕ) (st : Store) → decodeStore R s ≡ some st → Holds R s st
+unfolding decodeStore
+decode-back R s st e =
+    test-back (eqb (beAt s 1 0) 3) _ st (Holds R s st) e (λ a e.
+    test-back (leb (25 + beAt s 4 17) (length s)) _ st (Holds R s st) e (λ b e.
+    let w = from-back s (parse R (take (beAt s 4 17) (drop 25 s))) st e in
+    record {
+      kind = eqb-true (beAt s 1 0) 3 a;
+      inside = leb-true (25 + beAt s 4 17) (length s) b;
+      own = w .0;
+      knowledge = w .1 .0;
+      records = w .1 .1;
+    }))
+
+open-back : (L : Limits) (o : Option Store) (st : Store) → ifValid L o ≡ some st → (o ≡ some st) × (validStore L st ≡ true)
+unfolding ifValid
+open-back L none st e = absurd (let z : _≡_ {A = ℕ} 0 1 = cc in omega arith)
+open-back L (some x) st e = test-back (validStore L x) (some x) st ((some x ≡ some st) × (validStore L st ≡ true)) e (λ v f. (f, cc))
+
+module _ (R : Rules) (s : List ℕ) (st : Store) (p : Permitted (R .limits)) (b : Bytes s) (h : Holds R s st) where
+  held : (take (beAt s 4 17) (drop 25 s) ≡ encode (st .knowledge)) × Lawful R (st .knowledge)
+  held = exact R p (take (beAt s 4 17) (drop 25 s)) (st .knowledge) (part-bytes s (beAt s 4 17) 25 b) .0 (h .knowledge)
+
+  held-length : beAt s 4 17 ≡ length (encode (st .knowledge))
+  held-length = sym (part-length s (beAt s 4 17) 25 (h .inside)) ∙ ap length (held .0)
+
+  held-records : Read s (beAt s 4 21) (25 + beAt s 4 17) (st .records)
+  held-records = recs-back s (beAt s 4 21) (25 + beAt s 4 17) (st .records) b (h .records)
+
+  held-fits : FitsStore R st
+  held-fits = record {
+    own = rw (← h .own) (be-below s 16 1 b);
+    knowledge = held .1;
+    count = rw (held-records .count) (be-below s 4 21 b);
+    records = held-records .fits;
+  }
+
+  held-bytes : s ≡ encodeStore st
+  unfolding encodeStore
+  held-bytes =
+      put-upto s 1 0 1 b refl (omega arith)
+      ∙ ap₂ (put 1) (h .kind)
+      (put-upto s 16 1 17 b refl (omega arith)
+      ∙ ap₂ (put 16) (h .own)
+      (put-upto s 4 17 21 b refl (omega arith)
+      ∙ ap₂ (put 4) held-length
+      (put-upto s 4 21 25 b refl (omega arith)
+      ∙ ap₂ (put 4) (sym (held-records .count))
+      (part-back s (beAt s 4 17) 25 ∙ ap₂ (λ x y. x ++ y) (held .0) (held-records .bytes)))))
+
+pub store-opened : (R : Rules) (s : List ℕ) (st : Store) → Permitted (R .limits) → Bytes s → openStore R s ≡ some st →
+    (s ≡ encodeStore st) × (FitsStore R st × (validStore (R .limits) st ≡ true))
+unfolding openStore
+store-opened R s st p b e =
+    let o = open-back (R .limits) (decodeStore R s) st e in
+    let h = decode-back R s st (o .0) in
+    (held-bytes R s st p b h, (held-fits R s st p b h, o .1))
+
+-- ---- a valid store, part by part
+
+pub record ValidStore (L : Limits) (st : Store) : Type 0 where
+  pub count : length (st .records) ≤ L .records
+  pub normal : isNormal (st .knowledge) ≡ true
+  pub alike : ownAlike (st .own) (st .knowledge) ≡ true
+  pub records : validRecs (versionsIn (st .knowledge)) 0 (st .records) ≡ true
+
+module _ (L : Limits) (st : Store) where
+  pub store-valid-of : ValidStore L st → validStore L st ≡ true
+  unfolding validStore
+  store-valid-of v =
+      both-of _ _ (le-leb (length (st .records)) (L .records) (v .count))
+      (both-of _ _ (v .normal) (both-of _ _ (v .alike) (v .records)))
+
+  pub store-valid-parts : validStore L st ≡ true → ValidStore L st
+  unfolding validStore
+  store-valid-parts v =
+      let a = both-right (leb (length (st .records)) (L .records)) _ v in
+      let b = both-right (isNormal (st .knowledge)) _ a in
+      record {
+        count = leb-true (length (st .records)) (L .records) (both-left _ _ v);
+        normal = both-left _ _ a;
+        alike = both-left _ _ b;
+        records = both-right (ownAlike (st .own) (st .knowledge)) _ b;
+      }
+
+  pub valid-store : (validStore L st ≡ true) ↔ ValidStore L st
+  valid-store = (store-valid-parts, store-valid-of)

@@ -1,0 +1,141 @@
+-- The calls that write, on bytes. Each is a table of refusals in document 01's order, "Inputs are checked as given: …
+-- store before batch or knowledge, then 17; then 18, 19, 20; then the result (for make: needed before learned)", and
+-- the bytes where no line holds. 14, the output buffer shorter than the result, is looked for last, by `answer`.
+use Prim.Native.Nat.{ℕ}
+use mathlib.Core.Bool.{Bool, true, false, not, _||_}
+use mathlib.Core.List.{List, [], _∷_}
+use mathlib.Core.Option.{Option, none, some}
+use lib.Dec.{leb, ltb, eqb}
+use lib.ListN.{length}
+use Rattle.codec.specs.Reply.{Reply, gives, Line, firstFault}
+use Rattle.layout.specs.Rules.{Limits, Rules, largestTick}
+use Rattle.layout.specs.Knowledge.{Knowledge}
+use Rattle.layout.specs.Parse.{parse}
+use Rattle.ticks.specs.Known.{highest}
+use Rattle.ticks.specs.Operations.{emptyKnowledge, covers, coversFor, largest}
+use Rattle.ticks.specs.Calls.{line, idOf, readAs, ownFault, wrongLength, wrongSpan, resultLines}
+use Rattle.replication.specs.Record.{Rec, live, tombstone}
+use Rattle.replication.specs.Store.{Store, newStore, encodeStore, openStore}
+use Rattle.replication.specs.Batch.{Batch, encodeBatch, openBatch}
+use Rattle.replication.specs.Operate.{find, changed, made, applied}
+
+-- one list of lines after the other
+unfoldable pub then : List Line → List Line → List Line
+then [] ms = ms
+then (l ∷ ls) ms = l ∷ then ls ms
+
+-- 15: the store is not valid. Where it is not, its value is of no account
+unfoldable pub noStore : Option Store → Bool
+noStore none = true
+noStore (some st) = false
+
+unfoldable pub storeOr : Option Store → Store
+storeOr none = newStore 0
+storeOr (some st) = st
+
+-- 16: the batch is not valid
+unfoldable pub noBatch : Option Batch → Bool
+noBatch none = true
+noBatch (some b) = false
+
+unfoldable pub batchOr : Option Batch → Batch
+batchOr none = record { first = 0; last = 0; needed = emptyKnowledge; learned = emptyKnowledge; records = [] }
+batchOr (some b) = b
+
+-- 18: "store doesn't cover needed in the span"
+unfoldable pub uncovered : Store → Batch → Bool
+uncovered st b = not (covers (st .knowledge) (b .needed) (b .first) (b .last))
+
+-- 18: "or learned has, for some item, a tick of the store's own replica above the store's"
+unfoldable pub ownAhead : Store → Batch → Bool
+ownAhead st b = not (coversFor (st .own ∷ []) (st .knowledge) (b .learned) 0 highest)
+
+-- 19: "item absent or tombstone"
+unfoldable pub gone : Option Rec → Bool
+gone none = true
+gone (some r) = eqb (r .kind) tombstone
+
+-- 20: "largest tick is 2^63 − 1"
+unfoldable pub exhausted : Store → Bool
+exhausted st = leb largestTick (largest (st .knowledge))
+
+-- 13: "over 256 records"
+unfoldable pub tooManyRecords : Limits → List Rec → Bool
+tooManyRecords L rs = ltb (L .records) (length rs)
+
+-- 11, 12 and 13 of a resulting store
+unfoldable pub storeLines : Rules → Store → List Line
+storeLines R st =
+    then (resultLines R (st .knowledge)) (line 13 (tooManyRecords (R .limits) (st .records)) ∷ [])
+
+-- new
+unfoldable pub newReply : List ℕ → Reply
+newReply own = firstFault (line 17 (wrongLength 16 own) ∷ []) (gives (encodeStore (newStore (idOf 16 own))))
+
+-- edit
+unfoldable pub editLines : Rules → Option Store → List ℕ → List ℕ → Store → List Line
+editLines R o item tag result =
+    line 15 (noStore o) ∷
+    line 17 (wrongLength 24 item || wrongLength 16 tag) ∷
+    line 20 (exhausted (storeOr o)) ∷
+    storeLines R result
+
+unfoldable pub edited : Option Store → List ℕ → List ℕ → Store
+edited o item tag = changed live (idOf 24 item) (idOf 16 tag) (storeOr o)
+
+unfoldable pub editReply : Rules → List ℕ → List ℕ → List ℕ → Reply
+editReply R s item tag =
+    let o = openStore R s in
+    let result = edited o item tag in
+    firstFault (editLines R o item tag result) (gives (encodeStore result))
+
+-- delete
+unfoldable pub deleteLines : Rules → Option Store → List ℕ → Store → List Line
+deleteLines R o item result =
+    line 15 (noStore o) ∷
+    line 17 (wrongLength 24 item) ∷
+    line 19 (gone (find (idOf 24 item) (storeOr o .records))) ∷
+    line 20 (exhausted (storeOr o)) ∷
+    storeLines R result
+
+unfoldable pub deleted : Option Store → List ℕ → Store
+deleted o item = changed tombstone (idOf 24 item) 0 (storeOr o)
+
+unfoldable pub deleteReply : Rules → List ℕ → List ℕ → Reply
+deleteReply R s item =
+    let o = openStore R s in
+    let result = deleted o item in
+    firstFault (deleteLines R o item result) (gives (encodeStore result))
+
+-- make: the store, the given knowledge's own fault, the span, then needed before learned
+unfoldable pub makeLines : Rules → Option Store → List ℕ → List ℕ → List ℕ → Batch → List Line
+makeLines R o knowledge first last result =
+    line 15 (noStore o) ∷
+    ownFault (parse R knowledge) ∷
+    line 17 (wrongSpan first last) ∷
+    then (resultLines R (result .needed))
+    (then (resultLines R (result .learned)) (line 13 (tooManyRecords (R .limits) (result .records)) ∷ []))
+
+unfoldable pub makes : Rules → Option Store → List ℕ → List ℕ → List ℕ → Batch
+makes R o knowledge first last = made (storeOr o) (readAs (parse R knowledge)) (idOf 24 first) (idOf 24 last)
+
+unfoldable pub makeReply : Rules → List ℕ → List ℕ → List ℕ → List ℕ → Reply
+makeReply R s knowledge first last =
+    let o = openStore R s in
+    let result = makes R o knowledge first last in
+    firstFault (makeLines R o knowledge first last result) (gives (encodeBatch result))
+
+-- apply
+unfoldable pub applyLines : Rules → Option Store → Option Batch → Store → List Line
+applyLines R o p result =
+    line 15 (noStore o) ∷
+    line 16 (noBatch p) ∷
+    line 18 (uncovered (storeOr o) (batchOr p) || ownAhead (storeOr o) (batchOr p)) ∷
+    storeLines R result
+
+unfoldable pub applyReply : Rules → List ℕ → List ℕ → Reply
+applyReply R s batch =
+    let o = openStore R s in
+    let p = openBatch R batch in
+    let result = applied (storeOr o) (batchOr p) in
+    firstFault (applyLines R o p result) (gives (encodeStore result))

@@ -1,0 +1,129 @@
+-- The plain history machine, literally document 01's. It takes nothing from the bytes of a store or batch and shares
+-- no definition with the calls: numbers, order of versions, span and create rule are its own.
+use Prim.Native.Nat.{ℕ, zero, suc, _+_, _*_, _^_, max}
+use mathlib.Core.Bool.{Bool, true, false}
+use mathlib.Core.List.{List, [], _∷_, _++_}
+use mathlib.Core.Option.{Option, none, some}
+use lib.Dec.{leb, ltb, eqb}
+use Rattle.replication.specs.Record.{Rec}
+use Rattle.replication.specs.Lists.{Call, edit, delete, make, apply, Fed}
+
+-- "for each replica a known tick per item and replica id": by item, then replica id
+abbrev pub Ticks : Type 0
+Ticks = ℕ → ℕ → ℕ
+
+-- "Make: remembers the span and the maker's known ticks"
+pub record Remembered : Type 0 where
+  pub first : ℕ
+  pub last : ℕ
+  pub ticks : Ticks
+
+-- "State: a list of versions made, each with its record; for each replica a known tick per item and replica id, all
+-- 0; the batches made." A version is its record's item, change replica and change tick
+pub record State : Type 0 where
+  pub versions : List Rec
+  pub ticks : ℕ → Ticks
+  pub batches : List Remembered
+
+unfoldable pub initial : State
+initial = record { versions = []; ticks = λ who i p. 0; batches = [] }
+
+-- the number that bytes are, the first byte the highest
+unfoldable pub value : ℕ → List ℕ → ℕ
+value acc [] = acc
+value acc (b ∷ bs) = value (acc * 256 + b) bs
+
+-- the largest of f 0, …, f (n − 1)
+unfoldable pub supremum : ℕ → (ℕ → ℕ) → ℕ
+supremum zero f = 0
+supremum (suc n) f = max (supremum n f) (f n)
+
+-- "the largest of the maker's known ticks", over all item ids and replica ids
+unfoldable pub largestKnown : Ticks → ℕ
+largestKnown k = supremum (256 ^ 24) (λ i. supremum (256 ^ 16) (λ p. k i p))
+
+-- a version that ticks contain: its tick is 1 or more and at most the known one
+unfoldable pub holds : Ticks → Rec → Bool
+holds k r = elim (leb 1 (r .changeTick)) [ true ↦ leb (r .changeTick) (k (r .item) (r .changeReplica)) | false ↦ false ]
+
+-- "by tick and then replica id": is the second version the greater
+unfoldable pub later : Rec → Rec → Bool
+later a b =
+    elim (eqb (a .changeTick) (b .changeTick)) [
+      | true ↦ ltb (a .changeReplica) (b .changeReplica)
+      | false ↦ ltb (a .changeTick) (b .changeTick)
+    ]
+
+unfoldable pub better : Rec → Option Rec → Rec
+better r none = r
+better r (some best) = elim (later r best) [ true ↦ best | false ↦ r ]
+
+-- the record of the greatest version of an item, among those made, that the ticks contain
+unfoldable pub greatest : List Rec → Ticks → ℕ → Option Rec
+greatest [] k i = none
+greatest (r ∷ rs) k i =
+    elim (eqb (r .item) i) [
+      | true ↦ elim (holds k r) [ true ↦ some (better r (greatest rs k i)) | false ↦ greatest rs k i ]
+      | false ↦ greatest rs k i
+    ]
+
+-- "with the create version of the maker's greatest contained version of the item or, if none, this version itself"
+unfoldable pub recordOf : ℕ → ℕ → ℕ → ℕ → ℕ → Option Rec → Rec
+recordOf kind item who t tag none =
+    record { kind = kind; item = item; changeReplica = who; changeTick = t; createReplica = who; createTick = t; tag = tag }
+recordOf kind item who t tag (some g) =
+    record { kind = kind; item = item; changeReplica = who; changeTick = t; createReplica = g .createReplica; createTick = g .createTick; tag = tag }
+
+-- the ticks of one replica changed
+unfoldable pub withTicks : ℕ → Ticks → (ℕ → Ticks) → ℕ → Ticks
+withTicks who k f q = elim (eqb who q) [ true ↦ k | false ↦ f q ]
+
+-- "the maker's tick for itself becomes that for all items"
+unfoldable pub ownTick : ℕ → ℕ → Ticks → Ticks
+ownTick who t k i p = elim (eqb who p) [ true ↦ t | false ↦ k i p ]
+
+-- "Edit or delete: tick 1 + the largest of the maker's known ticks; the record … joins the versions made"
+unfoldable pub changes : ℕ → ℕ → ℕ → ℕ → State → State
+changes kind who item tag m =
+    let k = m .ticks who in
+    let t = 1 + largestKnown k in
+    record {
+      versions = m .versions ++ (recordOf kind item who t tag (greatest (m .versions) k item) ∷ []);
+      ticks = withTicks who (ownTick who t k) (m .ticks);
+      batches = m .batches;
+    }
+
+-- "Apply: inside the span each known tick becomes the larger"
+unfoldable pub learns : Remembered → Ticks → Ticks
+learns b k i p =
+    elim (ltb i (b .first)) [ true ↦ k i p | false ↦ elim (ltb (b .last) i) [ true ↦ k i p | false ↦ max (k i p) (b .ticks i p) ] ]
+
+unfoldable pub numbered : ℕ → List Remembered → Option Remembered
+numbered n [] = none
+numbered zero (b ∷ bs) = some b
+numbered (suc n) (b ∷ bs) = numbered n bs
+
+unfoldable pub applies : ℕ → Option Remembered → State → State
+applies who none m = m
+applies who (some b) m =
+    record { versions = m .versions; ticks = withTicks who (learns b (m .ticks who)) (m .ticks); batches = m .batches }
+
+-- one call that was not refused: an edit makes a live record with the given tag, a delete a tombstone
+unfoldable pub acts : State → Call → State
+acts m (edit who item tag room) = changes 1 who (value 0 item) (value 0 tag) m
+acts m (delete who item room) = changes 2 who (value 0 item) 0 m
+acts m (make who knowledge first last room) =
+    record {
+      versions = m .versions;
+      ticks = m .ticks;
+      batches = m .batches ++ (record { first = value 0 first; last = value 0 last; ticks = m .ticks who } ∷ []);
+    }
+acts m (apply who which room) = applies who (numbered which (m .batches)) m
+
+-- "A refused call does nothing"
+unfoldable pub fed : State → Fed → State
+fed m x = elim (x .refused) [ true ↦ m | false ↦ acts m (x .call) ]
+
+unfoldable pub history : State → List Fed → State
+history m [] = m
+history m (x ∷ xs) = history (fed m x) xs

@@ -1,0 +1,62 @@
+-- What demand 3 promises of a list of calls.
+use Prim.Native.Nat.{ℕ, _<_, _≤_, _^_}
+use mathlib.Core.Path.{_≡_}
+use mathlib.Core.Bool.{Bool, true, false}
+use mathlib.Core.List.{List, [], _∷_}
+use mathlib.Core.Option.{Option, none, some}
+use Rattle.codec.specs.Reply.{Reply, gives}
+use Rattle.layout.specs.Rules.{Rules}
+use Rattle.layout.specs.Lawful.{Rising}
+use Rattle.ticks.specs.Known.{highest, known}
+use Rattle.replication.specs.Record.{Rec}
+use Rattle.replication.specs.Store.{Store, openStore}
+use Rattle.replication.specs.Batch.{Batch, openBatch}
+use Rattle.replication.specs.Operate.{find}
+use Rattle.replication.specs.Calls.{applyReply, ownAhead}
+use Rattle.replication.specs.Lists.{Call, World, start, run, trace, outcome, batchNumber}
+use Rattle.replication.specs.Machine.{State, initial, history, greatest}
+
+unfoldable pub items : List Rec → List ℕ
+items [] = []
+items (r ∷ rs) = r .item ∷ items rs
+
+-- the world and the machine after a list of calls
+unfoldable pub ends : Rules → List Call → World
+ends R calls = run R start calls
+
+unfoldable pub machine : Rules → List Call → State
+machine R calls = history initial (trace R start calls)
+
+-- one replica's store, compared with the machine
+pub record Agrees (R : Rules) (w : World) (m : State) (p : ℕ) : Type 0 where
+  -- every store reached is valid, under its own id
+  pub store : Store
+  pub opens : openStore R (w .stores p) ≡ some store
+  pub own : store .own ≡ p
+  -- "the tick known in its store's knowledge, for every item and replica id, equals the machine's"
+  pub ticks : (i q : ℕ) → i ≤ highest → q < 256 ^ 16 → known (store .knowledge) i q ≡ m .ticks p i q
+  -- "its records, by rising item id, are, for each item with versions made that this replica's ticks in the machine
+  -- contain, the whole record of the greatest of these, by tick and then replica id, and no others"
+  pub rising : Rising 0 (items (store .records))
+  pub records : (i : ℕ) → i ≤ highest → find i (store .records) ≡ greatest (m .versions) (m .ticks p) i
+  pub bounded : (i : ℕ) → highest < i → find i (store .records) ≡ none
+
+-- one apply after the other, into buffers of any lengths; the bytes are there where neither is refused
+pub record Twofold (R : Rules) (s a b : List ℕ) (result : List ℕ) : Type 0 where
+  pub room : ℕ
+  pub middle : List ℕ
+  pub first : outcome (applyReply R s a) room ≡ some middle
+  pub second : outcome (applyReply R middle b) room ≡ some result
+
+pub record Promise (R : Rules) (calls : List Call) : Type 0 where
+  pub agrees : (p : ℕ) → p < 256 ^ 16 → Agrees R (ends R calls) (machine R calls) p
+  -- every batch made is valid
+  pub batches : (n : ℕ) (s : List ℕ) → batchNumber n (ends R calls .batches) ≡ some s → (b : Batch) × (openBatch R s ≡ some b)
+  -- two batches of the list in either order end in the same store bytes, and one twice as once, wherever none of these
+  -- applies is refused
+  pub eitherOrder : (p m n : ℕ) (a b x y : List ℕ) → p < 256 ^ 16 → batchNumber m (ends R calls .batches) ≡ some a → batchNumber n (ends R calls .batches) ≡ some b → Twofold R (ends R calls .stores p) a b x → Twofold R (ends R calls .stores p) b a y → x ≡ y
+  pub twice : (p n room : ℕ) (a x y : List ℕ) → p < 256 ^ 16 → batchNumber n (ends R calls .batches) ≡ some a → outcome (applyReply R (ends R calls .stores p) a) room ≡ some x → outcome (applyReply R x a) room ≡ some y → x ≡ y
+  -- two replicas with equal knowledge hold equal tables
+  pub equalTables : (p q : ℕ) (a b : Store) → p < 256 ^ 16 → q < 256 ^ 16 → openStore R (ends R calls .stores p) ≡ some a → openStore R (ends R calls .stores q) ≡ some b → a .knowledge ≡ b .knowledge → a .records ≡ b .records
+  -- the second half of 18 is never met
+  pub never18 : (p n : ℕ) (s : List ℕ) (st : Store) (b : Batch) → p < 256 ^ 16 → batchNumber n (ends R calls .batches) ≡ some s → openStore R (ends R calls .stores p) ≡ some st → openBatch R s ≡ some b → ownAhead st b ≡ false

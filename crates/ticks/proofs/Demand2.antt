@@ -1,0 +1,167 @@
+-- Demand 2 holds. The layout is exact; containment is read off the known ticks; normal forms are known by their ticks, so by
+-- their versions; a result within the limits is lawful, so its bytes read back; and merge's known tick is the larger.
+use Prim.Native.Nat.{ℕ, _≤_}
+use mathlib.Core.Path.{_≡_, refl, sym, _∙_, ap, subst}
+use mathlib.Core.Logic.{_↔_}
+use mathlib.Core.Bool.{Bool, true, false}
+use mathlib.Core.List.{List}
+use native.Mathlib.Omega.{arith}
+use lib.ListN.{length}
+use Rattle.codec.specs.Number.{Bytes}
+use Rattle.codec.specs.Reply.{Reply, gives, refuses}
+use Rattle.layout.specs.Rules.{Rules, Permitted, basic}
+use Rattle.layout.specs.Knowledge.{Knowledge}
+use Rattle.layout.specs.Lawful.{Lawful}
+use Rattle.layout.specs.Encode.{encode}
+use Rattle.layout.specs.Parse.{Parsed, accepted, refused, parse}
+use Rattle.layout.proofs.Exact.{exact, read-back, base-permitted}
+use Rattle.ticks.specs.Known.{known, contains}
+use Rattle.ticks.specs.Normal.{Normal}
+use Rattle.ticks.specs.Operations.{normalise, merge, project, tooManyReplicas, tooManyRanges}
+use Rattle.ticks.specs.declared.Contain.{Contain}
+use Rattle.ticks.specs.declared.Contain.the-variants as C
+use Rattle.ticks.specs.Calls.{idOf, wrongPlace, containFound, normaliseReply}
+use Rattle.ticks.specs.Demand2.{SameVersions, Normalised, Merged, Projected, Demand2}
+use Rattle.ticks.proofs.Equality.{clash}
+use Rattle.ticks.proofs.Operations.{normal-normalise, normalise-normal, normal-merge, normal-project, known-project}
+use Rattle.ticks.proofs.Algebra.{contains-exact, versions-unique, contains-normalise, contains-merge}
+use Rattle.ticks.proofs.Counts.{replicas-fit, ranges-fit}
+use Rattle.ticks.proofs.LawfulResults.{lawful-normalise, lawful-merge, lawful-project}
+use Rattle.ticks.proofs.Replies.{read-lawful, ResultSays, over-replicas, over-ranges, result-given, NormaliseSays, normalise-own, normalise-result, normalise-says, MergeSays, merge-first, merge-second, merge-result, merge-says, ProjectSays, project-own, project-17, project-result, project-says}
+use Rattle.ticks.proofs.Answers.{ContainSays, contain-own, contain-17, contain-found, contain-says, place-exact}
+
+gave : (n : ℕ) (bs : List ℕ) {A : Type 0} → refuses n ≡ gives bs → A
+gave n bs e = let z : _≡_ {A = ℕ} 0 1 = cc in absurd (omega arith)
+
+gave-same : (xs ys : List ℕ) → gives xs ≡ gives ys → xs ≡ ys
+gave-same xs ys e = cc
+
+accepted-same : (a b : Knowledge) (p : Parsed) → p ≡ accepted a → p ≡ accepted b → a ≡ b
+accepted-same a b p e f = cc
+
+not-refused : (k : Knowledge) (n : ℕ) (p : Parsed) {A : Type 0} → p ≡ accepted k → p ≡ refused n → A
+not-refused k n p e f = let z : _≡_ {A = ℕ} 0 1 = cc in absurd (omega arith)
+
+found-contained : (x : Bool) → (containFound x ≡ C.Contained) ↔ (x ≡ true)
+unfolding containFound
+found-contained true = ((λ e. refl), (λ e. refl))
+found-contained false = ((λ e. let z : _≡_ {A = ℕ} 0 1 = cc in absurd (omega arith)), (λ e. clash false e refl))
+
+-- a result that was given
+record Given (R : Rules) (k : Knowledge) (bs : List ℕ) : Type 0 where
+  few : tooManyReplicas (R .limits) k ≡ false
+  short : tooManyRanges (R .limits) k ≡ false
+  bytes : bs ≡ encode k
+
+given-result : (R : Rules) (k : Knowledge) (bs : List ℕ) {r : Reply} → ResultSays R k r → r ≡ gives bs → Given R k bs
+given-result R k bs (over-replicas e) q = gave 11 bs q
+given-result R k bs (over-ranges e f) q = gave 12 bs q
+given-result R k bs (result-given e f) q = record { few = e; short = f; bytes = sym (gave-same (encode k) bs q) }
+
+-- a lawful knowledge's own bytes are given
+given-own : (R : Rules) (k : Knowledge) {r : Reply} → Lawful R k → ResultSays R k r → r ≡ gives (encode k)
+given-own R k l (over-replicas e) = clash (tooManyReplicas (R .limits) k) e (replicas-fit (R .limits) k .1 (l .replicas))
+given-own R k l (over-ranges e f) = clash (tooManyRanges (R .limits) k) f (ranges-fit (R .limits) k .1 (l .ranges))
+given-own R k l (result-given e f) = refl
+
+module _ (R : Rules) (permitted : Permitted (R .limits)) where
+  versions-of : (s item replica : List ℕ) (t : ℕ) (k : Knowledge) → parse R s ≡ accepted k → length item ≡ 24 → length replica ≡ 16
+      → {x : Contain} → ContainSays R s item replica t x → (x ≡ C.Contained) ↔ ((1 ≤ t) × (t ≤ known k (idOf 24 item) (idOf 16 replica)))
+  versions-of s item replica t k e f g (contain-own n h) = not-refused k n (parse R s) e h
+  versions-of s item replica t k e f g (contain-17 a h w) = clash (wrongPlace item replica) w (place-exact item replica .1 (f, g))
+  versions-of s item replica t k e f g (contain-found a h w) =
+      let same : a ≡ k = accepted-same a k (parse R s) h e in
+      let c = found-contained (contains a (idOf 24 item) (idOf 16 replica) t) in
+      let d = contains-exact k (idOf 24 item) (idOf 16 replica) t in
+      let move : contains a (idOf 24 item) (idOf 16 replica) t ≡ contains k (idOf 24 item) (idOf 16 replica) t =
+      ap (λ l. contains l (idOf 24 item) (idOf 16 replica) t) same in
+      ((λ q. d .0 (sym move ∙ c .0 q)), (λ q. c .1 (move ∙ d .1 q)))
+
+  normalised-of : (s bs : List ℕ) → Bytes s → {r : Reply} → NormaliseSays R s r → r ≡ gives bs → Normalised R s bs
+  normalised-of s bs b (normalise-own n h) q = gave n bs q
+  normalised-of s bs b (normalise-result k r h w) q =
+      let g : Given R (normalise k) bs = given-result R (normalise k) bs w q in
+      record {
+        given = k;
+        written = normalise k;
+        first = h;
+        back = ap (parse R) (g .bytes) ∙ read-back R permitted (normalise k) (lawful-normalise R k (read-lawful R s k permitted b h) (g .short));
+        bytes = g .bytes;
+        normal = normal-normalise k;
+        versions = contains-normalise k;
+      }
+
+  merged-of : (s t bs : List ℕ) → Bytes s → Bytes t → {r : Reply} → MergeSays R s t r → r ≡ gives bs → Merged R s t bs
+  merged-of s t bs b c (merge-first n h) q = gave n bs q
+  merged-of s t bs b c (merge-second a n h f) q = gave n bs q
+  merged-of s t bs b c (merge-result x y r h f w) q =
+      let g : Given R (merge x y) bs = given-result R (merge x y) bs w q in
+      record {
+        one = x;
+        other = y;
+        written = merge x y;
+        first = h;
+        second = f;
+        back =
+            ap (parse R) (g .bytes)
+            ∙ read-back R permitted (merge x y)
+            (lawful-merge R x y (read-lawful R s x permitted b h) (read-lawful R t y permitted c f) (g .few) (g .short));
+        bytes = g .bytes;
+        normal = normal-merge x y;
+        versions = λ i p v l. contains-merge x y i p v l;
+      }
+
+  projected-of : (s first last bs : List ℕ) → Bytes s → {r : Reply} → ProjectSays R s first last r → r ≡ gives bs → Projected R s first last bs
+  projected-of s first last bs b (project-own n h) q = gave n bs q
+  projected-of s first last bs b (project-17 k h w) q = gave 17 bs q
+  projected-of s first last bs b (project-result k r h f w) q =
+      let k′ = project (idOf 24 first) (idOf 24 last) k in
+      let g : Given R k′ bs = given-result R k′ bs w q in
+      record {
+        given = k;
+        written = k′;
+        read = h;
+        back =
+            ap (parse R) (g .bytes)
+            ∙ read-back R permitted k′ (lawful-project R (idOf 24 first) (idOf 24 last) k (read-lawful R s k permitted b h) (g .short));
+        bytes = g .bytes;
+        normal = normal-project (idOf 24 first) (idOf 24 last) k;
+        ticks = λ i p l. known-project (idOf 24 first) (idOf 24 last) k i p l;
+      }
+
+  equal-of : (s t : List ℕ) (a b : Knowledge) → Bytes s → Bytes t → parse R s ≡ accepted a → parse R t ≡ accepted b → Normal a → Normal b
+      → SameVersions a b ↔ (s ≡ t)
+  equal-of s t a b x y e f n m = (
+    (λ v. exact R permitted s a x .0 e .0 ∙ ap encode (versions-unique a b n m .0 v) ∙ sym (exact R permitted t b y .0 f .0)),
+    (λ q. versions-unique a b n m .1 (accepted-same a b (parse R t) (ap (parse R) (sym q) ∙ e) f)),
+  )
+
+  written-anew : (s : List ℕ) (k : Knowledge) → Bytes s → parse R s ≡ accepted k → Normal k → {r : Reply} → NormaliseSays R s r → r ≡ gives s
+  written-anew s k b e n (normalise-own m h) = not-refused k m (parse R s) e h
+  written-anew s k b e n (normalise-result a r h w) =
+      let same : normalise a ≡ k = ap normalise (accepted-same a k (parse R s) h e) ∙ normalise-normal k n in
+      given-own R k (read-lawful R s k permitted b e) (subst (λ l. ResultSays R l r) same w)
+      ∙ ap gives (sym (exact R permitted s k b .0 e .0))
+
+  test-of : (s : List ℕ) (k : Knowledge) → Bytes s → parse R s ≡ accepted k → Normal k ↔ (normaliseReply R s ≡ gives s)
+  test-of s k b e = (
+    (λ n. written-anew s k b e n (normalise-says R s)),
+    (λ q.
+        let w : Normalised R s s = normalised-of s s b (normalise-says R s) q in
+        subst Normal (accepted-same (w .written) k (parse R s) (w .back) e) (w .normal)),
+  )
+
+  pub demand2 : Demand2 R
+  demand2 = record {
+    layout = λ s k b. exact R permitted s k b;
+    versions = λ s item replica t k e f g. versions-of s item replica t k e f g (contain-says R s item replica t);
+    equal = equal-of;
+    test = test-of;
+    normalised = λ s bs b q. normalised-of s bs b (normalise-says R s) q;
+    merged = λ s t bs b c q. merged-of s t bs b c (merge-says R s t) q;
+    projected = λ s first last bs b q. projected-of s first last bs b (project-says R s first last) q;
+  }
+
+-- with document 01's limits
+pub demand2-basic : Demand2 basic
+demand2-basic = demand2 basic base-permitted

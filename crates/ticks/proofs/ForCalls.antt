@@ -1,0 +1,63 @@
+-- What the lines of a call's table say where they do not hold: ids have their lengths, the span is no empty one, a
+-- knowledge was read, and a result is within the limits. Each is read off its definition by the outcome of its tests.
+use Prim.Native.Nat.{ℕ, _≤_, _<_}
+use mathlib.Core.Path.{_≡_, refl, sym, ap, _∙_}
+use mathlib.Core.Bool.{Bool, true, false, not, _||_}
+use mathlib.Core.List.{List, [], _∷_}
+use native.Mathlib.Omega.{arith}
+use lib.Dec.{eqb, ltb}
+use lib.ListN.{length}
+use borrow.Author.Tests.{eqb-true, ltb-false, not-false}
+use Rattle.codec.specs.Number.{beAt}
+use Rattle.codec.proofs.Replies.{None}
+use Rattle.layout.specs.Rules.{Rules}
+use Rattle.layout.specs.Knowledge.{Knowledge}
+use Rattle.layout.specs.Parse.{Parsed, accepted, refused}
+use Rattle.ticks.specs.Operations.{tooManyReplicas, tooManyRanges}
+use Rattle.ticks.specs.Calls.{idOf, readAs, ownFault, wrongLength, wrongSpan, resultLines}
+
+pub or-false : (a b : Bool) → (a || b) ≡ false → (a ≡ false) × (b ≡ false)
+or-false false b h = (refl, h)
+or-false true b h =
+    let z : _≡_ {A = ℕ} 0 1 = cc in
+    absurd (omega arith)
+
+pub id-is : (n : ℕ) (s : List ℕ) → idOf n s ≡ beAt s n 0
+unfolding idOf
+id-is n s = refl
+
+pub length-right : (n : ℕ) (s : List ℕ) → wrongLength n s ≡ false → length s ≡ n
+unfolding wrongLength
+length-right n s h = eqb-true (length s) n (not-false (eqb (length s) n) h)
+
+pub span-right : (first last : List ℕ) → wrongSpan first last ≡ false → (length first ≡ 24) × ((length last ≡ 24) × (idOf 24 first ≤ idOf 24 last))
+unfolding wrongSpan
+span-right first last h =
+    let a = or-false (wrongLength 24 first) (wrongLength 24 last || ltb (idOf 24 last) (idOf 24 first)) h in
+    let b = or-false (wrongLength 24 last) (ltb (idOf 24 last) (idOf 24 first)) (a .1) in
+    (length-right 24 first (a .0), (length-right 24 last (b .0), ltb-false (idOf 24 last) (idOf 24 first) (b .1)))
+
+pub read-accepted : (k : Knowledge) → readAs (accepted k) ≡ k
+unfolding readAs
+read-accepted k = refl
+
+pub fault-accepted : (k : Knowledge) → ownFault (accepted k) .holds ≡ false
+unfolding ownFault
+fault-accepted k = refl
+
+pub fault-refused : (n : ℕ) → ownFault (refused n) .holds ≡ true
+unfolding ownFault
+fault-refused n = refl
+
+pub fault-number : (n : ℕ) → ownFault (refused n) .number ≡ n
+unfolding ownFault
+fault-number n = refl
+
+-- a resulting knowledge within the limits
+pub record Within (R : Rules) (k : Knowledge) : Type 0 where
+  pub replicas : tooManyReplicas (R .limits) k ≡ false
+  pub ranges : tooManyRanges (R .limits) k ≡ false
+
+pub within-lines : (R : Rules) (k : Knowledge) → None (resultLines R k) → Within R k
+unfolding resultLines
+within-lines R k h = record { replicas = h .0; ranges = h .1 .0 }

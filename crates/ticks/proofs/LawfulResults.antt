@@ -1,0 +1,290 @@
+-- Lawful knowledges are sound. A normal form with acceptable ids, ticks at most the largest and counts within the limits is
+-- lawful; so is the result of each operation on lawful knowledges, where its counts are within the limits.
+use Prim.Native.Nat.{ℕ, zero, suc, _+_, _≤_, _<_, _^_}
+use mathlib.Core.Path.{_≡_, refl, sym, ap, subst}
+use mathlib.Core.Logic.{inl, inr, ⊎-elim}
+use mathlib.Core.Bool.{false}
+use mathlib.Core.List.{List, [], _∷_, _++_}
+use native.Mathlib.Omega.{arith}
+use lib.Dec.{eqb}
+use lib.ListN.{length, getD}
+use Rattle.layout.specs.Rules.{Rules, largestTick}
+use Rattle.layout.specs.Knowledge.{Element, Range, Knowledge}
+use Rattle.layout.specs.Lawful.{All, Rising, keys, bounds, LawfulId, LawfulElement, LawfulVector, LawfulRange, Lawful}
+use Rattle.ticks.specs.Known.{highest, placeBy, tickAt, vectorAt, indexAt, known}
+use Rattle.ticks.specs.Normal.{Among, indices, Sound, FirstAtZero, ElementsInOrder, Normal}
+use Rattle.ticks.specs.Operations.{emptyKnowledge, normalise, merge, project, raise, tooManyReplicas, tooManyRanges}
+use Rattle.ticks.proofs.Lists.{among?, all-among, among-all, among-cases, rising-distinct, rising-above, in-span, below-span, above-span, inside?}
+use Rattle.ticks.proofs.Equality.{eqb-exact, exact?}
+use Rattle.ticks.proofs.Canonical.{highest-suc}
+use Rattle.ticks.proofs.Vectors.{tick-nil, tick-same, tick-other}
+use Rattle.ticks.proofs.FirstUse.{met-count}
+use Rattle.ticks.proofs.Written.{known-in, known-out}
+use Rattle.ticks.proofs.Rebuilt.{order-first}
+use Rattle.ticks.proofs.Unique.{all-get, key-known, index-bound, replica-known}
+use Rattle.ticks.proofs.Operations.{known-normalise, normal-normalise, known-merge, normal-merge, known-project-inside, known-project-below, known-project-above, normal-project, known-raise-own, known-raise-other, normal-raise}
+use Rattle.ticks.proofs.Counts.{normalise-map, merge-map, project-map, raise-map, replicas-fit, ranges-fit, normalise-never-11, project-never-11}
+
+-- The top item id and 24 bytes
+
+pub below-top : (b : ℕ) → b < 256 ^ 24 → b ≤ highest
+below-top b h = let l : b < suc highest = subst (λ n. b < n) (sym highest-suc) h in under l
+  where
+    under : {a n : ℕ} → a < suc n → a ≤ n
+    under l = omega arith
+
+pub top-below : (b : ℕ) → b ≤ highest → b < 256 ^ 24
+top-below b h = subst (λ n. b < n) highest-suc (over h)
+  where
+    over : {a n : ℕ} → a ≤ n → a < suc n
+    over l = omega arith
+
+-- Lawful knowledges are sound
+
+lawful-keys : (r : ℕ) (vs : List (List Element)) → All (LawfulVector r) vs → All (All (λ x. x .key .0 < r)) vs
+lawful-keys r [] a = tt
+lawful-keys r (es ∷ vs) a = (of es (a .0 .elements), lawful-keys r vs (a .1))
+  where
+    of : (es : List Element) → All (LawfulElement r) es → All (λ x. x .key .0 < r) es
+    of [] b = tt
+    of (x ∷ xs) b = (b .0 .key, of xs (b .1))
+
+lawful-indices : (v : ℕ) (xs : List Range) → All (LawfulRange v) xs → All (λ x. x .index .0 < v) xs
+lawful-indices v [] a = tt
+lawful-indices v (x ∷ xs) a = (a .0 .index, lawful-indices v xs (a .1))
+
+lawful-items : (v : ℕ) (xs : List Range) → All (LawfulRange v) xs → All (λ b. b ≤ highest) (bounds xs)
+unfolding bounds
+lawful-items v [] a = tt
+lawful-items v (x ∷ xs) a = (below-top (x .bound) (a .0 .size), lawful-items v xs (a .1))
+
+pub lawful-sound : (R : Rules) (k : Knowledge) → Lawful R k → Sound k
+lawful-sound R k l = record {
+  distinct = l .distinct;
+  keys = lawful-keys (length (k .replicas)) (k .vectors) (l .clocks);
+  indices = lawful-indices (length (k .vectors)) (k .ranges) (l .spans);
+  rising = l .rising;
+  items = lawful-items (length (k .vectors)) (k .ranges) (l .spans);
+}
+
+-- and their known ticks are at most the largest tick
+
+ticks-most : (r : ℕ) (es : List Element) (key : ℕ) → All (LawfulElement r) es → tickAt es key ≤ largestTick
+ticks-most r [] key a = omega (arith, tick-nil key)
+ticks-most r (x ∷ xs) key a =
+    elim (exact? eqb eqb-exact (x .key .0) key) [
+      | inl e ↦ omega (arith, tick-same x xs key e, a .0 .tick)
+      | inr n ↦ omega (arith, tick-other x xs key n, ticks-most r xs key (a .1))
+    ]
+
+vectors-most : (r : ℕ) (vs : List (List Element)) (n key : ℕ) → All (LawfulVector r) vs → tickAt (getD vs n []) key ≤ largestTick
+vectors-most r [] n key a = omega (arith, tick-nil key)
+vectors-most r (es ∷ vs) zero key a = ticks-most r es key (a .0 .elements)
+vectors-most r (es ∷ vs) (suc n) key a = vectors-most r vs n key (a .1)
+
+pub lawful-ticks : (R : Rules) (k : Knowledge) (i p : ℕ) → Lawful R k → known k i p ≤ largestTick
+unfolding vectorAt
+lawful-ticks R k i p l =
+    elim (among? p (k .replicas)) [
+      | inl m ↦
+          omega (
+            arith,
+            known-in k i p m,
+            vectors-most (length (k .replicas)) (k .vectors) (indexAt (length (k .vectors)) (k .ranges) i) (placeBy eqb p (k .replicas)) (l .clocks),
+          )
+      | inr n ↦ omega (arith, known-out k i p n)
+    ]
+
+-- Every element of a normal form is a known tick
+
+all-by-get : {A : Type 0} (P : A → Type 0) (d : A) (xs : List A) → ((n : ℕ) → n < length xs → P (getD xs n d)) → All P xs
+all-by-get P d [] f = tt
+all-by-get P d (x ∷ xs) f = (f 0 (omega arith), all-by-get P d xs (λ n h. f (suc n) (omega arith)))
+
+elements-most : (m lo : ℕ) (es : List Element) → Rising lo (keys es) → ((key : ℕ) → Among key (keys es) → tickAt es key ≤ m) → All (λ x. x .tick ≤ m) es
+unfolding keys
+elements-most m lo [] r f = tt
+elements-most m lo (x ∷ xs) r f = (
+  omega (arith, f (x .key .0) (inl refl), tick-same x xs (x .key .0) refl),
+  elements-most m (suc (x .key .0)) xs (r .1)
+      (λ key o.
+      omega (
+        arith,
+        f key (inr o),
+        tick-other x xs key (λ e. omega (arith, rising-above (suc (x .key .0)) key (keys xs) (r .1) o)),
+      )),
+)
+
+keys-below : (r : ℕ) (es : List Element) (key : ℕ) → All (λ x. x .key .0 < r) es → Among key (keys es) → key < r
+unfolding keys
+keys-below r [] key a m = absurd m
+keys-below r (x ∷ xs) key a (inl e) = omega (arith, a .0)
+keys-below r (x ∷ xs) key a (inr m) = keys-below r xs key (a .1) m
+
+nothing-below : (m : ℕ) (es : List Element) → es ≡ [] → All (λ x. x .tick ≤ m) es
+nothing-below m es e = subst (All (λ x. x .tick ≤ m)) (sym e) tt
+
+nothing-in-order : ElementsInOrder []
+unfolding keys
+nothing-in-order = record { rising = tt; ticks = tt }
+
+pub normal-ticks : (k : Knowledge) (m : ℕ) → Normal k → ((i p : ℕ) → i ≤ highest → known k i p ≤ m) → All (All (λ x. x .tick ≤ m)) (k .vectors)
+unfolding vectorAt
+normal-ticks k m n f = all-by-get (All (λ x. x .tick ≤ m)) [] (k .vectors) each
+  where
+    each : (y : ℕ) → y < length (k .vectors) → All (λ x. x .tick ≤ m) (getD (k .vectors) y [])
+    each zero h = nothing-below m (getD (k .vectors) 0 []) (n .over .vectors .emptyFirst)
+    each (suc y) h =
+        let w = index-bound 0 (length (k .vectors)) (k .ranges) (suc y) (n .over .sound .rising) (n .over .vectors .used (suc y) (omega arith) h) in
+        let e : vectorAt k (w .0) ≡ getD (k .vectors) (suc y) [] = ap (λ z. getD (k .vectors) z []) (w .1 .1) in
+        let b : w .0 ≤ highest = all-among (λ b. b ≤ highest) (bounds (k .ranges)) (n .over .sound .items) (w .0) (w .1 .0) in
+        elements-most m 0 (getD (k .vectors) (suc y) [])
+        (all-get ElementsInOrder [] (k .vectors) (suc y) (n .over .elements) nothing-in-order .rising)
+        (λ key o.
+        let l : key < length (k .replicas) =
+        keys-below (length (k .replicas)) (getD (k .vectors) (suc y) []) key
+        (all-get (All (λ x. x .key .0 < length (k .replicas))) [] (k .vectors) (suc y) (n .over .sound .keys) tt) o in
+        omega (arith, f (w .0) (getD (k .replicas) key 0) b, key-known k (w .0) key (n .over .sound) l, ap (λ v. tickAt v key) e))
+
+-- A normal form within the limits is lawful
+
+rising-count : (lo r : ℕ) (xs : List ℕ) → Rising lo xs → All (λ x. x < r) xs → lo ≤ r → lo + length xs ≤ r
+rising-count lo r [] s a h = omega arith
+rising-count lo r (x ∷ xs) s a h = omega (arith, s .0, rising-count (suc x) r xs (s .1) (a .1) (a .0))
+
+keys-all : (r : ℕ) (es : List Element) → All (λ x. x .key .0 < r) es → All (λ x. x < r) (keys es)
+unfolding keys
+keys-all r [] a = tt
+keys-all r (x ∷ xs) a = (a .0, keys-all r xs (a .1))
+
+keys-length : (es : List Element) → length (keys es) ≡ length es
+unfolding keys
+keys-length [] = refl
+keys-length (x ∷ xs) = ap suc (keys-length xs)
+
+lawful-elements : (r : ℕ) (es : List Element) → All (λ x. x .key .0 < r) es → All (λ x. x .tick ≤ largestTick) es → All (LawfulElement r) es
+lawful-elements r [] a b = tt
+lawful-elements r (x ∷ xs) a b = (record { key = a .0; tick = b .0 }, lawful-elements r xs (a .1) (b .1))
+
+lawful-vectors : (r : ℕ) (vs : List (List Element)) → All (All (λ x. x .key .0 < r)) vs → All ElementsInOrder vs → All (All (λ x. x .tick ≤ largestTick)) vs → All (LawfulVector r) vs
+lawful-vectors r [] a o b = tt
+lawful-vectors r (es ∷ vs) a o b = (
+  record {
+    count = omega (arith, keys-length es, rising-count 0 r (keys es) (o .0 .rising) (keys-all r es (a .0)) (omega arith));
+    elements = lawful-elements r es (a .0) (b .0);
+    distinct = rising-distinct 0 (keys es) (o .0 .rising);
+  },
+  lawful-vectors r vs (a .1) (o .1) (b .1),
+)
+
+lawful-ranges : (v : ℕ) (xs : List Range) → All (λ x. x .index .0 < v) xs → All (λ b. b ≤ highest) (bounds xs) → All (LawfulRange v) xs
+unfolding bounds
+lawful-ranges v [] a b = tt
+lawful-ranges v (x ∷ xs) a b = (record { size = top-below (x .bound) (b .0); index = a .0 }, lawful-ranges v xs (a .1) (b .1))
+
+indices-length : (xs : List Range) → length (indices xs) ≡ length xs
+unfolding indices
+indices-length [] = refl
+indices-length (x ∷ xs) = ap suc (indices-length xs)
+
+some-range : (xs : List Range) → FirstAtZero xs → 1 ≤ length xs
+some-range [] z = absurd z
+some-range (x ∷ xs) z = omega arith
+
+-- a normal form has at most one vector more than ranges
+pub normal-vectors : (k : Knowledge) → Normal k → length (k .vectors) ≤ length (k .ranges) + 1
+normal-vectors k n =
+    omega (
+      arith,
+      indices-length (k .ranges),
+      met-count 1 (indices (k .ranges)) (length (k .vectors)) (order-first (k .vectors) (k .ranges) (n .over .vectors) (n .over .sound .indices)),
+    )
+
+pub lawful-normal : (R : Rules) (k : Knowledge) → Normal k
+    → ((p : ℕ) → Among p (k .replicas) → LawfulId R p)
+    → ((i p : ℕ) → i ≤ highest → known k i p ≤ largestTick)
+    → tooManyReplicas (R .limits) k ≡ false → tooManyRanges (R .limits) k ≡ false → Lawful R k
+lawful-normal R k n ids ticks few short =
+    let r : length (k .replicas) ≤ R .limits .replicas = replicas-fit (R .limits) k .0 few in
+    let g : length (k .ranges) ≤ R .limits .ranges = ranges-fit (R .limits) k .0 short in
+    record {
+      replicas = r;
+      ids = among-all (LawfulId R) (k .replicas) ids;
+      distinct = n .over .sound .distinct;
+      someVector = n .over .vectors .someVector;
+      vectors = omega (arith, normal-vectors k n);
+      first = n .over .vectors .emptyFirst;
+      clocks = lawful-vectors (length (k .replicas)) (k .vectors) (n .over .sound .keys) (n .over .elements) (normal-ticks k largestTick n ticks);
+      someRange = some-range (k .ranges) (n .over .firstRange);
+      ranges = g;
+      spans = lawful-ranges (length (k .vectors)) (k .ranges) (n .over .sound .indices) (n .over .sound .items);
+      rising = n .over .sound .rising;
+    }
+
+-- The results of the operations
+
+pub lawful-id : (R : Rules) (k : Knowledge) (p : ℕ) → Lawful R k → Among p (k .replicas) → LawfulId R p
+lawful-id R k p l m = all-among (LawfulId R) (k .replicas) (l .ids) p m
+
+from-known : (R : Rules) (k : Knowledge) (ids : List ℕ) → Normal k → ((i p : ℕ) → i ≤ highest → 1 ≤ known k i p → Among p ids)
+    → ((p : ℕ) → Among p ids → LawfulId R p) → (p : ℕ) → Among p (k .replicas) → LawfulId R p
+from-known R k ids n f g p m = let w = replica-known k p n m in g p (f (w .0) p (w .1 .0) (w .1 .1))
+
+pub lawful-normalise : (R : Rules) (k : Knowledge) → Lawful R k → tooManyRanges (R .limits) (normalise k) ≡ false → Lawful R (normalise k)
+lawful-normalise R k l short =
+    lawful-normal R (normalise k) (normal-normalise k)
+    (from-known R (normalise k) (k .replicas) (normal-normalise k) (normalise-map k) (λ p m. lawful-id R k p l m))
+    (λ i p h. omega (arith, known-normalise k i p h, lawful-ticks R k i p l))
+    (normalise-never-11 (R .limits) k (l .replicas)) short
+
+pub lawful-merge : (R : Rules) (a b : Knowledge) → Lawful R a → Lawful R b
+    → tooManyReplicas (R .limits) (merge a b) ≡ false → tooManyRanges (R .limits) (merge a b) ≡ false → Lawful R (merge a b)
+lawful-merge R a b l m few short =
+    lawful-normal R (merge a b) (normal-merge a b)
+    (from-known R (merge a b) (a .replicas ++ b .replicas) (normal-merge a b) (merge-map a b)
+    (λ p o. ⊎-elim (lawful-id R a p l) (lawful-id R b p m) (among-cases p (a .replicas) (b .replicas) o)))
+    (λ i p h. omega (arith, known-merge a b i p h, lawful-ticks R a i p l, lawful-ticks R b i p m))
+    few short
+
+pub lawful-project : (R : Rules) (first last : ℕ) (k : Knowledge) → Lawful R k
+    → tooManyRanges (R .limits) (project first last k) ≡ false → Lawful R (project first last k)
+lawful-project R first last k l short =
+    lawful-normal R (project first last k) (normal-project first last k)
+    (from-known R (project first last k) (k .replicas) (normal-project first last k) (project-map first last k) (λ p m. lawful-id R k p l m))
+    (λ i p h.
+    elim (inside? first last i) [
+      | in-span m n ↦ omega (arith, known-project-inside first last k i p h m n, lawful-ticks R k i p l)
+      | below-span m ↦ omega (arith, known-project-below first last k i p h m)
+      | above-span m ↦ omega (arith, known-project-above first last k i p h m)
+    ])
+    (project-never-11 (R .limits) first last k (l .replicas)) short
+
+pub lawful-raise : (R : Rules) (q t : ℕ) (k : Knowledge) → Lawful R k → LawfulId R q → t ≤ largestTick
+    → tooManyReplicas (R .limits) (raise q t k) ≡ false → tooManyRanges (R .limits) (raise q t k) ≡ false → Lawful R (raise q t k)
+lawful-raise R q t k l a h few short =
+    lawful-normal R (raise q t k) (normal-raise q t k)
+    (from-known R (raise q t k) (q ∷ k .replicas) (normal-raise q t k) (raise-map q t k)
+    (λ p o. ⊎-elim (λ e. subst (LawfulId R) (sym e) a) (lawful-id R k p l) o))
+    (λ i p b.
+    elim (exact? eqb eqb-exact p q) [
+      | inl e ↦ omega (arith, known-raise-own q t k i p b e)
+      | inr n ↦ omega (arith, known-raise-other q t k i p b n, lawful-ticks R k i p l)
+    ])
+    few short
+
+-- empty knowledge is lawful where one range is allowed
+pub lawful-empty : (R : Rules) → 1 ≤ R .limits .ranges → Lawful R emptyKnowledge
+unfolding emptyKnowledge bounds keys
+lawful-empty R h = record {
+  replicas = omega arith;
+  ids = tt;
+  distinct = tt;
+  someVector = omega arith;
+  vectors = omega arith;
+  first = refl;
+  clocks = (record { count = omega arith; elements = tt; distinct = tt }, tt);
+  someRange = omega arith;
+  ranges = h;
+  spans = (record { size = top-below 0 (omega arith); index = omega arith }, tt);
+  rising = (omega arith, tt);
+}

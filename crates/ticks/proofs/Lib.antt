@@ -1,0 +1,26 @@
+-- The laws of known ticks, normal form and the operations on knowledge.
+pub mod Lists
+pub mod Equality
+pub mod Steps
+pub mod Rows
+pub mod Canonical
+pub mod Vectors
+pub mod Numbering
+pub mod FirstUse
+pub mod Written
+pub mod NormalForm
+pub mod Used
+pub mod Rebuilt
+pub mod Unique
+pub mod Operations
+pub mod Algebra
+pub mod ForCalls
+pub mod Search
+pub mod Largest
+pub mod Counts
+pub mod LawfulResults
+pub mod ForCover
+pub mod Replies
+pub mod Answers
+pub mod Demand2
+pub mod Meaning

@@ -1,0 +1,170 @@
+-- A knowledge that meets the conditions is what numbering gives for its own ranges and their vectors.
+use Prim.Native.Nat.{ℕ, zero, suc, _≤_, _<_, max}
+use mathlib.Core.Path.{_≡_, sym, _∙_, ap, ap₂}
+use mathlib.Core.List.{List, [], _∷_, _++_}
+use native.Mathlib.Omega.{arith}
+use lib.ListN.{length, getD, take, List·getD-eq-default}
+use lib.Seq.{length-take-le, getD-take, take-suc, take-all}
+use Rattle.layout.specs.Knowledge.{Element, Range, Knowledge}
+use Rattle.layout.specs.Lawful.{All, Rising, bounds}
+use Rattle.ticks.specs.Known.{highest, indexAt, vectorAt}
+use Rattle.ticks.specs.Table.{at}
+use Rattle.ticks.specs.Normal.{range, eqVector, numberOf, grown, vectorsOf, rangesOf, numbered, indices, FirstAtZero, DifferAfter, NeighboursDiffer, VectorsInOrder, NormalOver}
+use Rattle.ticks.proofs.Lists.{less, same, more, order}
+use Rattle.ticks.proofs.Equality.{eqVector-exact, place-found, place-first}
+use Rattle.ticks.proofs.Steps.{Changing, at-nil, at-lt, at-ge}
+use Rattle.ticks.proofs.Numbering.{Apart, number-le, grown-old, grown-new, vectors-nil, vectors-cons, ranges-nil, ranges-cons, index-nil, index-lt, index-ge}
+use Rattle.ticks.proofs.FirstUse.{FirstUse, met-most, first-use}
+
+-- the ranges, each with its bound and its vector
+unfoldable pub ownSpans : List (List Element) → List Range → List (ℕ × List Element)
+ownSpans vs [] = []
+ownSpans vs (x ∷ xs) = (x .bound, getD vs (x .index .0) []) ∷ ownSpans vs xs
+
+module _ (vs : List (List Element)) (a : Apart vs) (n : ℕ) (most : n ≤ length vs) (x : ℕ) (small : x ≤ n) (low : x < length vs) where
+  taken : length (take n vs) ≡ n
+  taken = length-take-le n vs most
+
+  -- among the first n vectors, the number of the vector at x is x
+  number-own : numberOf (getD vs x []) (take n vs) ≡ x
+  number-own =
+      let v = getD vs x [] in
+      let m = numberOf v (take n vs) in
+      elim (order m n) [
+        | less k ↦
+            let e : getD vs m [] ≡ v =
+            sym (getD-take n vs m [] k) ∙ place-found eqVector eqVector-exact v [] (take n vs) (omega (arith, taken)) in
+            elim (order m x) [
+              | less l ↦ absurd (a .apart m x l low e)
+              | same l ↦ l
+              | more l ↦ absurd (a .apart x m l (omega arith) (sym e))
+            ]
+        | same k ↦
+            elim (order x n) [
+              | less l ↦ absurd (omega (arith, place-first eqVector eqVector-exact v [] (take n vs) x (omega (arith, taken)) (getD-take n vs x [] l)))
+              | same l ↦ k ∙ sym l
+              | more l ↦ absurd (omega arith)
+            ]
+        | more k ↦ absurd (omega (arith, number-le v (take n vs), taken))
+      ]
+
+  grown-own : grown (take n vs) (getD vs x []) ≡ take (max n (suc x)) vs
+  grown-own =
+      elim (order x n) [
+        | less l ↦
+            let e : n ≡ max n (suc x) = omega arith in
+            grown-old (take n vs) (getD vs x []) (omega (arith, number-own, taken)) ∙ ap (λ m. take m vs) e
+        | same l ↦
+            let e : suc n ≡ max n (suc x) = omega arith in
+            grown-new (take n vs) (getD vs x []) (number-own ∙ l ∙ sym taken)
+            ∙ ap (λ y. take n vs ++ (getD vs y [] ∷ [])) l ∙ sym (take-suc vs n [] (omega arith)) ∙ ap (λ m. take m vs) e
+        | more l ↦ absurd (omega arith)
+      ]
+
+module _ (vs : List (List Element)) (a : Apart vs) where
+  rebuilt-vectors : (n : ℕ) (xs : List Range) → FirstUse n (indices xs) (length vs) → vectorsOf (take n vs) (ownSpans vs xs) ≡ vs
+  unfolding ownSpans indices
+  rebuilt-vectors n [] f = vectors-nil (take n vs) ∙ take-all n vs (omega (arith, f))
+  rebuilt-vectors n (x ∷ xs) f =
+      let h : suc (x .index .0) ≤ length vs = omega (arith, met-most (max n (suc (x .index .0))) (indices xs) (length vs) (f .1)) in
+      let k : n ≤ length vs = omega (arith, met-most (max n (suc (x .index .0))) (indices xs) (length vs) (f .1)) in
+      vectors-cons (take n vs) (x .bound, getD vs (x .index .0) []) (ownSpans vs xs)
+      ∙ ap (λ s. vectorsOf s (ownSpans vs xs)) (grown-own vs a n k (x .index .0) (f .0) h)
+      ∙ rebuilt-vectors (max n (suc (x .index .0))) xs (f .1)
+
+  rebuilt-ranges : (n : ℕ) (xs : List Range) → FirstUse n (indices xs) (length vs) → rangesOf (take n vs) (ownSpans vs xs) ≡ xs
+  unfolding ownSpans indices
+  rebuilt-ranges n [] f = ranges-nil (take n vs)
+  rebuilt-ranges n (x ∷ xs) f =
+      let h : suc (x .index .0) ≤ length vs = omega (arith, met-most (max n (suc (x .index .0))) (indices xs) (length vs) (f .1)) in
+      let k : n ≤ length vs = omega (arith, met-most (max n (suc (x .index .0))) (indices xs) (length vs) (f .1)) in
+      ranges-cons (take n vs) (x .bound, getD vs (x .index .0) []) (ownSpans vs xs)
+      ∙ ap₂ (λ y ys. y ∷ ys) (ap (range (x .bound)) (number-own vs a n k (x .index .0) (f .0) h))
+      (ap (λ s. rangesOf s (ownSpans vs xs)) (grown-own vs a n k (x .index .0) (f .0) h) ∙ rebuilt-ranges (max n (suc (x .index .0))) xs (f .1))
+
+-- the conditions in the forms for induction
+all-indices-of : (v : ℕ) (xs : List Range) → All (λ x. x .index .0 < v) xs → All (λ x. x < v) (indices xs)
+unfolding indices
+all-indices-of v [] a = tt
+all-indices-of v (x ∷ xs) a = (a .0, all-indices-of v xs (a .1))
+
+pub order-apart : (vs : List (List Element)) (xs : List Range) → VectorsInOrder vs xs → Apart vs
+order-apart vs xs o = record { apart = apart }
+  where
+    apart : (y z : ℕ) → y < z → z < length vs → getD vs y [] ≡ getD vs z [] → ⊥
+    apart zero z h k e = o .notEmpty z h k (sym e ∙ o .emptyFirst)
+    apart (suc y) z h k e = o .distinct (suc y) z (omega arith) h k e
+
+pub order-first : (vs : List (List Element)) (xs : List Range) → VectorsInOrder vs xs → All (λ x. x .index .0 < length vs) xs → FirstUse 1 (indices xs) (length vs)
+order-first vs xs o b = first-use 1 (indices xs) (length vs) (o .someVector) (all-indices-of (length vs) xs b) (o .used) (o .firstUse)
+
+take-one : (vs : List (List Element)) → 1 ≤ length vs → getD vs 0 [] ≡ [] → take 1 vs ≡ [] ∷ []
+take-one [] h e = absurd (omega arith)
+take-one (v ∷ vs) h e = ap (λ w. w ∷ []) e
+
+-- a knowledge that meets the conditions is rebuilt from its own ranges
+pub rebuilt : (ids : List ℕ) (k : Knowledge) → NormalOver ids k → numbered ids (ownSpans (k .vectors) (k .ranges)) ≡ k
+unfolding numbered
+rebuilt ids k o =
+    let vs = k .vectors in
+    let xs = k .ranges in
+    let a : Apart vs = order-apart vs xs (o .vectors) in
+    let f : FirstUse 1 (indices xs) (length vs) = order-first vs xs (o .vectors) (o .sound .indices) in
+    let e : [] ∷ [] ≡ take 1 vs = sym (take-one vs (o .vectors .someVector) (o .vectors .emptyFirst)) in
+    let p : vectorsOf ([] ∷ []) (ownSpans vs xs) ≡ vs = ap (λ s. vectorsOf s (ownSpans vs xs)) e ∙ rebuilt-vectors vs a 1 xs f in
+    let q : rangesOf ([] ∷ []) (ownSpans vs xs) ≡ xs = ap (λ s. rangesOf s (ownSpans vs xs)) e ∙ rebuilt-ranges vs a 1 xs f in
+    λ i. record { replicas = sym (o .replicas) i; vectors = p i; ranges = q i }
+
+-- Its ranges as steps
+
+pub own-at : (vs : List (List Element)) (xs : List Range) (none i : ℕ) → at (getD vs none []) (ownSpans vs xs) i ≡ getD vs (indexAt none xs i) []
+unfolding ownSpans
+own-at vs [] none i = at-nil (getD vs none []) i ∙ ap (λ n. getD vs n []) (sym (index-nil none i))
+own-at vs (x ∷ xs) none i =
+    elim (order i (x .bound)) [
+      | less k ↦
+          at-lt (getD vs none []) (x .bound, getD vs (x .index .0) []) (ownSpans vs xs) i k
+          ∙ ap (λ n. getD vs n []) (sym (index-lt none x xs i k))
+      | same k ↦ onward (omega arith) (own-at vs xs (x .index .0) i)
+      | more k ↦ onward (omega arith) (own-at vs xs (x .index .0) i)
+    ]
+  where
+    onward : x .bound ≤ i → at (getD vs (x .index .0) []) (ownSpans vs xs) i ≡ getD vs (indexAt (x .index .0) xs i) []
+        → at (getD vs none []) ((x .bound, getD vs (x .index .0) []) ∷ ownSpans vs xs) i ≡ getD vs (indexAt none (x ∷ xs) i) []
+    onward k ih =
+        at-ge (getD vs none []) (x .bound, getD vs (x .index .0) []) (ownSpans vs xs) i k ∙ ih
+        ∙ ap (λ n. getD vs n []) (sym (index-ge none x xs i k))
+
+pub own-vectorAt : (k : Knowledge) (i : ℕ) → at [] (ownSpans (k .vectors) (k .ranges)) i ≡ vectorAt k i
+unfolding vectorAt
+own-vectorAt k i =
+    ap (λ v. at v (ownSpans (k .vectors) (k .ranges)) i) (sym (List·getD-eq-default (k .vectors) [] (omega arith)))
+    ∙ own-at (k .vectors) (k .ranges) (length (k .vectors)) i
+
+own-changing : (lo : ℕ) (vs : List (List Element)) (v : List Element) (xs : List Range) → Rising lo (bounds xs) → All (λ b. b ≤ highest) (bounds xs)
+    → DifferAfter vs v xs → Changing highest lo v (ownSpans vs xs)
+unfolding ownSpans bounds
+own-changing lo vs v [] r a d = tt
+own-changing lo vs v (x ∷ xs) r a d =
+    (r .0, (a .0, (d .0, own-changing (suc (x .bound)) vs (getD vs (x .index .0) []) xs (r .1) (a .1) (d .1))))
+
+-- steps with one at 0, and changes after it
+pub record FromZero (ss : List (ℕ × List Element)) : Type 0 where
+  pub value : List Element
+  pub rest : List (ℕ × List Element)
+  pub is : ss ≡ (0, value) ∷ rest
+  pub changing : Changing highest 1 value rest
+
+from-zero : (vs : List (List Element)) (xs : List Range) → FirstAtZero xs → Rising 0 (bounds xs) → All (λ b. b ≤ highest) (bounds xs)
+    → NeighboursDiffer vs xs → FromZero (ownSpans vs xs)
+unfolding ownSpans bounds
+from-zero vs [] z r a d = absurd z
+from-zero vs (x ∷ xs) z r a d = record {
+  value = getD vs (x .index .0) [];
+  rest = ownSpans vs xs;
+  is = ap (λ b. (b, getD vs (x .index .0) []) ∷ ownSpans vs xs) z;
+  changing = own-changing 1 vs (getD vs (x .index .0) []) xs (rw z at (r .1)) (a .1) d;
+}
+
+pub normal-from-zero : (ids : List ℕ) (k : Knowledge) → NormalOver ids k → FromZero (ownSpans (k .vectors) (k .ranges))
+normal-from-zero ids k o = from-zero (k .vectors) (k .ranges) (o .firstRange) (o .sound .rising) (o .sound .items) (o .neighbours)

@@ -1,0 +1,162 @@
+-- What the calls that write come to, case by case: for normalise, merge and project the refusals in the order of document
+-- 01's table, or the bytes of the result. The cases exclude one another, so a number is given on no other condition.
+use Prim.Native.Nat.{ℕ}
+use mathlib.Core.Path.{_≡_, refl, sym, _∙_, ap, ap₂, subst}
+use mathlib.Core.Bool.{Bool, true, false}
+use mathlib.Core.List.{List, [], _∷_}
+use Rattle.codec.specs.Number.{Bytes}
+use Rattle.codec.specs.Reply.{Reply, gives, refuses, Line, firstFault}
+use Rattle.codec.proofs.Replies.{fault-here, fault-later, fault-none}
+use Rattle.layout.specs.Rules.{Rules, Permitted}
+use Rattle.layout.specs.Knowledge.{Knowledge}
+use Rattle.layout.specs.Lawful.{Lawful}
+use Rattle.layout.specs.Encode.{encode}
+use Rattle.layout.specs.Parse.{Parsed, accepted, refused, parse}
+use Rattle.layout.proofs.Exact.{exact}
+use Rattle.ticks.specs.Operations.{normalise, merge, project, tooManyReplicas, tooManyRanges}
+use Rattle.ticks.specs.Calls.{idOf, readAs, line, ownFault, wrongSpan, resultLines, normaliseReply, mergeReply, projectReply}
+
+-- the knowledge read from accepted bytes is lawful
+pub read-lawful : (R : Rules) (s : List ℕ) (k : Knowledge) → Permitted (R .limits) → Bytes s → parse R s ≡ accepted k → Lawful R k
+read-lawful R s k m b e = exact R m s k b .0 e .1
+
+-- The lines
+
+pub read-fault : (n : ℕ) (ls : List Line) (r : Reply) → firstFault (ownFault (refused n) ∷ ls) r ≡ refuses n
+unfolding ownFault
+read-fault n ls r = fault-here (line n true) ls r refl
+
+pub read-fine : (k : Knowledge) (ls : List Line) (r : Reply) → firstFault (ownFault (accepted k) ∷ ls) r ≡ firstFault ls r
+unfolding ownFault
+read-fine k ls r = fault-later (line 0 false) ls r refl
+
+-- Results
+
+-- 11 over the most replicas; then 12 over the most ranges; or the bytes of the result
+pub data ResultSays (R : Rules) (k : Knowledge) : Reply → Type 0 where
+  over-replicas : tooManyReplicas (R .limits) k ≡ true → ResultSays R k (refuses 11)
+  over-ranges : tooManyReplicas (R .limits) k ≡ false → tooManyRanges (R .limits) k ≡ true → ResultSays R k (refuses 12)
+  result-given : tooManyReplicas (R .limits) k ≡ false → tooManyRanges (R .limits) k ≡ false → ResultSays R k (gives (encode k))
+
+pub result-says : (R : Rules) (k : Knowledge) → ResultSays R k (firstFault (resultLines R k) (gives (encode k)))
+unfolding resultLines
+result-says R k = go (tooManyReplicas (R .limits) k) refl (tooManyRanges (R .limits) k) refl
+  where
+    twelve : List Line
+    twelve = line 12 (tooManyRanges (R .limits) k) ∷ []
+
+    lines : List Line
+    lines = line 11 (tooManyReplicas (R .limits) k) ∷ twelve
+
+    go : (t : Bool) → tooManyReplicas (R .limits) k ≡ t → (u : Bool) → tooManyRanges (R .limits) k ≡ u → ResultSays R k (firstFault lines (gives (encode k)))
+    go true e u f = subst (ResultSays R k) (sym (fault-here (line 11 (tooManyReplicas (R .limits) k)) twelve (gives (encode k)) e)) (over-replicas e)
+    go false e true f =
+        subst (ResultSays R k)
+        (sym (fault-later (line 11 (tooManyReplicas (R .limits) k)) twelve (gives (encode k)) e
+        ∙ fault-here (line 12 (tooManyRanges (R .limits) k)) [] (gives (encode k)) f))
+        (over-ranges e f)
+    go false e false f = subst (ResultSays R k) (sym (fault-none lines (gives (encode k)) (e, (f, tt)))) (result-given e f)
+
+-- Normalise: the knowledge's own fault, or the result's line or bytes
+
+pub data NormaliseSays (R : Rules) (s : List ℕ) : Reply → Type 0 where
+  normalise-own : (n : ℕ) → parse R s ≡ refused n → NormaliseSays R s (refuses n)
+  normalise-result : (k : Knowledge) (r : Reply) → parse R s ≡ accepted k → ResultSays R (normalise k) r → NormaliseSays R s r
+
+normalise-of : Rules → Parsed → Reply
+normalise-of R p = firstFault (ownFault p ∷ resultLines R (normalise (readAs p))) (gives (encode (normalise (readAs p))))
+
+normalise-reply : (R : Rules) (s : List ℕ) (p : Parsed) → parse R s ≡ p → normaliseReply R s ≡ normalise-of R p
+unfolding normaliseReply normalise-of
+normalise-reply R s p e = ap (normalise-of R) e
+
+pub normalise-says : (R : Rules) (s : List ℕ) → NormaliseSays R s (normaliseReply R s)
+unfolding normalise-of readAs
+normalise-says R s = go (parse R s) refl
+  where
+    go : (p : Parsed) → parse R s ≡ p → NormaliseSays R s (normaliseReply R s)
+    go (refused n) e =
+        let k = normalise (readAs (refused n)) in
+        subst (NormaliseSays R s) (sym (normalise-reply R s (refused n) e ∙ read-fault n (resultLines R k) (gives (encode k)))) (normalise-own n e)
+    go (accepted k) e =
+        let result = firstFault (resultLines R (normalise k)) (gives (encode (normalise k))) in
+        subst (NormaliseSays R s)
+        (sym (normalise-reply R s (accepted k) e ∙ read-fine k (resultLines R (normalise k)) (gives (encode (normalise k)))))
+        (normalise-result k result e (result-says R (normalise k)))
+
+-- Merge: the first knowledge's own fault, then the second's
+
+pub data MergeSays (R : Rules) (s t : List ℕ) : Reply → Type 0 where
+  merge-first : (n : ℕ) → parse R s ≡ refused n → MergeSays R s t (refuses n)
+  merge-second : (a : Knowledge) (n : ℕ) → parse R s ≡ accepted a → parse R t ≡ refused n → MergeSays R s t (refuses n)
+  merge-result : (a b : Knowledge) (r : Reply) → parse R s ≡ accepted a → parse R t ≡ accepted b → ResultSays R (merge a b) r → MergeSays R s t r
+
+merge-of : Rules → Parsed → Parsed → Reply
+merge-of R p q =
+    firstFault (ownFault p ∷ ownFault q ∷ resultLines R (merge (readAs p) (readAs q))) (gives (encode (merge (readAs p) (readAs q))))
+
+merge-reply : (R : Rules) (s t : List ℕ) (p q : Parsed) → parse R s ≡ p → parse R t ≡ q → mergeReply R s t ≡ merge-of R p q
+unfolding mergeReply merge-of
+merge-reply R s t p q e f = ap₂ (merge-of R) e f
+
+pub merge-says : (R : Rules) (s t : List ℕ) → MergeSays R s t (mergeReply R s t)
+unfolding merge-of readAs
+merge-says R s t = go (parse R s) refl (parse R t) refl
+  where
+    go : (p : Parsed) → parse R s ≡ p → (q : Parsed) → parse R t ≡ q → MergeSays R s t (mergeReply R s t)
+    go (refused n) e q f =
+        let k = merge (readAs (refused n)) (readAs q) in
+        subst (MergeSays R s t)
+        (sym (merge-reply R s t (refused n) q e f ∙ read-fault n (ownFault q ∷ resultLines R k) (gives (encode k)))) (merge-first n e)
+    go (accepted a) e (refused n) f =
+        let k = merge (readAs (accepted a)) (readAs (refused n)) in
+        subst (MergeSays R s t)
+        (sym (merge-reply R s t (accepted a) (refused n) e f
+        ∙ read-fine a (ownFault (refused n) ∷ resultLines R k) (gives (encode k)) ∙ read-fault n (resultLines R k) (gives (encode k))))
+        (merge-second a n e f)
+    go (accepted a) e (accepted b) f =
+        let k = merge a b in
+        subst (MergeSays R s t)
+        (sym (merge-reply R s t (accepted a) (accepted b) e f
+        ∙ read-fine a (ownFault (accepted b) ∷ resultLines R k) (gives (encode k)) ∙ read-fine b (resultLines R k) (gives (encode k))))
+        (merge-result a b (firstFault (resultLines R k) (gives (encode k))) e f (result-says R k))
+
+-- Project: the knowledge's own fault, then 17
+
+pub data ProjectSays (R : Rules) (s first last : List ℕ) : Reply → Type 0 where
+  project-own : (n : ℕ) → parse R s ≡ refused n → ProjectSays R s first last (refuses n)
+  project-17 : (k : Knowledge) → parse R s ≡ accepted k → wrongSpan first last ≡ true → ProjectSays R s first last (refuses 17)
+  project-result : (k : Knowledge) (r : Reply) → parse R s ≡ accepted k → wrongSpan first last ≡ false
+      → ResultSays R (project (idOf 24 first) (idOf 24 last) k) r → ProjectSays R s first last r
+
+project-of : Rules → List ℕ → List ℕ → Parsed → Reply
+project-of R first last p =
+    firstFault (ownFault p ∷ line 17 (wrongSpan first last) ∷ resultLines R (project (idOf 24 first) (idOf 24 last) (readAs p)))
+    (gives (encode (project (idOf 24 first) (idOf 24 last) (readAs p))))
+
+project-reply : (R : Rules) (s first last : List ℕ) (p : Parsed) → parse R s ≡ p → projectReply R s first last ≡ project-of R first last p
+unfolding projectReply project-of
+project-reply R s first last p e = ap (project-of R first last) e
+
+pub project-says : (R : Rules) (s first last : List ℕ) → ProjectSays R s first last (projectReply R s first last)
+unfolding project-of readAs
+project-says R s first last = go (parse R s) refl (wrongSpan first last) refl
+  where
+    go : (p : Parsed) → parse R s ≡ p → (t : Bool) → wrongSpan first last ≡ t → ProjectSays R s first last (projectReply R s first last)
+    go (refused n) e t f =
+        let k = project (idOf 24 first) (idOf 24 last) (readAs (refused n)) in
+        subst (ProjectSays R s first last)
+        (sym (project-reply R s first last (refused n) e ∙ read-fault n (line 17 (wrongSpan first last) ∷ resultLines R k) (gives (encode k))))
+        (project-own n e)
+    go (accepted a) e true f =
+        let k = project (idOf 24 first) (idOf 24 last) a in
+        subst (ProjectSays R s first last)
+        (sym (project-reply R s first last (accepted a) e ∙ read-fine a (line 17 (wrongSpan first last) ∷ resultLines R k) (gives (encode k))
+        ∙ fault-here (line 17 (wrongSpan first last)) (resultLines R k) (gives (encode k)) f))
+        (project-17 a e f)
+    go (accepted a) e false f =
+        let k = project (idOf 24 first) (idOf 24 last) a in
+        subst (ProjectSays R s first last)
+        (sym (project-reply R s first last (accepted a) e ∙ read-fine a (line 17 (wrongSpan first last) ∷ resultLines R k) (gives (encode k))
+        ∙ fault-later (line 17 (wrongSpan first last)) (resultLines R k) (gives (encode k)) f))
+        (project-result a (firstFault (resultLines R k) (gives (encode k))) e f (result-says R k))

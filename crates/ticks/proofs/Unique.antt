@@ -1,0 +1,192 @@
+-- Knowledges in normal form with the same known ticks are equal: the map is the ids with a tick somewhere, the vector at
+-- each item is known by its ticks, the ranges by the vectors at all items, and the numbering by the ranges.
+use Prim.Native.Nat.{ℕ, zero, suc, _≤_, _<_}
+use mathlib.Core.Path.{_≡_, refl, sym, _∙_, ap, ap₂, subst}
+use mathlib.Core.Logic.{inl, inr}
+use mathlib.Core.List.{List, [], _∷_}
+use native.Mathlib.Omega.{arith}
+use lib.Dec.{eqb}
+use lib.ListN.{length, getD}
+use Rattle.layout.specs.Knowledge.{Element, Range, Knowledge}
+use Rattle.layout.specs.Lawful.{All, Distinct, Rising, keys, bounds}
+use Rattle.ticks.specs.Known.{highest, place, tickAt, indexAt, vectorAt, known}
+use Rattle.ticks.specs.Table.{at}
+use Rattle.ticks.specs.Normal.{Among, numbered, indices, Sound, ElementsInOrder, NormalOver, Normal}
+use Rattle.ticks.proofs.Lists.{less, same, more, order, among?, all-among, rising-above, rising-unique}
+use Rattle.ticks.proofs.Equality.{eqb-exact, place-first, place-found}
+use Rattle.ticks.proofs.Steps.{Changing, at-ge, before-steps, steps-unique}
+use Rattle.ticks.proofs.Vectors.{vector-unique, tick-none, tick-key}
+use Rattle.ticks.proofs.Numbering.{index-nil, index-lt, index-ge}
+use Rattle.ticks.proofs.Written.{among-place, among-get, known-in, known-out}
+use Rattle.ticks.proofs.Used.{used-get}
+use Rattle.ticks.proofs.Rebuilt.{ownSpans, rebuilt, own-vectorAt, FromZero, normal-from-zero}
+
+-- Sound knowledges
+
+pub distinct-get : (ids : List ℕ) (m n : ℕ) → Distinct ids → m < n → n < length ids → getD ids m 0 ≡ getD ids n 0 → ⊥
+distinct-get [] m n d h k e = omega arith
+distinct-get (x ∷ xs) zero zero d h k e = omega arith
+distinct-get (x ∷ xs) zero (suc n) d h k e = all-among (λ y. x ≡ y → ⊥) xs (d .0) (getD xs n 0) (among-get xs n (omega arith)) e
+distinct-get (x ∷ xs) (suc m) zero d h k e = omega arith
+distinct-get (x ∷ xs) (suc m) (suc n) d h k e = distinct-get xs m n (d .1) (omega arith) (omega arith) e
+
+pub place-own : (ids : List ℕ) (n : ℕ) → Distinct ids → n < length ids → place (getD ids n 0) ids ≡ n
+place-own ids n d h =
+    let p = getD ids n 0 in
+    let le : place p ids ≤ n = place-first eqb eqb-exact p 0 ids n h refl in
+    elim (order (place p ids) n) [
+      | less k ↦ absurd (distinct-get ids (place p ids) n d k h (place-found eqb eqb-exact p 0 ids (omega arith)))
+      | same k ↦ k
+      | more k ↦ absurd (omega arith)
+    ]
+
+-- the tick under a key is known for the replica with that key
+pub key-known : (k : Knowledge) (i key : ℕ) → Sound k → key < length (k .replicas) → known k i (getD (k .replicas) key 0) ≡ tickAt (vectorAt k i) key
+key-known k i key s h =
+    known-in k i (getD (k .replicas) key 0) (among-get (k .replicas) key h)
+    ∙ ap (tickAt (vectorAt k i)) (place-own (k .replicas) key (s .distinct) h)
+
+pub all-get : {A : Type 0} (P : A → Type 0) (d : A) (xs : List A) (n : ℕ) → All P xs → P d → P (getD xs n d)
+all-get P d [] n a p = p
+all-get P d (x ∷ xs) zero a p = a .0
+all-get P d (x ∷ xs) (suc n) a p = all-get P d xs n (a .1) p
+
+nothing-in-order : ElementsInOrder []
+unfolding keys
+nothing-in-order = record { rising = tt; ticks = tt }
+
+pub vectorAt-in-order : (k : Knowledge) (i : ℕ) → All ElementsInOrder (k .vectors) → ElementsInOrder (vectorAt k i)
+unfolding vectorAt
+vectorAt-in-order k i a = all-get ElementsInOrder [] (k .vectors) (indexAt (length (k .vectors)) (k .ranges) i) a nothing-in-order
+
+pub vectorAt-keys : (k : Knowledge) (i : ℕ) → Sound k → All (λ x. x .key .0 < length (k .replicas)) (vectorAt k i)
+unfolding vectorAt
+vectorAt-keys k i s =
+    all-get (All (λ x. x .key .0 < length (k .replicas))) [] (k .vectors) (indexAt (length (k .vectors)) (k .ranges) i) (s .keys) tt
+
+-- An index used by a range is the index at that range's bound
+
+index-before : (none : ℕ) (xs : List Range) (lo i : ℕ) → Rising lo (bounds xs) → i < lo → indexAt none xs i ≡ none
+unfolding bounds
+index-before none [] lo i r h = index-nil none i
+index-before none (x ∷ xs) lo i r h = index-lt none x xs i (omega (arith, r .0))
+
+pub index-bound : (lo none : ℕ) (xs : List Range) (y : ℕ) → Rising lo (bounds xs) → Among y (indices xs)
+    → (b : ℕ) × (Among b (bounds xs) × (indexAt none xs b ≡ y))
+unfolding bounds indices
+index-bound lo none [] y r m = absurd m
+index-bound lo none (x ∷ xs) y r (inl e) = (
+  x .bound,
+  (
+    inl refl,
+    index-ge none x xs (x .bound) (omega arith) ∙ index-before (x .index .0) xs (suc (x .bound)) (x .bound) (r .1) (omega arith) ∙ sym e,
+  ),
+)
+index-bound lo none (x ∷ xs) y r (inr m) =
+    let w = index-bound (suc (x .bound)) (x .index .0) xs y (r .1) m in
+    let h : suc (x .bound) ≤ w .0 = rising-above (suc (x .bound)) (w .0) (bounds xs) (r .1) (w .1 .0) in
+    (w .0, (inr (w .1 .0), index-ge none x xs (w .0) (omega arith) ∙ w .1 .1))
+
+no-key : (key : ℕ) (es : List Element) → es ≡ [] → Among key (keys es) → ⊥
+unfolding keys
+no-key key es e m = subst (λ fs. Among key (keys fs)) e m
+
+-- a replica of the map has a tick of 1 or more at some item
+pub replica-known : (k : Knowledge) (p : ℕ) → Normal k → Among p (k .replicas) → (i : ℕ) × ((i ≤ highest) × (1 ≤ known k i p))
+unfolding vectorAt
+replica-known k p n m =
+    let key = place p (k .replicas) in
+    let o : NormalOver (k .replicas) k = n .over in
+    let u = used-get key (k .vectors) (n .used key (among-place p (k .replicas) m)) in
+    let some : 1 ≤ u .0 =
+    elim (order (u .0) 0) [
+      | less h ↦ absurd (omega arith)
+      | same h ↦ absurd (no-key key (getD (k .vectors) (u .0) []) (ap (λ y. getD (k .vectors) y []) h ∙ o .vectors .emptyFirst) (u .1 .1))
+      | more h ↦ h
+    ] in
+    let w = index-bound 0 (length (k .vectors)) (k .ranges) (u .0) (o .sound .rising) (o .vectors .used (u .0) some (u .1 .0)) in
+    let e : vectorAt k (w .0) ≡ getD (k .vectors) (u .0) [] = ap (λ y. getD (k .vectors) y []) (w .1 .1) in
+    let t : 1 ≤ tickAt (getD (k .vectors) (u .0) []) key =
+    tick-key (getD (k .vectors) (u .0) []) key
+    (all-get ElementsInOrder [] (k .vectors) (u .0) (o .elements) nothing-in-order .ticks) (u .1 .1) in (
+      w .0,
+      (
+        all-among (λ b. b ≤ highest) (bounds (k .ranges)) (o .sound .items) (w .0) (w .1 .0),
+        omega (arith, known-in k (w .0) p m, ap (λ v. tickAt v key) e),
+      ),
+    )
+
+-- and a replica with such a tick is in the map
+pub known-replica : (k : Knowledge) (i p : ℕ) → 1 ≤ known k i p → Among p (k .replicas)
+known-replica k i p h =
+    elim (among? p (k .replicas)) [ inl m ↦ m | inr n ↦ absurd (omega (arith, known-out k i p n)) ]
+
+-- the same known ticks, for every item and replica
+pub record SameTicks (a b : Knowledge) : Type 0 where
+  pub known : (i p : ℕ) → i ≤ highest → known a i p ≡ known b i p
+
+same-map : (a b : Knowledge) → Normal a → Normal b → SameTicks a b → a .replicas ≡ b .replicas
+same-map a b n m f =
+    rising-unique 0 (a .replicas) (b .replicas) (n .rising) (m .rising)
+    (λ p h. let w = replica-known a p n h in known-replica b (w .0) p (omega (arith, w .1 .1, f .known (w .0) p (w .1 .0))))
+    (λ p h. let w = replica-known b p m h in known-replica a (w .0) p (omega (arith, w .1 .1, f .known (w .0) p (w .1 .0))))
+
+-- with one map, the vectors at each item are the same
+pub same-vector : (a b : Knowledge) → NormalOver (a .replicas) a → NormalOver (a .replicas) b → SameTicks a b → (i : ℕ) → i ≤ highest → vectorAt a i ≡ vectorAt b i
+same-vector a b o q f i h =
+    let e : b .replicas ≡ a .replicas = q .replicas in
+    vector-unique (vectorAt a i) (vectorAt b i) (vectorAt-in-order a i (o .elements)) (vectorAt-in-order b i (q .elements))
+    (λ key.
+    elim (order key (length (a .replicas))) [
+      | less k ↦ found e key k
+      | same k ↦ none e key (omega arith)
+      | more k ↦ none e key (omega arith)
+    ])
+  where
+    found : b .replicas ≡ a .replicas → (key : ℕ) → key < length (a .replicas) → tickAt (vectorAt a i) key ≡ tickAt (vectorAt b i) key
+    found e key k =
+        sym (key-known a i key (o .sound) k) ∙ f .known i (getD (a .replicas) key 0) h
+        ∙ ap (λ ids. known b i (getD ids key 0)) (sym e) ∙ key-known b i key (q .sound) (omega (arith, ap length e))
+
+    none : b .replicas ≡ a .replicas → (key : ℕ) → length (a .replicas) ≤ key → tickAt (vectorAt a i) key ≡ tickAt (vectorAt b i) key
+    none e key k =
+        tick-none (length (a .replicas)) (vectorAt a i) key (vectorAt-keys a i (o .sound)) k
+        ∙ sym (tick-none (length (b .replicas)) (vectorAt b i) key (vectorAt-keys b i (q .sound)) (omega (arith, ap length e)))
+
+-- with one vector at each item, the ranges are the same
+from-zero-unique : (s t : List (ℕ × List Element)) (v w : List Element) → Changing highest 1 v s → Changing highest 1 w t
+    → ((i : ℕ) → i ≤ highest → at [] ((0, v) ∷ s) i ≡ at [] ((0, w) ∷ t) i) → (0, v) ∷ s ≡ (0, w) ∷ t
+from-zero-unique s t v w c d f =
+    let g : (i : ℕ) → i ≤ highest → at v s i ≡ at w t i =
+    λ i h. sym (at-ge [] (0, v) s i (omega arith)) ∙ f i h ∙ at-ge [] (0, w) t i (omega arith) in
+    let e : v ≡ w = sym (before-steps highest 1 v v s 0 c (omega arith)) ∙ g 0 (omega arith) ∙ before-steps highest 1 w w t 0 d (omega arith) in
+    let d′ : Changing highest 1 v t = rw e d in
+    ap₂ (λ u r. (0, u) ∷ r) e (steps-unique highest 1 v s t c d′ (λ i h k. g i k ∙ ap (λ u. at u t i) (sym e)))
+
+pub spans-unique : (ss ts : List (ℕ × List Element)) → FromZero ss → FromZero ts → ((i : ℕ) → i ≤ highest → at [] ss i ≡ at [] ts i) → ss ≡ ts
+spans-unique ss ts x y f =
+    x .is
+    ∙ from-zero-unique (x .rest) (y .rest) (x .value) (y .value) (x .changing) (y .changing)
+    (λ i h. ap (λ s. at [] s i) (sym (x .is)) ∙ f i h ∙ ap (λ s. at [] s i) (y .is))
+    ∙ sym (y .is)
+
+-- over one map
+pub normal-over-unique : (ids : List ℕ) (a b : Knowledge) → NormalOver ids a → NormalOver ids b → SameTicks a b → a ≡ b
+normal-over-unique ids a b o q f =
+    let o′ : NormalOver (a .replicas) a = subst (λ l. NormalOver l a) (sym (o .replicas)) o in
+    let q′ : NormalOver (a .replicas) b = subst (λ l. NormalOver l b) (sym (o .replicas)) q in
+    sym (rebuilt ids a o)
+    ∙ ap (numbered ids)
+    (spans-unique (ownSpans (a .vectors) (a .ranges)) (ownSpans (b .vectors) (b .ranges)) (normal-from-zero ids a o) (normal-from-zero ids b q)
+    (λ i h. own-vectorAt a i ∙ same-vector a b o′ q′ f i h ∙ sym (own-vectorAt b i)))
+    ∙ rebuilt ids b q
+
+-- normal forms with equal ticks are equal
+pub normal-unique : (a b : Knowledge) → Normal a → Normal b → ((i p : ℕ) → i ≤ highest → known a i p ≡ known b i p) → a ≡ b
+normal-unique a b n m f =
+    let s : SameTicks a b = record { known = f } in
+    let e : b .replicas ≡ a .replicas = sym (same-map a b n m s) in
+    normal-over-unique (a .replicas) a b (n .over) (subst (λ l. NormalOver l b) e (m .over)) s
+
+pub normal-sound : (k : Knowledge) → Normal k → Sound k
+normal-sound k n = n .over .sound

@@ -1,0 +1,144 @@
+-- What is written for ranges with their own vectors, and for a table over a replica map: the known ticks are the table's,
+-- and the conditions of normal form hold.
+use Prim.Native.Nat.{ℕ, zero, suc, _≤_, _<_}
+use mathlib.Core.Path.{_≡_, refl, sym, _∙_, ap}
+use mathlib.Core.Logic.{inl, inr, ⊎-elim}
+use mathlib.Core.List.{List, [], _∷_}
+use native.Mathlib.Omega.{arith}
+use lib.Dec.{eqb}
+use lib.ListN.{length, getD, List·getD-eq-default}
+use borrow.Author.Tests.{lt-ltb, le-ltb}
+use Rattle.layout.specs.Knowledge.{Element, Range, Knowledge}
+use Rattle.layout.specs.Lawful.{All, Distinct, Rising, keys}
+use Rattle.ticks.specs.Known.{highest, place, tickAt, vectorAt, known}
+use Rattle.ticks.specs.Table.{at}
+use Rattle.ticks.specs.Normal.{grown, vectorsOf, rangesOf, numbered, Among, Sound, indices, VectorsInOrder, ElementsInOrder, NormalOver}
+use Rattle.ticks.proofs.Lists.{less, same, more, order}
+use Rattle.ticks.proofs.Equality.{eqb-exact, exact?, place-same, place-other}
+use Rattle.ticks.proofs.Steps.{stepBounds, Changing}
+use Rattle.ticks.proofs.Numbering.{Apart, vectors-cons, vectors-length, vectors-keep, vectors-number, vectors-apart, vectors-all, ranges-cons, ranges-bounds, ranges-first, ranges-at, ranges-differ}
+use Rattle.ticks.proofs.FirstUse.{FirstUse, first-below, first-used, first-order}
+
+-- Places in a replica map
+
+pub among-place : (p : ℕ) (ids : List ℕ) → Among p ids → place p ids < length ids
+among-place p [] m = absurd m
+among-place p (q ∷ ids) m =
+    elim (exact? eqb eqb-exact q p) [
+      | inl e ↦ omega (arith, place-same eqb eqb-exact p q ids e)
+      | inr n ↦ ⊎-elim (λ e. absurd (n (sym e))) (λ o. omega (arith, place-other eqb eqb-exact p q ids n, among-place p ids o)) m
+    ]
+
+pub place-among : (p : ℕ) (ids : List ℕ) → place p ids < length ids → Among p ids
+place-among p [] h = absurd (omega arith)
+place-among p (q ∷ ids) h =
+    elim (exact? eqb eqb-exact q p) [
+      | inl e ↦ inl (sym e)
+      | inr n ↦ inr (place-among p ids (omega (arith, place-other eqb eqb-exact p q ids n)))
+    ]
+
+pub among-get : (ids : List ℕ) (n : ℕ) → n < length ids → Among (getD ids n 0) ids
+among-get [] n h = absurd (omega arith)
+among-get (q ∷ ids) zero h = inl refl
+among-get (q ∷ ids) (suc n) h = inr (among-get ids n (omega arith))
+
+-- The known tick: of a replica in the map, that of its key in the vector at the item; else 0
+
+pub known-in : (k : Knowledge) (i p : ℕ) → Among p (k .replicas) → known k i p ≡ tickAt (vectorAt k i) (place p (k .replicas))
+unfolding known
+known-in k i p m = rw (lt-ltb (place p (k .replicas)) (length (k .replicas)) (among-place p (k .replicas) m), known)
+
+pub known-out : (k : Knowledge) (i p : ℕ) → (Among p (k .replicas) → ⊥) → known k i p ≡ 0
+unfolding known
+known-out k i p n =
+    elim (order (place p (k .replicas)) (length (k .replicas))) [
+      | less h ↦ absurd (n (place-among p (k .replicas) h))
+      | same h ↦ rw (le-ltb (place p (k .replicas)) (length (k .replicas)) (omega arith), known)
+      | more h ↦ rw (le-ltb (place p (k .replicas)) (length (k .replicas)) (omega arith), known)
+    ]
+
+-- Ranges with their own vectors
+
+pub vectorAt-numbered : (ids : List ℕ) (s : List (ℕ × List Element)) (i : ℕ) → vectorAt (numbered ids s) i ≡ at [] s i
+unfolding vectorAt numbered
+vectorAt-numbered ids s i =
+    ranges-at (vectorsOf ([] ∷ []) s) ([] ∷ []) s (length (vectorsOf ([] ∷ []) s)) i refl
+    ∙ ap (λ v. at v s i) (List·getD-eq-default (vectorsOf ([] ∷ []) s) [] (omega arith))
+
+all-indices : (v : ℕ) (xs : List Range) → All (λ x. x < v) (indices xs) → All (λ x. x .index .0 < v) xs
+unfolding indices
+all-indices v [] a = tt
+all-indices v (x ∷ xs) a = (a .0, all-indices v xs (a .1))
+
+pub changing-rising : {A : Type 0} (hi lo : ℕ) (v : A) (s : List (ℕ × A)) → Changing hi lo v s → Rising lo (stepBounds s)
+unfolding stepBounds
+changing-rising hi lo v [] c = tt
+changing-rising hi lo v (e ∷ s) c = (c .0, changing-rising hi (suc (e .0)) (e .1) s (c .1 .1 .1))
+
+pub changing-top : {A : Type 0} (hi lo : ℕ) (v : A) (s : List (ℕ × A)) → Changing hi lo v s → All (λ b. b ≤ hi) (stepBounds s)
+unfolding stepBounds
+changing-top hi lo v [] c = tt
+changing-top hi lo v (e ∷ s) c = (c .1 .0, changing-top hi (suc (e .0)) (e .1) s (c .1 .1 .1))
+
+-- what a vector over a map of r replicas must be
+pub record VectorOver (r : ℕ) (es : List Element) : Type 0 where
+  pub keys : All (λ x. x .key .0 < r) es
+  pub order : ElementsInOrder es
+
+start-apart : Apart ([] ∷ [])
+start-apart = record { apart = λ y z h k e. omega arith }
+
+nothing-in-order : ElementsInOrder []
+unfolding keys
+nothing-in-order = record { rising = tt; ticks = tt }
+
+over-keys : (r : ℕ) (s : List (ℕ × List Element)) → All (λ e. VectorOver r (e .1)) s → All (λ e. All (λ x. x .key .0 < r) (e .1)) s
+over-keys r [] a = tt
+over-keys r (e ∷ s) a = (a .0 .keys, over-keys r s (a .1))
+
+over-order : (r : ℕ) (s : List (ℕ × List Element)) → All (λ e. VectorOver r (e .1)) s → All (λ e. ElementsInOrder (e .1)) s
+over-order r [] a = tt
+over-order r (e ∷ s) a = (a .0 .order, over-order r s (a .1))
+
+module _ (ids : List ℕ) (distinct : Distinct ids) (w : List Element) (s : List (ℕ × List Element))
+    (over : VectorOver (length ids) w) (overs : All (λ e. VectorOver (length ids) (e .1)) s) (changing : Changing highest 1 w s) where
+  numbered-sound : Sound (numbered ids ((0, w) ∷ s))
+  unfolding numbered stepBounds
+  numbered-sound = record {
+    distinct = distinct;
+    keys = vectors-all (All (λ x. x .key .0 < length ids)) ([] ∷ []) ((0, w) ∷ s) (tt, tt) (over .keys, over-keys (length ids) s overs);
+    indices =
+        all-indices (length (vectorsOf ([] ∷ []) ((0, w) ∷ s))) (rangesOf ([] ∷ []) ((0, w) ∷ s))
+        (first-below 1 (indices (rangesOf ([] ∷ []) ((0, w) ∷ s))) (length (vectorsOf ([] ∷ []) ((0, w) ∷ s))) (ranges-first ([] ∷ []) ((0, w) ∷ s)));
+    rising = rw ranges-bounds (omega arith, changing-rising highest 1 w s changing);
+    items = rw ranges-bounds (omega arith, changing-top highest 1 w s changing);
+  }
+
+  numbered-vectors : VectorsInOrder (vectorsOf ([] ∷ []) ((0, w) ∷ s)) (rangesOf ([] ∷ []) ((0, w) ∷ s))
+  numbered-vectors =
+      let vs = vectorsOf ([] ∷ []) ((0, w) ∷ s) in
+      let xs = indices (rangesOf ([] ∷ []) ((0, w) ∷ s)) in
+      let first : FirstUse 1 xs (length vs) = ranges-first ([] ∷ []) ((0, w) ∷ s) in
+      let e : getD vs 0 [] ≡ [] = vectors-keep ([] ∷ []) ((0, w) ∷ s) 0 (omega arith) in
+      let a : Apart vs = vectors-apart ([] ∷ []) ((0, w) ∷ s) start-apart in
+      record {
+        someVector = omega (arith, vectors-length ([] ∷ []) ((0, w) ∷ s));
+        emptyFirst = e;
+        firstUse = λ y z h k l. first-order 1 xs (length vs) y z first h k l;
+        distinct = λ y z h k l q. a .apart y z k l q;
+        notEmpty = λ y h k q. a .apart 0 y h k (e ∙ sym q);
+        used = λ y h k. first-used 1 xs (length vs) y first h k;
+      }
+
+  pub normal-numbered : NormalOver ids (numbered ids ((0, w) ∷ s))
+  unfolding numbered
+  normal-numbered = record {
+    replicas = refl;
+    sound = numbered-sound;
+    firstRange = rw ranges-cons refl;
+    neighbours =
+        rw (ranges-cons ([] ∷ []) (0, w) s, vectors-number ([] ∷ []) (0, w) s)
+        (ranges-differ highest 1 (vectorsOf ([] ∷ []) ((0, w) ∷ s)) (grown ([] ∷ []) w) w s (sym (vectors-cons ([] ∷ []) (0, w) s)) changing);
+    vectors = numbered-vectors;
+    elements = vectors-all ElementsInOrder ([] ∷ []) ((0, w) ∷ s) (nothing-in-order, tt) (over .order, over-order (length ids) s overs);
+  }

@@ -1,0 +1,141 @@
+-- The calls on bytes: contain, lead, cover, normalise, merge and project. Each is the table of document 01, "Where a
+-- fault is caught", line by line in its order ("first knowledge, then second", then 17, then the result's 11 and
+-- 12; 14 is looked for last, by the codec's `answer`), and else what the operation gives.
+use Prim.Native.Nat.{ℕ}
+use mathlib.Core.Bool.{Bool, true, false, not, _||_}
+use mathlib.Core.List.{List, [], _∷_}
+use lib.Dec.{eqb, ltb}
+use lib.IntN.{ℤ, pos, _-ℤ_}
+use lib.ListN.{length}
+use Rattle.codec.specs.Number.{beAt}
+use Rattle.codec.specs.Reply.{Reply, gives, refuses, Line, firstFault}
+use Rattle.layout.specs.Rules.{Rules}
+use Rattle.layout.specs.Knowledge.{Knowledge}
+use Rattle.layout.specs.Encode.{encode}
+use Rattle.layout.specs.Parse.{Parsed, accepted, refused, parse}
+use Rattle.ticks.specs.Known.{known, contains}
+use Rattle.ticks.specs.Operations.{emptyKnowledge, normalise, merge, project, covers, tooManyReplicas, tooManyRanges}
+use Rattle.ticks.specs.declared.Contain.{Contain}
+use Rattle.ticks.specs.declared.Contain.the-variants as C
+use Rattle.ticks.specs.declared.Lead.{Lead}
+use Rattle.ticks.specs.declared.Lead.the-variants as D
+use Rattle.ticks.specs.declared.Cover.{Cover}
+use Rattle.ticks.specs.declared.Cover.the-variants as E
+
+-- the number of each answer, 0 where nothing is refused, and its value
+unfoldable pub containNumber : Contain → ℕ
+containNumber C.Contained = 0
+containNumber C.Lacking = 0
+containNumber (C.Refused n) = n
+
+unfoldable pub containValue : Contain → ℕ
+containValue C.Contained = 1
+containValue C.Lacking = 0
+containValue (C.Refused n) = 0
+
+unfoldable pub leadNumber : Lead → ℕ
+leadNumber (D.Ahead x) = 0
+leadNumber (D.Refused n) = n
+
+unfoldable pub leadValue : Lead → ℤ
+leadValue (D.Ahead x) = x
+leadValue (D.Refused n) = pos 0
+
+unfoldable pub coverNumber : Cover → ℕ
+coverNumber E.Covers = 0
+coverNumber E.Lacks = 0
+coverNumber (E.Refused n) = n
+
+unfoldable pub coverValue : Cover → ℕ
+coverValue E.Covers = 1
+coverValue E.Lacks = 0
+coverValue (E.Refused n) = 0
+
+-- an item id of 24 bytes or a replica id of 16, as a number
+unfoldable pub idOf : ℕ → List ℕ → ℕ
+idOf n s = beAt s n 0
+
+-- the knowledge that a reading gives; where it refuses, the value is of no account
+unfoldable pub readAs : Parsed → Knowledge
+readAs (accepted k) = k
+readAs (refused n) = emptyKnowledge
+
+abbrev pub line : ℕ → Bool → Line
+line n b = record { number = n; holds = b }
+
+-- the knowledge's own fault
+unfoldable pub ownFault : Parsed → Line
+ownFault (accepted k) = line 0 false
+ownFault (refused n) = line n true
+
+-- 17: an item id, replica id or tag not 24, 16 or 16 bytes long, or first above last
+unfoldable pub wrongLength : ℕ → List ℕ → Bool
+wrongLength n s = not (eqb (length s) n)
+
+unfoldable pub wrongPlace : List ℕ → List ℕ → Bool
+wrongPlace item replica = wrongLength 24 item || wrongLength 16 replica
+
+unfoldable pub wrongSpan : List ℕ → List ℕ → Bool
+wrongSpan first last = wrongLength 24 first || (wrongLength 24 last || ltb (idOf 24 last) (idOf 24 first))
+
+-- the answer of a call that writes nothing: the refusal of its lines, or what it finds
+unfoldable pub refusedOr : {A : Type 0} → (ℕ → A) → A → Reply → A
+refusedOr bad found (gives bs) = found
+refusedOr bad found (refuses n) = bad n
+
+unfoldable pub containFound : Bool → Contain
+containFound true = C.Contained
+containFound false = C.Lacking
+
+unfoldable pub coverFound : Bool → Cover
+coverFound true = E.Covers
+coverFound false = E.Lacks
+
+-- Contain: is the version of an item, a replica and a tick contained
+unfoldable pub containAnswer : Rules → List ℕ → List ℕ → List ℕ → ℕ → Contain
+containAnswer R s item replica t =
+    let p = parse R s in
+    refusedOr C.Refused (containFound (contains (readAs p) (idOf 24 item) (idOf 16 replica) t))
+    (firstFault (ownFault p ∷ line 17 (wrongPlace item replica) ∷ []) (gives []))
+
+-- "Lead: for an item and a replica, the first's tick minus the second's, a signed number, 0 for absent."
+unfoldable pub leadOf : Knowledge → Knowledge → ℕ → ℕ → ℤ
+leadOf a b i p = pos (known a i p) -ℤ pos (known b i p)
+
+unfoldable pub leadAnswer : Rules → List ℕ → List ℕ → List ℕ → List ℕ → Lead
+leadAnswer R s t item replica =
+    let p = parse R s in
+    let q = parse R t in
+    refusedOr D.Refused (D.Ahead (leadOf (readAs p) (readAs q) (idOf 24 item) (idOf 16 replica)))
+    (firstFault (ownFault p ∷ ownFault q ∷ line 17 (wrongPlace item replica) ∷ []) (gives []))
+
+-- Cover: does the first knowledge know at least as much as the second throughout the span
+unfoldable pub coverAnswer : Rules → List ℕ → List ℕ → List ℕ → List ℕ → Cover
+coverAnswer R s t first last =
+    let p = parse R s in
+    let q = parse R t in
+    refusedOr E.Refused (coverFound (covers (readAs p) (readAs q) (idOf 24 first) (idOf 24 last)))
+    (firstFault (ownFault p ∷ ownFault q ∷ line 17 (wrongSpan first last) ∷ []) (gives []))
+
+-- the lines of a result: 11 over the most replicas, 12 over the most ranges
+unfoldable pub resultLines : Rules → Knowledge → List Line
+resultLines R k = line 11 (tooManyReplicas (R .limits) k) ∷ line 12 (tooManyRanges (R .limits) k) ∷ []
+
+unfoldable pub normaliseReply : Rules → List ℕ → Reply
+normaliseReply R s =
+    let p = parse R s in
+    let k = normalise (readAs p) in
+    firstFault (ownFault p ∷ resultLines R k) (gives (encode k))
+
+unfoldable pub mergeReply : Rules → List ℕ → List ℕ → Reply
+mergeReply R s t =
+    let p = parse R s in
+    let q = parse R t in
+    let k = merge (readAs p) (readAs q) in
+    firstFault (ownFault p ∷ ownFault q ∷ resultLines R k) (gives (encode k))
+
+unfoldable pub projectReply : Rules → List ℕ → List ℕ → List ℕ → Reply
+projectReply R s first last =
+    let p = parse R s in
+    let k = project (idOf 24 first) (idOf 24 last) (readAs p) in
+    firstFault (ownFault p ∷ line 17 (wrongSpan first last) ∷ resultLines R k) (gives (encode k))

@@ -1,0 +1,7 @@
+-- What a knowledge means: known ticks, tables, normal form, the operations on knowledge, and the calls on bytes.
+pub mod Known
+pub mod Table
+pub mod Normal
+pub mod Operations
+pub mod Calls
+pub mod Demand2
