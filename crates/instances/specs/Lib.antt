@@ -1,3 +1,4 @@
 -- Document 01's instances: the bytes, and the table of what each comes to.
 pub mod Given
+pub mod Spelled
 pub mod Table

@@ -3,7 +3,7 @@ use Prim.Native.Nat.{ℕ, suc}
 use mathlib.Core.Path.{_≡_}
 use mathlib.Core.List.{List, [], _∷_, _++_}
 use lib.IntN.{ℤ, pos, negsuc}
-use lib.ListN.{length, take}
+use lib.ListN.{length, take, drop}
 use Rattle.codec.specs.Reply.{Reply, gives, refuses}
 use Rattle.layout.specs.declared.Checked.{Checked}
 use Rattle.layout.specs.declared.Checked.the-variants.{Accepted, Refused}
@@ -22,6 +22,8 @@ use Rattle.replication.specs.Store.{Store, encodeStore}
 use Rattle.replication.specs.Batch.{Batch, encodeBatch}
 use Rattle.replication.specs.Operate.{nextTick}
 use Rattle.replication.specs.Calls.{newReply, editReply, makeReply, applyReply}
+use Rattle.replication.specs.Queries.{Part, ofBatch, winnerPart, learnedPart}
+use Rattle.instances.specs.Spelled.{bytesK6, bytesK10, bytesK11}
 use Rattle.instances.specs.Given.{emptyValue, smallest, itemBytes, replicaBytes, tagBytes, ran, one, two, parts, fresh, again, store, batch, p1, q1, p2, q2}
 
 pub data Row : Type 0 where
@@ -42,6 +44,9 @@ pub data Row : Type 0 where
   leads : Lead → Lead → Row
   -- the tick of a store's next edit
   next : Store → ℕ → Row
+  -- the part that winner or learned hands out, and that part's bytes
+  hands : Part → Part → Row
+  bytesAre : List ℕ → List ℕ → Row
 
 abbrev pub Holds : Row → Type 0
 Holds (writes k bs n) = (encode k ≡ bs) × (length bs ≡ n)
@@ -53,6 +58,8 @@ Holds (knows k i p t) = known k i p ≡ t
 Holds (contained x y) = x ≡ y
 Holds (leads x y) = x ≡ y
 Holds (next st t) = nextTick st ≡ t
+Holds (hands x y) = x ≡ y
+Holds (bytesAre x y) = x ≡ y
 
 -- every row of a table holds
 abbrev pub AllHold : List Row → Type 0
@@ -82,6 +89,9 @@ unfoldable pub knowledgeRows : ℕ → ℕ → List Row
 knowledgeRows P Q =
     -- K4 merged P 5, Q 2, 177 bytes
     gets (mergeReply basic (encode (one P 5)) (encode (two P 3 Q 2))) (encode (two P 5 Q 2)) 177 ∷
+    reads (encode (one P 5)) (accepted (one P 5)) ∷
+    reads (encode (two P 3 Q 2)) (accepted (two P 3 Q 2)) ∷
+    reads (encode (two P 5 Q 2)) (accepted (two P 5 Q 2)) ∷
     knows (two P 5 Q 2) 0 P 5 ∷
     knows (two P 5 Q 2) highest P 5 ∷
     knows (two P 5 Q 2) 0 Q 2 ∷
@@ -103,14 +113,15 @@ knowledgeRows P Q =
 unfoldable pub newOf : ℕ → Store
 newOf p = store p emptyValue []
 
-unfoldable pub editedOnce : ℕ → Store
-editedOnce p = store p (one p 1) (fresh 1 p 1 9 ∷ [])
+-- item 1 edited with a tag, the replica's first edit
+unfoldable pub editedOnce : ℕ → ℕ → Store
+editedOnce p tag = store p (one p 1) (fresh 1 p 1 tag ∷ [])
 
 unfoldable pub editedTwice : ℕ → Store
 editedTwice p = store p (one p 2) (fresh 1 p 1 9 ∷ fresh 2 p 2 8 ∷ [])
 
-unfoldable pub batchOne : ℕ → Batch
-batchOne p = batch emptyValue (one p 1) (fresh 1 p 1 9 ∷ [])
+unfoldable pub batchOne : ℕ → ℕ → Batch
+batchOne p tag = batch emptyValue (one p 1) (fresh 1 p 1 tag ∷ [])
 
 unfoldable pub batchTwo : ℕ → Batch
 batchTwo p = batch (one p 1) (one p 2) (fresh 2 p 2 8 ∷ [])
@@ -119,27 +130,39 @@ unfoldable pub storeRows : ℕ → ℕ → List Row
 storeRows P Q =
     -- K9 new store 138 bytes; after one edit 263
     gets (newReply (replicaBytes P)) (encodeStore (newOf P)) 138 ∷
-    gets (editReply basic (encodeStore (newOf P)) (itemBytes 1) (tagBytes 9)) (encodeStore (editedOnce P)) 263 ∷
+    gets (editReply basic (encodeStore (newOf P)) (itemBytes 1) (tagBytes 9)) (encodeStore (editedOnce P 9)) 263 ∷
     -- K10 P and Q both edit item 1 first, P applies Q's batch: Q's record wins, P's next tick 2
-    gets (editReply basic (encodeStore (newOf Q)) (itemBytes 1) (tagBytes 9)) (encodeStore (editedOnce Q)) 263 ∷
-    gets (everything (makeReply basic (encodeStore (editedOnce Q)) smallest)) (encodeBatch (batchOne Q)) 412 ∷
-    gets (applyReply basic (encodeStore (editedOnce P)) (encodeBatch (batchOne Q))) (encodeStore (store P (two P 1 Q 1) (fresh 1 Q 1 9 ∷ []))) 291 ∷
-    next (store P (two P 1 Q 1) (fresh 1 Q 1 9 ∷ [])) 2 ∷
-    gets (editReply basic (encodeStore (store P (two P 1 Q 1) (fresh 1 Q 1 9 ∷ []))) (itemBytes 1) (tagBytes 7)) (encodeStore (store P (two P 2 Q 1) (again 1 P 2 Q 1 7 ∷ []))) 291 ∷
+    gets (editReply basic (encodeStore (newOf Q)) (itemBytes 1) (tagBytes 6)) (encodeStore (editedOnce Q 6)) 263 ∷
+    gets (everything (makeReply basic (encodeStore (editedOnce Q 6)) smallest)) (encodeBatch (batchOne Q 6)) 412 ∷
+    gets (applyReply basic (encodeStore (editedOnce P 9)) (encodeBatch (batchOne Q 6))) (encodeStore (store P (two P 1 Q 1) (fresh 1 Q 1 6 ∷ []))) 291 ∷
+    hands (winnerPart basic (encodeStore (editedOnce P 9)) (encodeBatch (batchOne Q 6)) (itemBytes 1)) (ofBatch 323 89) ∷
+    next (store P (two P 1 Q 1) (fresh 1 Q 1 6 ∷ [])) 2 ∷
+    gets (editReply basic (encodeStore (store P (two P 1 Q 1) (fresh 1 Q 1 6 ∷ []))) (itemBytes 1) (tagBytes 7)) (encodeStore (store P (two P 2 Q 1) (again 1 P 2 Q 1 7 ∷ []))) 291 ∷
     -- K11 batch of K9's edited store for empty knowledge, all ids: 412 bytes
-    gets (everything (makeReply basic (encodeStore (editedOnce P)) smallest)) (encodeBatch (batchOne P)) 412 ∷
+    gets (everything (makeReply basic (encodeStore (editedOnce P 9)) smallest)) (encodeBatch (batchOne P 9)) 412 ∷
     -- K12 P edits item 1, makes batch one for empty knowledge (K11), edits item 2, and makes batch two for batch one's
     -- learned knowledge, both over all ids. A new Q refuses two (18), takes one, then two
-    gets (editReply basic (encodeStore (editedOnce P)) (itemBytes 2) (tagBytes 8)) (encodeStore (editedTwice P)) 352 ∷
+    gets (editReply basic (encodeStore (editedOnce P 9)) (itemBytes 2) (tagBytes 8)) (encodeStore (editedTwice P)) 352 ∷
+    hands (learnedPart basic (encodeBatch (batchOne P 9))) (ofBatch 174 149) ∷
+    bytesAre (take 149 (drop 174 (encodeBatch (batchOne P 9)))) (encode (one P 1)) ∷
     gets (everything (makeReply basic (encodeStore (editedTwice P)) (encode (one P 1)))) (encodeBatch (batchTwo P)) 448 ∷
     refusesWith (applyReply basic (encodeStore (newOf Q)) (encodeBatch (batchTwo P))) 18 ∷
-    gets (applyReply basic (encodeStore (newOf Q)) (encodeBatch (batchOne P))) (encodeStore (store Q (one P 1) (fresh 1 P 1 9 ∷ []))) 263 ∷
+    gets (applyReply basic (encodeStore (newOf Q)) (encodeBatch (batchOne P 9))) (encodeStore (store Q (one P 1) (fresh 1 P 1 9 ∷ []))) 263 ∷
     gets (applyReply basic (encodeStore (store Q (one P 1) (fresh 1 P 1 9 ∷ []))) (encodeBatch (batchTwo P))) (encodeStore (store Q (one P 2) (fresh 1 P 1 9 ∷ fresh 2 P 2 8 ∷ []))) 352 ∷
+    []
+
+-- three of the replies with their bytes written out, for P1 and Q1
+unfoldable pub spelledRows : List Row
+spelledRows =
+    gets (projectReply basic (encode (one p1 5)) (itemBytes 1) (itemBytes 1)) bytesK6 205 ∷
+    gets (editReply basic (encodeStore (store p1 (two p1 1 q1 1) (fresh 1 q1 1 6 ∷ []))) (itemBytes 1) (tagBytes 7)) bytesK10 291 ∷
+    gets (everything (makeReply basic (encodeStore (editedOnce p1 9)) smallest)) bytesK11 412 ∷
     []
 
 unfoldable pub table : List (List Row)
 table =
     alone ∷
+    spelledRows ∷
     knowledgeRows p1 q1 ∷
     knowledgeRows p2 q2 ∷
     storeRows p1 q1 ∷
