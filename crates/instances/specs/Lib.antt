@@ -2,3 +2,4 @@
 pub mod Given
 pub mod Spelled
 pub mod Table
+pub mod Listed
