@@ -2,7 +2,7 @@
 -- then needed knowledge, learned knowledge, records." "A valid batch: records, kinds and tombstone tags as above, exact
 -- length, first not above last, both knowledges in normal form, learned unchanged by projecting onto the span, records
 -- inside the span, change and create versions contained in learned, change versions not in needed."
-use Prim.Native.Nat.{ℕ, _+_}
+use Prim.Native.Nat.{ℕ, suc, _+_}
 use mathlib.Core.Bool.{Bool, true, false, not}
 use mathlib.Core.List.{List, [], _∷_, _++_}
 use mathlib.Core.Option.{Option, none, some}
