@@ -1,38 +1,45 @@
--- Demand 3: for every list of calls, refused ones included, stores and machine agree at the end, every store and batch
--- is valid, applying two batches in either order or one twice gives the same bytes, equal knowledge means equal tables,
+-- Demand 3: for every list of calls, refused ones included, the stores begin as new returns them, stores and machine
+-- agree at the end, every store is valid, every batch is valid and holds what the machine remembers of it, applying two batches in either order or one twice gives the same bytes, equal knowledge means equal tables,
 -- and the second half of 18 is never met. Bytes and machine stay together along the list; a store's bytes are decided
 -- by its replica's ticks in the machine and the versions made, since normal forms with equal ticks are equal and the
 -- records follow from the ticks; and in the machine two applies commute and one twice is as one.
-use Prim.Native.Nat.{ℕ, zero, suc, _≤_, _<_, _^_}
+use Prim.Native.Nat.{ℕ, _≤_, _<_, _^_}
 use mathlib.Core.Path.{_≡_, refl, sym, ap, _∙_, subst}
-use mathlib.Core.Logic.{_⊎_, inl, inr, ⊎-elim}
+use mathlib.Core.Logic.{_⊎_, inl, inr, ⊎-elim, _↔_}
 use mathlib.Core.Bool.{Bool, true, false, not}
 use mathlib.Core.List.{List, [], _∷_}
-use mathlib.Core.Option.{Option, none, some}
+use mathlib.Core.Option.{some}
 use native.Mathlib.Omega.{arith}
-use lib.Dec.{leb, lit≤}
+use lib.Dec.{leb}
 use borrow.Author.Tests.{leb-true, leb-false}
-use Rattle.layout.specs.Rules.{Rules, Permitted, base, basic}
+use Rattle.layout.specs.Rules.{Rules, Permitted, basic}
 use Rattle.layout.proofs.Exact.{base-permitted}
 use Rattle.layout.specs.Knowledge.{Knowledge}
 use Rattle.ticks.specs.Known.{highest, known}
+use Rattle.ticks.specs.Calls.{line, idOf, wrongLength}
+use Rattle.ticks.proofs.Answers.{length-exact}
+use Rattle.ticks.proofs.ForCalls.{id-is}
 use Rattle.ticks.proofs.ForCover.{covers-for-exact}
 use Rattle.replication.specs.Record.{Rec}
-use Rattle.codec.proofs.Numbers.{power-positive}
+use Rattle.codec.specs.Number.{put}
+use Rattle.codec.specs.Reply.{gives}
+use Rattle.codec.proofs.Numbers.{put-length, put-be}
+use Rattle.codec.proofs.Replies.{fault-later, fault-none}
 use Rattle.replication.specs.Store.{Store, newStore, encodeStore, openStore}
-use Rattle.replication.specs.Batch.{Batch, openBatch}
+use Rattle.replication.specs.Batch.{Batch, inSpan, lacksChange, openBatch}
 use Rattle.replication.specs.Operate.{find}
-use Rattle.replication.specs.Calls.{applyReply, ownAhead}
-use Rattle.replication.specs.Lists.{Call, AllGiven, World, start, run, trace, outcome, batchNumber, putAt, keepStore}
-use Rattle.replication.specs.Machine.{Ticks, Remembered, State, initial, history, greatest, numbered, applies}
-use Rattle.replication.specs.Promise.{items, ends, machine, Agrees, Twofold, Promise}
-use Rattle.replication.proofs.Best.{Mem}
+use Rattle.replication.specs.Calls.{newReply, applyReply, ownAhead}
+use Rattle.replication.specs.Lists.{Call, AllGiven, World, start, outcome, batchNumber, keepStore}
+use Rattle.replication.specs.Machine.{Ticks, Remembered, State, initial, greatest, applies}
+use Rattle.replication.specs.Promise.{ends, machine, Agrees, BatchAgrees, Twofold, Promise}
+use Rattle.replication.proofs.Best.{holds-contained, greatest-top}
 use Rattle.replication.proofs.MachineGreatest.{greatest-equal}
-use Rattle.replication.proofs.MachineSteps.{numbered-mem, applies-versions, applies-batches, applies-commute, applies-twice}
-use Rattle.replication.proofs.Tables.{tables-equal}
-use Rattle.replication.proofs.StoreBytes.{store-bytes, store-opened}
+use Rattle.replication.proofs.MachineSteps.{numbered-mem, applies-commute, applies-twice}
+use Rattle.replication.proofs.Tables.{tables-equal, both-holds, in-span}
+use Rattle.replication.proofs.TablesSelected.{kept, kept-in}
+use Rattle.replication.proofs.ContentsValid.{lacks-exact}
 use Rattle.replication.proofs.AgreeForm.{form-unique}
-use Rattle.replication.proofs.AgreeInvariant.{StoreFollows, store-bounded, BatchFollows, Follows, grounds-store, own-alike, opens}
+use Rattle.replication.proofs.AgreeInvariant.{StoreFollows, store-bounded, BatchFollows, kept-some, Follows, grounds-store, own-alike, opens}
 use Rattle.replication.proofs.AgreeEdit.{put-same, store-moved}
 use Rattle.replication.proofs.AgreeRun.{start-follows, Numbered, paired-number, batch-open-at, apply-step, run-follows}
 
@@ -56,6 +63,45 @@ same-bytes R x y vs k p f g =
 some-same : {A : Type 0} (x y : A) → some x ≡ some y → x ≡ y
 some-same x y e = cc
 
+-- ---- the stores begin as new returns them
+
+pub begin : (p : ℕ) → p < 256 ^ 16 → newReply (put 16 p []) ≡ gives (start .stores p)
+unfolding newReply start
+begin p small =
+    fault-later (line 17 (wrongLength 16 (put 16 p []))) [] (gives (encodeStore (newStore (idOf 16 (put 16 p [])))))
+    (length-exact 16 (put 16 p []) .1 (omega (arith, put-length 16 p [])))
+    ∙ (fault-none [] (gives (encodeStore (newStore (idOf 16 (put 16 p []))))) tt
+    ∙ ap (λ (x : ℕ). gives (encodeStore (newStore x))) (id-is 16 (put 16 p []) ∙ put-be 16 p [] small))
+
+-- ---- the records of a batch
+
+module _ (R : Rules) (s : List ℕ) (vs : List Rec) (m : Remembered) (f : BatchFollows R s vs m) (i : ℕ) (r : Rec) where
+  batch-record : find i (f .b .records) ≡ some r → (greatest vs (m .ticks) i ≡ some r) × ((f .b .first ≤ i) × ((i ≤ f .b .last) × (known (f .b .needed) i (r .changeReplica) < r .changeTick)))
+  batch-record e =
+      let h = kept-some (f .b .first) (f .b .last) (f .b .needed) (greatest vs (m .ticks) i) r (sym (f .records i) ∙ e) in
+      let t = greatest-top vs (m .ticks) i r (h .0) in
+      let d = in-span (f .b .first) (f .b .last) (r .item) .0 (h .1 .0) in
+      let l : known (f .b .needed) (r .item) (r .changeReplica) < r .changeTick =
+      lacks-exact (f .b .needed) r (holds-contained (m .ticks) r (t .has) .0) .0 (h .1 .1) in (
+        h .0,
+        (omega (arith, d .0, t .item), (omega (arith, d .1, t .item), subst (λ (j : ℕ). known (f .b .needed) j (r .changeReplica) < r .changeTick) (t .item) l)),
+      )
+
+  record-batch : (greatest vs (m .ticks) i ≡ some r) × ((f .b .first ≤ i) × ((i ≤ f .b .last) × (known (f .b .needed) i (r .changeReplica) < r .changeTick))) → find i (f .b .records) ≡ some r
+  record-batch h =
+      let t = greatest-top vs (m .ticks) i r (h .0) in
+      let l : known (f .b .needed) (r .item) (r .changeReplica) < r .changeTick =
+      subst (λ (j : ℕ). known (f .b .needed) j (r .changeReplica) < r .changeTick) (sym (t .item)) (h .1 .1 .1) in
+      f .records i
+      ∙ (ap (kept (f .b .first) (f .b .last) (f .b .needed)) (h .0)
+      ∙ kept-in (f .b .first) (f .b .last) (f .b .needed) r
+      (both-holds (inSpan (f .b .first) (f .b .last) (r .item)) (lacksChange (f .b .needed) r)
+      (in-span (f .b .first) (f .b .last) (r .item) .1 (omega (arith, h .1 .0, t .item), omega (arith, h .1 .1 .0, t .item)))
+      (lacks-exact (f .b .needed) r (holds-contained (m .ticks) r (t .has) .0) .1 l)))
+
+  carried-exact : (find i (f .b .records) ≡ some r) ↔ ((greatest vs (m .ticks) i ≡ some r) × ((f .b .first ≤ i) × ((i ≤ f .b .last) × (known (f .b .needed) i (r .changeReplica) < r .changeTick))))
+  carried-exact = (batch-record, record-batch)
+
 -- ---- what bytes and machine that follow each other promise
 
 module _ (R : Rules) (permitted : Permitted (R .limits)) (accepts : (id : ℕ) → R .judge id ≡ 0) (w : World) (m : State) (f : Follows R w m) where
@@ -76,10 +122,22 @@ module _ (R : Rules) (permitted : Permitted (R .limits)) (accepts : (id : ℕ) �
   number : (n : ℕ) (s : List ℕ) → batchNumber n (w .batches) ≡ some s → Numbered R (m .versions) n s (m .batches)
   number n s e = paired-number R (m .versions) n s (w .batches) (m .batches) (f .batches) e
 
-  pub batches-open : (n : ℕ) (s : List ℕ) → batchNumber n (w .batches) ≡ some s → (b : Batch) × (openBatch R s ≡ some b)
-  batches-open n s e =
+  pub batches-agree : (n : ℕ) (s : List ℕ) → batchNumber n (w .batches) ≡ some s → BatchAgrees R m n s
+  batches-agree n s e =
       let x = number n s e in
-      (x .follows .b, batch-open-at R permitted accepts w m f n s e x)
+      record {
+        batch = x .follows .b;
+        opens = batch-open-at R permitted accepts w m f n s e x;
+        remembered = x .b;
+        remembers = x .is;
+        first = x .follows .first;
+        last = x .follows .last;
+        top = x .follows .top;
+        inside = x .follows .inside;
+        outside = x .follows .outside;
+        rising = x .follows .rising;
+        records = λ i r. carried-exact R s (m .versions) (x .b) (x .follows) i r;
+      }
 
   pub equal-tables : (p q : ℕ) (a b : Store) → p < 256 ^ 16 → q < 256 ^ 16 → openStore R (w .stores p) ≡ some a → openStore R (w .stores q) ≡ some b → a .knowledge ≡ b .knowledge → a .records ≡ b .records
   unfolding agree
@@ -172,18 +230,18 @@ module _ (R : Rules) (permitted : Permitted (R .limits)) (accepts : (id : ℕ) �
         same-bytes R x y (m .versions) (applies p (some (u .b)) (applies p (some (v .b)) m) .ticks p) p
         (store-moved R x (m .versions) (applies p (some (v .b)) (applies p (some (u .b)) m) .ticks p) (applies p (some (u .b)) (applies p (some (v .b)) m) .ticks p) p
         (λ i q. applies-commute p (u .b) (v .b) m p i q)
-        (after-two n1 n2 (t1 .room) (t1 .room) a b (t1 .middle) x u v ea eb (t1 .first) (t1 .second)))
-        (after-two n2 n1 (t2 .room) (t2 .room) b a (t2 .middle) y v u eb ea (t2 .first) (t2 .second))
+        (after-two n1 n2 (t1 .firstRoom) (t1 .secondRoom) a b (t1 .middle) x u v ea eb (t1 .first) (t1 .second)))
+        (after-two n2 n1 (t2 .firstRoom) (t2 .secondRoom) b a (t2 .middle) y v u eb ea (t2 .first) (t2 .second))
 
-    pub twice-once : (n room : ℕ) (a x y : List ℕ) → batchNumber n (w .batches) ≡ some a → outcome (applyReply R (w .stores p) a) room ≡ some x → outcome (applyReply R x a) room ≡ some y → x ≡ y
+    pub twice-once : (n room1 room2 : ℕ) (a x y : List ℕ) → batchNumber n (w .batches) ≡ some a → outcome (applyReply R (w .stores p) a) room1 ≡ some x → outcome (applyReply R x a) room2 ≡ some y → x ≡ y
     unfolding applies
-    twice-once n room a x y ea first second =
+    twice-once n room1 room2 a x y ea first second =
         let u = paired-number R (m .versions) n a (w .batches) (m .batches) (f .batches) ea in
         same-bytes R x y (m .versions) (applies p (some (u .b)) m .ticks p) p
-        (store-after w (applies p (some (u .b)) m) p x small (apply-step R permitted accepts w m f p n room a x small ea u first))
+        (store-after w (applies p (some (u .b)) m) p x small (apply-step R permitted accepts w m f p n room1 a x small ea u first))
         (store-moved R y (m .versions) (applies p (some (u .b)) (applies p (some (u .b)) m) .ticks p) (applies p (some (u .b)) m .ticks p) p
         (λ i q. applies-twice p (u .b) m p i q)
-        (after-two n n room room a a x y u u ea ea first second))
+        (after-two n n room1 room2 a a x y u u ea ea first second))
 
 -- ---- the theorem
 
@@ -198,10 +256,11 @@ demand3 R permitted accepts calls given =
     let m = machine R calls in
     let f = ends-follow R permitted accepts calls given in
     record {
+      begins = begin;
       agrees = agree R permitted accepts w m f;
-      batches = batches-open R permitted accepts w m f;
+      batches = batches-agree R permitted accepts w m f;
       eitherOrder = λ p n1 n2 a b x y small ea eb t1 t2. either-order R permitted accepts w m f p small n1 n2 a b x y ea eb t1 t2;
-      twice = λ p n room a x y small ea first second. twice-once R permitted accepts w m f p small n room a x y ea first second;
+      twice = λ p n room1 room2 a x y small ea first second. twice-once R permitted accepts w m f p small n room1 room2 a x y ea first second;
       equalTables = equal-tables R permitted accepts w m f;
       never18 = never-ahead R permitted accepts w m f;
     }

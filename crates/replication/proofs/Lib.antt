@@ -20,5 +20,9 @@ pub mod AgreeEdit
 pub mod AgreeMake
 pub mod AgreeApply
 pub mod AgreeRun
+pub mod ContentsValid
+pub mod ContentsMake
+pub mod ContentsEdit
+pub mod ContentsApply
 pub mod Demand3
 pub mod AgreeRefusals

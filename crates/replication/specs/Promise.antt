@@ -1,10 +1,12 @@
 -- What demand 3 promises of a list of calls.
 use Prim.Native.Nat.{ℕ, _<_, _≤_, _^_}
 use mathlib.Core.Path.{_≡_}
-use mathlib.Core.Bool.{Bool, true, false}
+use mathlib.Core.Logic.{_⊎_, _↔_}
+use mathlib.Core.Bool.{false}
 use mathlib.Core.List.{List, [], _∷_}
-use mathlib.Core.Option.{Option, none, some}
-use Rattle.codec.specs.Reply.{Reply, gives}
+use mathlib.Core.Option.{none, some}
+use Rattle.codec.specs.Number.{put}
+use Rattle.codec.specs.Reply.{gives}
 use Rattle.layout.specs.Rules.{Rules}
 use Rattle.layout.specs.Lawful.{Rising}
 use Rattle.ticks.specs.Known.{highest, known}
@@ -12,9 +14,9 @@ use Rattle.replication.specs.Record.{Rec}
 use Rattle.replication.specs.Store.{Store, openStore}
 use Rattle.replication.specs.Batch.{Batch, openBatch}
 use Rattle.replication.specs.Operate.{find}
-use Rattle.replication.specs.Calls.{applyReply, ownAhead}
+use Rattle.replication.specs.Calls.{newReply, applyReply, ownAhead}
 use Rattle.replication.specs.Lists.{Call, World, start, run, trace, outcome, batchNumber}
-use Rattle.replication.specs.Machine.{State, initial, history, greatest}
+use Rattle.replication.specs.Machine.{Remembered, State, initial, history, greatest, numbered}
 
 unfoldable pub items : List Rec → List ℕ
 items [] = []
@@ -41,21 +43,47 @@ pub record Agrees (R : Rules) (w : World) (m : State) (p : ℕ) : Type 0 where
   pub records : (i : ℕ) → i ≤ highest → find i (store .records) ≡ greatest (m .versions) (m .ticks p) i
   pub bounded : (i : ℕ) → highest < i → find i (store .records) ≡ none
 
+-- one batch made, with its bytes, compared with what the machine remembers under the same number
+pub record BatchAgrees (R : Rules) (m : State) (n : ℕ) (s : List ℕ) : Type 0 where
+  -- every batch made is valid
+  pub batch : Batch
+  pub opens : openBatch R s ≡ some batch
+  pub remembered : Remembered
+  pub remembers : numbered n (m .batches) ≡ some remembered
+  -- the span
+  pub first : batch .first ≡ remembered .first
+  pub last : batch .last ≡ remembered .last
+  pub top : batch .last ≤ highest
+  -- learned: the maker's known ticks inside the span, 0 outside
+  pub inside : (i q : ℕ) → batch .first ≤ i → i ≤ batch .last → known (batch .learned) i q ≡ remembered .ticks i q
+  pub outside : (i q : ℕ) → i ≤ highest → (i < batch .first) ⊎ (batch .last < i) → known (batch .learned) i q ≡ 0
+  -- its records, by rising item id, are, for each item of the span, the whole record of the greatest version that the
+  -- maker's ticks contained, where needed lacks that version, and no others
+  pub rising : Rising 0 (items (batch .records))
+  pub records :
+      (i : ℕ)
+      (r : Rec)
+      → (find i (batch .records) ≡ some r)
+      ↔ ((greatest (m .versions) (remembered .ticks) i ≡ some r) × ((batch .first ≤ i) × ((i ≤ batch .last) × (known (batch .needed) i (r .changeReplica) < r .changeTick))))
+
 -- one apply after the other, into buffers of any lengths; the bytes are there where neither is refused
 pub record Twofold (R : Rules) (s a b : List ℕ) (result : List ℕ) : Type 0 where
-  pub room : ℕ
+  pub firstRoom : ℕ
+  pub secondRoom : ℕ
   pub middle : List ℕ
-  pub first : outcome (applyReply R s a) room ≡ some middle
-  pub second : outcome (applyReply R middle b) room ≡ some result
+  pub first : outcome (applyReply R s a) firstRoom ≡ some middle
+  pub second : outcome (applyReply R middle b) secondRoom ≡ some result
 
 pub record Promise (R : Rules) (calls : List Call) : Type 0 where
+  -- "It starts from stores that new returned, each under an id of its own"
+  pub begins : (p : ℕ) → p < 256 ^ 16 → newReply (put 16 p []) ≡ gives (start .stores p)
   pub agrees : (p : ℕ) → p < 256 ^ 16 → Agrees R (ends R calls) (machine R calls) p
-  -- every batch made is valid
-  pub batches : (n : ℕ) (s : List ℕ) → batchNumber n (ends R calls .batches) ≡ some s → (b : Batch) × (openBatch R s ≡ some b)
+  -- every batch made is valid, and is what the machine remembers
+  pub batches : (n : ℕ) (s : List ℕ) → batchNumber n (ends R calls .batches) ≡ some s → BatchAgrees R (machine R calls) n s
   -- two batches of the list in either order end in the same store bytes, and one twice as once, wherever none of these
   -- applies is refused
   pub eitherOrder : (p m n : ℕ) (a b x y : List ℕ) → p < 256 ^ 16 → batchNumber m (ends R calls .batches) ≡ some a → batchNumber n (ends R calls .batches) ≡ some b → Twofold R (ends R calls .stores p) a b x → Twofold R (ends R calls .stores p) b a y → x ≡ y
-  pub twice : (p n room : ℕ) (a x y : List ℕ) → p < 256 ^ 16 → batchNumber n (ends R calls .batches) ≡ some a → outcome (applyReply R (ends R calls .stores p) a) room ≡ some x → outcome (applyReply R x a) room ≡ some y → x ≡ y
+  pub twice : (p n firstRoom secondRoom : ℕ) (a x y : List ℕ) → p < 256 ^ 16 → batchNumber n (ends R calls .batches) ≡ some a → outcome (applyReply R (ends R calls .stores p) a) firstRoom ≡ some x → outcome (applyReply R x a) secondRoom ≡ some y → x ≡ y
   -- two replicas with equal knowledge hold equal tables
   pub equalTables : (p q : ℕ) (a b : Store) → p < 256 ^ 16 → q < 256 ^ 16 → openStore R (ends R calls .stores p) ≡ some a → openStore R (ends R calls .stores q) ≡ some b → a .knowledge ≡ b .knowledge → a .records ≡ b .records
   -- the second half of 18 is never met

@@ -1,0 +1,311 @@
+-- What "a valid store" and "a valid batch" come to, in document 01's words and in plain numbers. Bytes open as a store
+-- exactly where they are the bytes of a value that meets document 01's list, and so for a batch: each test of the
+-- definitions is read as the relation on numbers that it decides.
+use Prim.Native.Nat.{ℕ, _≤_, _<_, _^_}
+use mathlib.Core.Path.{_≡_, refl, sym, ap, _∙_}
+use mathlib.Core.Logic.{_⊎_, _↔_}
+use mathlib.Core.Bool.{Bool, true, false, not}
+use mathlib.Core.List.{List, [], _∷_}
+use mathlib.Core.Option.{some}
+use native.Mathlib.Omega.{arith}
+use lib.Dec.{leb}
+use lib.ListN.{length}
+use borrow.Author.Tests.{leb-true, leb-false}
+use Rattle.codec.specs.Number.{Bytes}
+use Rattle.layout.specs.Rules.{Rules, Permitted, largestTick}
+use Rattle.layout.specs.Knowledge.{Knowledge}
+use Rattle.layout.specs.Lawful.{All, Rising, Lawful}
+use Rattle.layout.proofs.BackwardParts.{all-map}
+use Rattle.ticks.specs.Known.{highest, known, contains}
+use Rattle.ticks.specs.Normal.{Normal}
+use Rattle.ticks.specs.Operations.{project}
+use Rattle.ticks.proofs.Equality.{eqKnowledge-sound}
+use Rattle.ticks.proofs.Unique.{normal-sound}
+use Rattle.ticks.proofs.Operations.{normal-test}
+use Rattle.ticks.proofs.Algebra.{contains-yes, contains-more, contains-exact, project-outside}
+use Rattle.ticks.proofs.Largest.{alike-exact}
+use Rattle.ticks.proofs.LawfulResults.{top-below, below-top}
+use Rattle.replication.specs.Record.{Rec, both}
+use Rattle.replication.specs.Store.{Store, versionsIn, encodeStore, openStore}
+use Rattle.replication.specs.Batch.{Batch, inSpan, lacksChange, carried, encodeBatch, openBatch}
+use Rattle.replication.specs.Promise.{items}
+use Rattle.replication.proofs.Tables.{ValidRec, valid-recs, both-parts, both-holds, in-span}
+use Rattle.replication.proofs.RecordBytes.{FitsRec}
+use Rattle.replication.proofs.StoreBytes.{store-open, store-opened, valid-store}
+use Rattle.replication.proofs.BatchBytes.{batch-open, batch-opened, valid-batch}
+use Rattle.replication.proofs.AgreeForm.{form-projected}
+
+-- ---- versions
+
+-- "A version (i, p, t) is contained when t is 1 or more and at most that tick": the change and the create version
+pub versions-exact : (k : Knowledge) (r : Rec) → (versionsIn k r ≡ true) ↔ ((1 ≤ r .changeTick) × ((r .changeTick ≤ known k (r .item) (r .changeReplica)) × ((1 ≤ r .createTick) × (r .createTick ≤ known k (r .item) (r .createReplica)))))
+unfolding versionsIn
+versions-exact k r = (
+  λ e.
+      let p = both-parts (contains k (r .item) (r .changeReplica) (r .changeTick)) (contains k (r .item) (r .createReplica) (r .createTick)) e in
+      let a = contains-exact k (r .item) (r .changeReplica) (r .changeTick) .0 (p .0) in
+      let b = contains-exact k (r .item) (r .createReplica) (r .createTick) .0 (p .1) in
+      (a .0, (a .1, (b .0, b .1))),
+  λ h.
+      both-holds (contains k (r .item) (r .changeReplica) (r .changeTick)) (contains k (r .item) (r .createReplica) (r .createTick))
+      (contains-exact k (r .item) (r .changeReplica) (r .changeTick) .1 (h .0, h .1 .0))
+      (contains-exact k (r .item) (r .createReplica) (r .createTick) .1 (h .1 .1 .0, h .1 .1 .1)),
+)
+
+-- a change version, of a tick 1 or more, that a knowledge lacks
+pub lacks-exact : (k : Knowledge) (r : Rec) → 1 ≤ r .changeTick → (lacksChange k r ≡ true) ↔ (known k (r .item) (r .changeReplica) < r .changeTick)
+unfolding lacksChange
+lacks-exact k r one = (
+  λ e. go e (leb (r .changeTick) (known k (r .item) (r .changeReplica))) refl,
+  λ h. ap not (contains-more k (r .item) (r .changeReplica) (r .changeTick) h),
+)
+  where
+    go : not (contains k (r .item) (r .changeReplica) (r .changeTick)) ≡ true → (t : Bool) → leb (r .changeTick) (known k (r .item) (r .changeReplica)) ≡ t → known k (r .item) (r .changeReplica) < r .changeTick
+    go e true h =
+        let y : contains k (r .item) (r .changeReplica) (r .changeTick) ≡ true =
+        contains-yes k (r .item) (r .changeReplica) (r .changeTick) one (leb-true (r .changeTick) (known k (r .item) (r .changeReplica)) h) in
+        let z : not true ≡ true = ap not (sym y) ∙ e in
+        let o : _≡_ {A = ℕ} 0 1 = cc in
+        absurd (omega arith)
+    go e false h = leb-false (r .changeTick) (known k (r .item) (r .changeReplica)) h
+
+-- "records inside the span, change and create versions contained in learned, change versions not in needed"
+pub carried-exact : (b : Batch) (r : Rec) → (carried b r ≡ true) ↔ ((b .first ≤ r .item) × ((r .item ≤ b .last) × ((1 ≤ r .changeTick) × ((r .changeTick ≤ known (b .learned) (r .item) (r .changeReplica)) × ((1 ≤ r .createTick) × ((r .createTick ≤ known (b .learned) (r .item) (r .createReplica)) × (r .changeTick ≤ known (b .needed) (r .item) (r .changeReplica) → ⊥)))))))
+unfolding carried
+carried-exact b r = (
+  λ e.
+      let p = both-parts (inSpan (b .first) (b .last) (r .item)) (both (versionsIn (b .learned) r) (lacksChange (b .needed) r)) e in
+      let q = both-parts (versionsIn (b .learned) r) (lacksChange (b .needed) r) (p .1) in
+      let d = in-span (b .first) (b .last) (r .item) .0 (p .0) in
+      let v = versions-exact (b .learned) r .0 (q .0) in
+      let l : known (b .needed) (r .item) (r .changeReplica) < r .changeTick = lacks-exact (b .needed) r (v .0) .0 (q .1) in
+      (d .0, (d .1, (v .0, (v .1 .0, (v .1 .1 .0, (v .1 .1 .1, λ m. omega (arith, l, m))))))),
+  λ h.
+      both-holds (inSpan (b .first) (b .last) (r .item)) (both (versionsIn (b .learned) r) (lacksChange (b .needed) r))
+      (in-span (b .first) (b .last) (r .item) .1 (h .0, h .1 .0))
+      (both-holds (versionsIn (b .learned) r) (lacksChange (b .needed) r)
+      (versions-exact (b .learned) r .1 (h .1 .1 .0, (h .1 .1 .1 .0, (h .1 .1 .1 .1 .0, h .1 .1 .1 .1 .1 .0))))
+      (lacks-exact (b .needed) r (h .1 .1 .0) .1 (above (h .1 .1 .1 .1 .1 .1)))),
+)
+  where
+    above : (r .changeTick ≤ known (b .needed) (r .item) (r .changeReplica) → ⊥) → known (b .needed) (r .item) (r .changeReplica) < r .changeTick
+    above n = go (leb (r .changeTick) (known (b .needed) (r .item) (r .changeReplica))) refl
+      where
+        go : (t : Bool) → leb (r .changeTick) (known (b .needed) (r .item) (r .changeReplica)) ≡ t → known (b .needed) (r .item) (r .changeReplica) < r .changeTick
+        go true h = absurd (n (leb-true (r .changeTick) (known (b .needed) (r .item) (r .changeReplica)) h))
+        go false h = leb-false (r .changeTick) (known (b .needed) (r .item) (r .changeReplica)) h
+
+-- ---- records
+
+-- "Kind 1 live, kind 2 tombstone, body 88: item id 24, change replica 16, change tick 8, create replica 16, create tick
+-- 8, content tag 16 (zeros in a tombstone)"; "ticks 1 to 2^63 − 1, create tick at most change tick"
+pub record LawfulRec (r : Rec) : Type 0 where
+  pub kind : (r .kind ≡ 1) ⊎ (r .kind ≡ 2)
+  pub item : r .item < 256 ^ 24
+  pub changeReplica : r .changeReplica < 256 ^ 16
+  pub createReplica : r .createReplica < 256 ^ 16
+  pub tag : r .tag < 256 ^ 16
+  pub bare : r .kind ≡ 2 → r .tag ≡ 0
+  pub createTick : 1 ≤ r .createTick
+  pub order : r .createTick ≤ r .changeTick
+  pub changeTick : r .changeTick ≤ largestTick
+
+-- its change and create versions are contained in a knowledge
+pub record ContainedIn (k : Knowledge) (r : Rec) : Type 0 where
+  pub change : r .changeTick ≤ known k (r .item) (r .changeReplica)
+  pub create : r .createTick ≤ known k (r .item) (r .createReplica)
+
+pub all-two : (P Q C : Rec → Type 0) → ((r : Rec) → P r → Q r → C r) → (rs : List Rec) → All P rs → All Q rs → All C rs
+all-two P Q C f [] p q = tt
+all-two P Q C f (r ∷ rs) p q = (f r (p .0) (q .0), all-two P Q C f rs (p .1) (q .1))
+
+rec-of : (r : Rec) → FitsRec r → ValidRec r → LawfulRec r
+rec-of r f v =
+    record {
+      kind = f .kind;
+      item = f .item;
+      changeReplica = f .changeReplica;
+      createReplica = f .createReplica;
+      tag = f .tag;
+      bare = v .tag;
+      createTick = v .created;
+      order = v .order;
+      changeTick = v .changed;
+    }
+
+rec-fits : (r : Rec) → LawfulRec r → FitsRec r
+rec-fits r l =
+    let a : r .changeTick < 256 ^ 8 = omega (arith, l .changeTick) in
+    let b : r .createTick < 256 ^ 8 = omega (arith, l .changeTick, l .order) in
+    record {
+      kind = l .kind;
+      item = l .item;
+      changeReplica = l .changeReplica;
+      changeTick = a;
+      createReplica = l .createReplica;
+      createTick = b;
+      tag = l .tag;
+    }
+
+rec-valid : (r : Rec) → LawfulRec r → ValidRec r
+rec-valid r l = record { created = l .createTick; order = l .order; changed = l .changeTick; tag = l .bare }
+
+-- ---- stores
+
+-- "A valid store: records, kinds and tombstone tags as above, exact length, knowledge in normal form, each change and
+-- create version contained in it, own tick alike in all ranges"; records "at most 256" that "rise strictly by item id"
+pub record LawfulStore (R : Rules) (st : Store) : Type 0 where
+  pub own : st .own < 256 ^ 16
+  pub lawful : Lawful R (st .knowledge)
+  pub normal : Normal (st .knowledge)
+  pub alike : (i j : ℕ) → i ≤ highest → j ≤ highest → known (st .knowledge) i (st .own) ≡ known (st .knowledge) j (st .own)
+  pub count : length (st .records) ≤ R .limits .records
+  pub rising : Rising 0 (items (st .records))
+  pub records : All LawfulRec (st .records)
+  pub versions : All (ContainedIn (st .knowledge)) (st .records)
+
+module _ (R : Rules) (permitted : Permitted (R .limits)) (st : Store) where
+  store-lawful : (s : List ℕ) → Bytes s → openStore R s ≡ some st → (s ≡ encodeStore st) × LawfulStore R st
+  store-lawful s bytes e =
+      let o = store-opened R s st permitted bytes e in
+      let v = valid-store (R .limits) st .0 (o .1 .1) in
+      let n = normal-test (st .knowledge) .0 (v .normal) in
+      let rs = valid-recs (versionsIn (st .knowledge)) 0 (st .records) .0 (v .records) in (
+        o .0,
+        record {
+          own = o .1 .0 .own;
+          lawful = o .1 .0 .knowledge;
+          normal = n;
+          alike = alike-exact (st .knowledge) (st .own) (normal-sound (st .knowledge) n) .0 (v .alike) .known;
+          count = v .count;
+          rising = rs .0;
+          records =
+              all-two FitsRec (λ r. ValidRec r × (versionsIn (st .knowledge) r ≡ true)) LawfulRec (λ r f w. rec-of r f (w .0)) (st .records) (o .1 .0 .records) (rs .1);
+          versions =
+              all-map (λ r. ValidRec r × (versionsIn (st .knowledge) r ≡ true)) (ContainedIn (st .knowledge))
+              (λ r w. let c = versions-exact (st .knowledge) r .0 (w .1) in record { change = c .1 .0; create = c .1 .1 .1 }) (st .records) (rs .1);
+        },
+      )
+
+  pub lawful-opens : LawfulStore R st → openStore R (encodeStore st) ≡ some st
+  lawful-opens l =
+      store-open R st permitted
+      (record {
+        own = l .own;
+        knowledge = l .lawful;
+        count = omega (arith, l .count, permitted .records);
+        records = all-map LawfulRec FitsRec rec-fits (st .records) (l .records);
+      })
+      (valid-store (R .limits) st .1 (record {
+        count = l .count;
+        normal = normal-test (st .knowledge) .1 (l .normal);
+        alike = alike-exact (st .knowledge) (st .own) (normal-sound (st .knowledge) (l .normal)) .1 (record { known = l .alike });
+        records =
+            valid-recs (versionsIn (st .knowledge)) 0 (st .records) .1 (
+              l .rising,
+              all-two LawfulRec (ContainedIn (st .knowledge)) (λ r. ValidRec r × (versionsIn (st .knowledge) r ≡ true))
+                  (λ r a c. (
+                    rec-valid r a,
+                    versions-exact (st .knowledge) r .1 (omega (arith, a .createTick, a .order), (c .change, (a .createTick, c .create))),
+                  ))
+                  (st .records) (l .records) (l .versions),
+            );
+      }))
+
+pub store-exact : (R : Rules) (s : List ℕ) (st : Store) → Permitted (R .limits) → Bytes s → (openStore R s ≡ some st) ↔ ((s ≡ encodeStore st) × LawfulStore R st)
+store-exact R s st permitted bytes = (store-lawful R permitted st s bytes, λ h. ap (openStore R) (h .0) ∙ lawful-opens R permitted st (h .1))
+
+-- ---- batches
+
+-- "A valid batch: records, kinds and tombstone tags as above, exact length, first not above last, both knowledges in
+-- normal form, learned unchanged by projecting onto the span, records inside the span, change and create versions
+-- contained in learned, change versions not in needed"
+pub record LawfulBatch (R : Rules) (b : Batch) : Type 0 where
+  pub span : b .first ≤ b .last
+  pub last : b .last < 256 ^ 24
+  pub neededLawful : Lawful R (b .needed)
+  pub neededNormal : Normal (b .needed)
+  pub learnedLawful : Lawful R (b .learned)
+  pub learnedNormal : Normal (b .learned)
+  pub outside : (i p : ℕ) → i ≤ highest → (i < b .first) ⊎ (b .last < i) → known (b .learned) i p ≡ 0
+  pub count : length (b .records) ≤ R .limits .records
+  pub rising : Rising 0 (items (b .records))
+  pub records : All LawfulRec (b .records)
+  pub inside : All (λ r. (b .first ≤ r .item) × (r .item ≤ b .last)) (b .records)
+  pub versions : All (ContainedIn (b .learned)) (b .records)
+  pub lacked : All (λ r. known (b .needed) (r .item) (r .changeReplica) < r .changeTick) (b .records)
+
+module _ (R : Rules) (permitted : Permitted (R .limits)) (b : Batch) where
+  batch-lawful : (t : List ℕ) → Bytes t → openBatch R t ≡ some b → (t ≡ encodeBatch b) × LawfulBatch R b
+  batch-lawful t bytes e =
+      let o = batch-opened R t b permitted bytes e in
+      let v = valid-batch (R .limits) b .0 (o .1 .1) in
+      let rs = valid-recs (carried b) 0 (b .records) .0 (v .records) in
+      let same : project (b .first) (b .last) (b .learned) ≡ b .learned =
+      eqKnowledge-sound (project (b .first) (b .last) (b .learned)) (b .learned) (v .projected) in (
+        o .0,
+        record {
+          span = v .span;
+          last = o .1 .0 .last;
+          neededLawful = o .1 .0 .needed;
+          neededNormal = normal-test (b .needed) .0 (v .needed);
+          learnedLawful = o .1 .0 .learned;
+          learnedNormal = normal-test (b .learned) .0 (v .learned);
+          outside = λ i p h out. project-outside (b .first) (b .last) (b .learned) i p same h out;
+          count = v .count;
+          rising = rs .0;
+          records = all-two FitsRec (λ r. ValidRec r × (carried b r ≡ true)) LawfulRec (λ r f w. rec-of r f (w .0)) (b .records) (o .1 .0 .records) (rs .1);
+          inside =
+              all-map (λ r. ValidRec r × (carried b r ≡ true)) (λ r. (b .first ≤ r .item) × (r .item ≤ b .last))
+              (λ r w. let c = carried-exact b r .0 (w .1) in (c .0, c .1 .0)) (b .records) (rs .1);
+          versions =
+              all-map (λ r. ValidRec r × (carried b r ≡ true)) (ContainedIn (b .learned))
+              (λ r w. let c = carried-exact b r .0 (w .1) in record { change = c .1 .1 .1 .0; create = c .1 .1 .1 .1 .1 .0 }) (b .records) (rs .1);
+          lacked =
+              all-map (λ r. ValidRec r × (carried b r ≡ true)) (λ r. known (b .needed) (r .item) (r .changeReplica) < r .changeTick) (λ r w. lacked-of r (w .1)) (b .records) (rs .1);
+        },
+      )
+    where
+      lacked-of : (r : Rec) → carried b r ≡ true → known (b .needed) (r .item) (r .changeReplica) < r .changeTick
+      lacked-of r e = go (leb (r .changeTick) (known (b .needed) (r .item) (r .changeReplica))) refl
+        where
+          go : (t : Bool) → leb (r .changeTick) (known (b .needed) (r .item) (r .changeReplica)) ≡ t → known (b .needed) (r .item) (r .changeReplica) < r .changeTick
+          go true h = absurd (carried-exact b r .0 e .1 .1 .1 .1 .1 .1 (leb-true (r .changeTick) (known (b .needed) (r .item) (r .changeReplica)) h))
+          go false h = leb-false (r .changeTick) (known (b .needed) (r .item) (r .changeReplica)) h
+
+  pub lawful-opens-batch : LawfulBatch R b → openBatch R (encodeBatch b) ≡ some b
+  lawful-opens-batch l =
+      let top : b .last ≤ highest = below-top (b .last) (l .last) in
+      batch-open R b permitted
+      (record {
+        first = top-below (b .first) (omega (arith, l .span, top));
+        last = l .last;
+        needed = l .neededLawful;
+        learned = l .learnedLawful;
+        count = omega (arith, l .count, permitted .records);
+        records = all-map LawfulRec FitsRec rec-fits (b .records) (l .records);
+      })
+      (valid-batch (R .limits) b .1 (record {
+        count = l .count;
+        span = l .span;
+        needed = normal-test (b .needed) .1 (l .neededNormal);
+        learned = normal-test (b .learned) .1 (l .learnedNormal);
+        projected = form-projected R (b .first) (b .last) (b .learned) (record { lawful = l .learnedLawful; normal = l .learnedNormal }) (l .outside);
+        records =
+            valid-recs (carried b) 0 (b .records) .1 (
+              l .rising,
+              all-two LawfulRec (λ r. ((b .first ≤ r .item) × (r .item ≤ b .last)) × (ContainedIn (b .learned) r × (known (b .needed) (r .item) (r .changeReplica) < r .changeTick))) (λ r. ValidRec r × (carried b r ≡ true)) (λ r a c. (rec-valid r a, carries r a c)) (b .records) (l .records)
+                  (all-two (λ r. (b .first ≤ r .item) × (r .item ≤ b .last)) (λ r. ContainedIn (b .learned) r × (known (b .needed) (r .item) (r .changeReplica) < r .changeTick)) (λ r. ((b .first ≤ r .item) × (r .item ≤ b .last)) × (ContainedIn (b .learned) r × (known (b .needed) (r .item) (r .changeReplica) < r .changeTick))) (λ r x y. (x, y)) (b .records) (l .inside)
+                  (all-two (ContainedIn (b .learned)) (λ r. known (b .needed) (r .item) (r .changeReplica) < r .changeTick) (λ r. ContainedIn (b .learned) r × (known (b .needed) (r .item) (r .changeReplica) < r .changeTick)) (λ r x y. (x, y)) (b .records) (l .versions) (l .lacked))),
+            );
+      }))
+    where
+      carries : (r : Rec) → LawfulRec r → ((b .first ≤ r .item) × (r .item ≤ b .last)) × (ContainedIn (b .learned) r × (known (b .needed) (r .item) (r .changeReplica) < r .changeTick)) → carried b r ≡ true
+      carries r a c =
+          carried-exact b r .1 (
+            c .0 .0,
+            (c .0 .1, (omega (arith, a .createTick, a .order), (c .1 .0 .change, (a .createTick, (c .1 .0 .create, λ m. omega (arith, c .1 .1, m)))))),
+          )
+
+pub batch-exact : (R : Rules) (t : List ℕ) (b : Batch) → Permitted (R .limits) → Bytes t → (openBatch R t ≡ some b) ↔ ((t ≡ encodeBatch b) × LawfulBatch R b)
+batch-exact R t b permitted bytes = (batch-lawful R permitted b t bytes, λ h. ap (openBatch R) (h .0) ∙ lawful-opens-batch R permitted b (h .1))
