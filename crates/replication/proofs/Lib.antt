@@ -26,3 +26,7 @@ pub mod ContentsEdit
 pub mod ContentsApply
 pub mod Demand3
 pub mod AgreeRefusals
+pub mod QueriesPlaces
+pub mod QueriesWalk
+pub mod QueriesWinner
+pub mod QueriesCoverage

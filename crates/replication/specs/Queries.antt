@@ -27,6 +27,33 @@ pub data Part : Type 0 where
   ofBatch : ℕ → ℕ → Part
   refusal : ℕ → Part
 
+-- document 01's number and values of a part: the number, 0 where nothing is refused; whose the part is, 0 nobody's, 1 the
+-- store's, 2 the batch's; where it begins and how long it is, both 0 "for an item on neither side". On a refusal only the
+-- number returns: where the values are put, the old ones stay
+unfoldable pub partNumber : Part → ℕ
+partNumber nothing = 0
+partNumber (ofStore at n) = 0
+partNumber (ofBatch at n) = 0
+partNumber (refusal k) = k
+
+unfoldable pub partSide : Part → ℕ → ℕ
+partSide nothing old = 0
+partSide (ofStore at n) old = 1
+partSide (ofBatch at n) old = 2
+partSide (refusal k) old = old
+
+unfoldable pub partAtPlace : Part → ℕ → ℕ
+partAtPlace nothing old = 0
+partAtPlace (ofStore at n) old = at
+partAtPlace (ofBatch at n) old = at
+partAtPlace (refusal k) old = old
+
+unfoldable pub partLength : Part → ℕ → ℕ
+partLength nothing old = 0
+partLength (ofStore at n) old = n
+partLength (ofBatch at n) old = n
+partLength (refusal k) old = old
+
 -- where the record of an item stands among n records from a place on
 unfoldable pub placeOf : List ℕ → ℕ → ℕ → ℕ → ℕ
 placeOf s i zero at = at
@@ -85,6 +112,23 @@ toGive s at = walkFrom (length s) s at
 pub data Coverage : Type 0 where
   covered : (inside all thousandths : ℕ) → Coverage
   refusal : ℕ → Coverage
+
+-- document 01's number and values of a coverage, from the values before the call
+unfoldable pub coverageNumber : Coverage → ℕ
+coverageNumber (covered inside all t) = 0
+coverageNumber (Coverage.refusal k) = k
+
+unfoldable pub coverageContained : Coverage → ℕ → ℕ
+coverageContained (covered inside all t) old = inside
+coverageContained (Coverage.refusal k) old = old
+
+unfoldable pub coverageAll : Coverage → ℕ → ℕ
+coverageAll (covered inside all t) old = all
+coverageAll (Coverage.refusal k) old = old
+
+unfoldable pub coverageThousandths : Coverage → ℕ → ℕ
+coverageThousandths (covered inside all t) old = t
+coverageThousandths (Coverage.refusal k) old = old
 
 unfoldable pub countIn : Knowledge → List Rec → ℕ
 countIn k [] = 0

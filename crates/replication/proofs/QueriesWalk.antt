@@ -1,0 +1,109 @@
+-- The walker over a lent table. At a place where a whole record of kind 1 or 2 stands it gives that record and goes on
+-- behind it, 89 bytes further on; anywhere else it has nothing to give. The bound on its steps, the number of bytes, is
+-- never met: a step goes over 89 bytes, so as many steps as bytes are left always suffice. So over the bytes of a table,
+-- to their very end, it gives the records of the table in their order, and this is what stands at the end of every
+-- valid store and batch.
+use Prim.Native.Nat.{ℕ, zero, suc, _+_, _≤_}
+use mathlib.Core.Path.{_≡_, refl, sym, ap, _∙_}
+use mathlib.Core.Bool.{Bool, true, false}
+use mathlib.Core.Logic.{_⊎_}
+use mathlib.Core.List.{List, [], _∷_}
+use mathlib.Core.Option.{some}
+use native.Mathlib.Omega.{arith}
+use lib.Dec.{leb, eqb}
+use lib.ListN.{length}
+use borrow.Author.Tests.{le-leb}
+use Rattle.codec.specs.Number.{Bytes, beAt}
+use Rattle.layout.specs.Rules.{Rules, Permitted}
+use Rattle.layout.specs.Lawful.{All}
+use Rattle.layout.specs.Encode.{encode}
+use Rattle.layout.proofs.Chain.{Stands, stands-length}
+use Rattle.replication.specs.Record.{Rec, recAt, putRecs, whole}
+use Rattle.replication.specs.Store.{Store, openStore}
+use Rattle.replication.specs.Batch.{Batch, openBatch}
+use Rattle.replication.specs.Queries.{walkFrom, toGive}
+use Rattle.replication.proofs.RecordBytes.{FitsRec, whole-back, kind-length, kind-reads, rec-reads, rec-over}
+use Rattle.replication.proofs.QueriesPlaces.{store-places, batch-places}
+
+-- a whole record of a known kind stands at the place
+pub record RecordHere (s : List ℕ) (at : ℕ) : Type 0 where
+  pub kind : (beAt s 1 at ≡ 1) ⊎ (beAt s 1 at ≡ 2)
+  pub inside : at + 89 ≤ length s
+
+here-whole : (s : List ℕ) (at : ℕ) → RecordHere s at → whole s at ≡ true
+unfolding whole
+here-whole s at h =
+    ap {B = Bool} (λ n. elim (eqb n 0) [ true ↦ false | false ↦ leb (at + n) (length s) ]) (kind-length (beAt s 1 at) (h .kind))
+    ∙ le-leb (at + 89) (length s) (h .inside)
+
+whole-here : (s : List ℕ) (at : ℕ) → whole s at ≡ true → RecordHere s at
+whole-here s at e = let w = whole-back s at e in record { kind = w .kind; inside = w .inside }
+
+whole-not : (s : List ℕ) (at : ℕ) → (RecordHere s at → ⊥) → whole s at ≡ false
+whole-not s at h = go (whole s at) refl
+  where
+    go : (t : Bool) → whole s at ≡ t → t ≡ false
+    go true e = absurd (h (whole-here s at e))
+    go false e = refl
+
+-- ---- steps
+
+from-step : (n : ℕ) (s : List ℕ) (at : ℕ) → RecordHere s at → walkFrom (suc n) s at ≡ recAt s at ∷ walkFrom n s (at + 89)
+unfolding walkFrom
+from-step n s at h = rw (here-whole s at h, kind-length (beAt s 1 at) (h .kind), walkFrom)
+
+from-end : (n : ℕ) (s : List ℕ) (at : ℕ) → (RecordHere s at → ⊥) → walkFrom n s at ≡ []
+unfolding walkFrom
+from-end zero s at h = refl
+from-end (suc n) s at h = rw (whole-not s at h, walkFrom)
+
+-- as many steps as bytes are left suffice, and more change nothing
+enough : (n m : ℕ) (s : List ℕ) (at : ℕ) → length s ≤ at + n → length s ≤ at + m → walkFrom n s at ≡ walkFrom m s at
+enough zero m s at h l =
+    from-end zero s at (λ w. omega (arith, w .inside)) ∙ sym (from-end m s at (λ w. omega (arith, w .inside)))
+enough (suc n) zero s at h l =
+    from-end (suc n) s at (λ w. omega (arith, w .inside)) ∙ sym (from-end zero s at (λ w. omega (arith, w .inside)))
+enough (suc n) (suc m) s at h l = go (whole s at) refl (enough n m s (at + 89) (omega arith) (omega arith))
+  where
+    go : (t : Bool) → whole s at ≡ t → walkFrom n s (at + 89) ≡ walkFrom m s (at + 89) → walkFrom (suc n) s at ≡ walkFrom (suc m) s at
+    go true e i =
+        let w = whole-here s at e in
+        from-step n s at w ∙ ap {B = List Rec} (λ rs. recAt s at ∷ rs) i ∙ sym (from-step m s at w)
+    go false e i =
+        let w : RecordHere s at → ⊥ = λ (x : RecordHere s at). let z : _≡_ {A = ℕ} 0 1 = cc (here-whole s at x) in omega arith in
+        from-end (suc n) s at w ∙ sym (from-end (suc m) s at w)
+
+-- where a whole record of a known kind stands, the walker gives it and goes on behind it
+pub walk-step : (s : List ℕ) (at : ℕ) → (beAt s 1 at ≡ 1) ⊎ (beAt s 1 at ≡ 2) → at + 89 ≤ length s → toGive s at ≡ recAt s at ∷ toGive s (at + 89)
+unfolding toGive
+walk-step s at k l =
+    enough (length s) (suc (length s)) s at (omega arith) (omega arith)
+    ∙ from-step (length s) s at (record { kind = k; inside = l })
+
+-- "it ends where no whole record of a known kind follows"
+pub walk-end : (s : List ℕ) (at : ℕ) → (((beAt s 1 at ≡ 1) ⊎ (beAt s 1 at ≡ 2)) → at + 89 ≤ length s → ⊥) → toGive s at ≡ []
+unfolding toGive
+walk-end s at h = from-end (length s) s at (λ w. h (w .kind) (w .inside))
+
+-- ---- tables
+
+-- the records that stand from a place on, to the very end, are given in turn
+pub walk-table : (s : List ℕ) (at : ℕ) (rs : List Rec) → All FitsRec rs → Stands s at (putRecs rs []) → toGive s at ≡ rs
+unfolding putRecs
+walk-table s at [] f h = walk-end s at (λ k l. omega (arith, stands-length s at [] h))
+walk-table s at (r ∷ rs) f h =
+    let o = rec-over s at r (putRecs rs []) h in
+    walk-step s at (rw (kind-reads s at r (putRecs rs []) h (f .0)) (f .0 .kind)) (o .inside)
+    ∙ rw (rec-reads s at r (putRecs rs []) h (f .0), walk-table s (at + 89) rs (f .1) o)
+
+-- over a valid store, from its first record on, its records are given
+pub walk-store : (R : Rules) (s : List ℕ) (st : Store) → Permitted (R .limits) → Bytes s → openStore R s ≡ some st → toGive s (25 + length (encode (st .knowledge))) ≡ st .records
+walk-store R s st p b e =
+    let h = store-places R s st p b e in
+    walk-table s (25 + length (encode (st .knowledge))) (st .records) (h .fits) (h .records)
+
+-- over a valid batch too
+pub walk-batch : (R : Rules) (s : List ℕ) (b : Batch) → Permitted (R .limits) → Bytes s → openBatch R s ≡ some b → toGive s (61 + length (encode (b .needed)) + length (encode (b .learned))) ≡ b .records
+walk-batch R s b p y e =
+    let h = batch-places R s b p y e in
+    walk-table s (61 + length (encode (b .needed)) + length (encode (b .learned))) (b .records) (h .fits) (h .records)
