@@ -15,6 +15,8 @@ use Rattle.layout.specs.declared.Got.{Got}
 use Rattle.layout.specs.declared.Got.the-variants.{Num, Fault}
 use Rattle.layout.specs.Rules.{basic}
 use Rattle.layout.specs.Read.{_▷_, number, among, judged, replicaId}
+use Rattle.reader.specs.Method.{leAt}
+use Rattle.reader.proofs.Little.{be-le}
 use Rattle.reader.proofs.Steps.{Went, number-there, number-short}
 use Rattle.codec.proofs.Order.{words2-be, words2-same, word-below}
 
@@ -64,7 +66,7 @@ module _ (s : List ℕ) (start k at : ℕ) where
   unfolding replicaId
   id-there-seen h m = rw (number-there s 16 k at h, m, _▷_)
 
-  id-there-new : at + 16 ≤ length s → among s 16 16 start k (beAt s 16 at) ≡ false → replicaId basic s start k at ≡ Num (k + 1) (at + 16)
+  pub id-there-new : at + 16 ≤ length s → among s 16 16 start k (beAt s 16 at) ≡ false → replicaId basic s start k at ≡ Num (k + 1) (at + 16)
   unfolding replicaId judged
   id-there-new h m = rw (number-there s 16 k at h, m, _▷_)
 
@@ -99,5 +101,26 @@ id-went s start k at g e y b f = by-length (leb (at + 16) (length s)) refl (amon
         let p : y ≡ k + 1 = cc (id-there-new s start k at h m) in
         let q : b ≡ at + 16 = cc (id-there-new s start k at h m) in
         record { count = p; place = q; inside = omega arith }
+
+-- two ids whose words, lowest byte first, are not both the same
+pub id-other :
+    (s : List ℕ) (p at a b : ℕ)
+    → Bytes s
+    → a ≡ leAt s 8 at
+    → b ≡ leAt s 8 (at + 8)
+    → (leAt s 8 p ≡ a → leAt s 8 (p + 8) ≡ b → ⊥)
+    → beAt s 16 p ≡ beAt s 16 at
+    → ⊥
+id-other s p at a b o e f ne h =
+    let w =
+    words2-same
+    (beAt s 8 p)
+    (beAt s 8 (p + 8))
+    (beAt s 8 at)
+    (beAt s 8 (at + 8))
+    (word-below s (p + 8) o)
+    (word-below s (at + 8) o)
+    (sym (words2-be s p) ∙ h ∙ words2-be s at) in
+    ne (be-le s 8 p at o (w .0) ∙ sym e) (be-le s 8 (p + 8) (at + 8) o (w .1) ∙ sym f)
 
 pub ruleset ids = (id-unlike, id-like, id-short, id-seen, id-new)

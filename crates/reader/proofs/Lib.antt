@@ -9,3 +9,7 @@ pub mod Element
 pub mod Vector
 pub mod Bound
 pub mod Parts
+pub mod Little
+pub mod Known
+pub mod Marked
+pub mod Quick

@@ -188,3 +188,34 @@ module _ (s : List ℕ) (r v at : ℕ) (g : Got) (i : g ≡ firstVector s 0 at) 
       u
       ∙ ap (λ (y : ℕ). repeat (vector s r) (v - 1) y b) (sym (first-empty x b t))
       ∙ sym (ap (λ (k : Got). k ▷ repeat (vector s r) (v - 1)) (sym i ∙ t))
+
+-- ---- a vector without a fault
+
+pub vector-known :
+    (s : List ℕ) (r e at n next : ℕ)
+    → at + 8 ≤ length s
+    → beAt s 4 at ≡ 1
+    → n ≡ beAt s 4 (at + 4)
+    → n ≤ r
+    → repeat (element s r (at + 8)) n 0 (at + 8) ≡ Num n (at + 8 + 12 * n)
+    → next ≡ at + 8 + 12 * n
+    → Num (e + n) next ≡ vector s r e at
+vector-known s r e at n next h f g l i p =
+    ap (λ (b : ℕ). Num (e + n) b) p
+    ∙ vector-good
+    s
+    r
+    e
+    at
+    (Num (beAt s 4 (at + 4)) (at + 8))
+    (Num n (at + 8))
+    (count-there s at h f)
+    (ap (λ (x : ℕ). Num x (at + 8)) g ∙ limit-in 0 r (Num (beAt s 4 (at + 4)) (at + 8)) (beAt s 4 (at + 4)) (at + 8) refl (omega arith) (omega arith))
+    n
+    (at + 8)
+    refl
+    (Num n (at + 8 + 12 * n))
+    (sym i)
+    n
+    (at + 8 + 12 * n)
+    refl

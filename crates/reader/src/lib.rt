@@ -2,6 +2,7 @@
 use layout::Checked;
 use layout::Got;
 ghost use mathlib.Core.Path.{_≡_};
+ghost use mathlib.Core.Bool.{true, false};
 ghost use Prim.Native.Nat.{ℕ, suc, _+_, _-_, _*_, _^_, _≤_, _<_};
 ghost use lib.Dec.{eqb, ltb};
 ghost use lib.ListN.{length, getD};
@@ -10,7 +11,7 @@ ghost use Rattle.layout.specs.Rules.{basic};
 ghost use Rattle.layout.specs.Read.{_▷_, repeat, number, same, fields, limit, empty, among, replicaId, element, firstVector, vector, range};
 ghost use Rattle.layout.specs.Fields.{opening, beforeVectors, beforeElements, beforeRanges, closing};
 ghost use Rattle.layout.specs.Parse.{replicaMap, vectorCount, vectorList, rangeList, checked};
-ghost use Rattle.reader.specs.Method.{Word, placeOf, rangesFrom, rangesAfter, afterMap, afterCount, afterVectors, afterRanges};
+ghost use Rattle.reader.specs.Method.{Word, leAt, Little, Opened, Counting, Ranging, Reached, placeOf, rangesFrom, rangesAfter, afterMap, afterCount, afterVectors, afterRanges};
 
 // the most replicas, and the most ranges
 const REPLICAS: usize = 16;
@@ -560,12 +561,315 @@ fn after_map(s: &[u8], r: usize, at: usize) -> Checked
     }
 }
 
-// Checks the bytes of a knowledge: its counts, or the number of the first fault.
-pub fn check(s: &[u8]) -> Checked
+// The check, field by field.
+fn exact(s: &[u8]) -> Checked
     ensures { λ r. ⌜ r ≡ checked basic (now (s .entry)) ⌝ }
 {
     match replica_map(s) {
         Got::Num(r, at) => after_map(s, r, at),
         Got::Fault(n) => Checked::Refused(n),
     }
+}
+
+// ---- the same in whole words, where nothing is amiss; whatever is amiss is left to the check field by field
+
+fn slow(s: &[u8]) -> Checked
+    ensures { λ r. ⌜ r ≡ checked basic (now (s .entry)) ⌝ }
+{
+    exact(&s[..])
+}
+
+fn little2(s: &[u8], at: usize) -> usize
+    requires { ⌜ at + 2 ≤ length (now s) ⌝ }
+    ensures { λ r. ⌜ Little (now (s .entry)) 2 at r ⌝ }
+{
+    wide(s[at]) + wide(s[at + 1]) * 256
+}
+
+fn little4(s: &[u8], at: usize) -> usize
+    requires { ⌜ at + 4 ≤ length (now s) ⌝ }
+    ensures { λ r. ⌜ Little (now (s .entry)) 4 at r ⌝ }
+{
+    wide(s[at]) + wide(s[at + 1]) * 256 + wide(s[at + 2]) * 65536 + wide(s[at + 3]) * 16777216
+}
+
+fn little8(s: &[u8], at: usize) -> usize
+    requires { ⌜ at + 8 ≤ length (now s) ⌝ }
+    ensures { λ r. ⌜ Little (now (s .entry)) 8 at r ⌝ }
+{
+    little4(s, at) + little4(s, at + 4) * 4294967296
+}
+
+// The opening, and all but the last byte of the count r.
+fn opening_good(s: &[u8]) -> bool
+    requires { ⌜ 27 ≤ length (now s) ⌝ }
+    ensures { λ r. ⌜ (r ≡ true → Opened (now (s .entry))) ⌝ }
+{
+    if little8(s, 0) != 83886080 {
+        return false;
+    }
+    if little8(s, 8) != 16777216 {
+        return false;
+    }
+    if little4(s, 16) != 83886080 {
+        return false;
+    }
+    if little4(s, 20) != 1048576 {
+        return false;
+    }
+    little2(s, 24) == 0
+}
+
+// The fields before the vectors, and all but the last byte of the count v.
+fn before_vectors_good(s: &[u8], at: usize) -> bool
+    requires { ⌜ at + 21 ≤ length (now s) ⌝ }
+    ensures { λ r. ⌜ (r ≡ true → Counting (now (s .entry)) at) ⌝ }
+{
+    if little8(s, at) != 4503600030023680 {
+        return false;
+    }
+    if little8(s, at + 8) != 4294973440 {
+        return false;
+    }
+    little4(s, at + 16) == 21
+}
+
+// The fields before the ranges, and all but the last byte of the count g.
+fn before_ranges_good(s: &[u8], at: usize) -> bool
+    requires { ⌜ at + 16 ≤ length (now s) ⌝ }
+    ensures { λ r. ⌜ (r ≡ true → Ranging (now (s .entry)) at) ⌝ }
+{
+    if little8(s, at) != 72057594423803904 {
+        return false;
+    }
+    if little4(s, at + 8) != 369098752 {
+        return false;
+    }
+    if little2(s, at + 12) != 0 {
+        return false;
+    }
+    wide(s[at + 14]) == 0
+}
+
+fn closing_good(s: &[u8], at: usize) -> bool
+    requires { ⌜ at + 13 ≤ length (now s) ⌝ }
+    ensures { λ r. ⌜ (r ≡ true → fields (now (s .entry)) closing 0 at ≡ Got.Num 0 (at + 13)) ⌝ }
+{
+    if little8(s, at) != 1801439850948198400 {
+        return false;
+    }
+    if wide(s[at + 8]) != 1 {
+        return false;
+    }
+    little4(s, at + 9) == 0
+}
+
+// Do two words stand at a place.
+fn words_at(s: &[u8], at: usize, a: usize, b: usize) -> bool
+    requires { ⌜ at + 16 ≤ length (now s) ⌝ }
+    ensures { λ r. ⌜ (r ≡ false → leAt (now (s .entry)) 8 at ≡ a → leAt (now (s .entry)) 8 (at + 8) ≡ b → ⊥) ⌝ }
+{
+    if little8(s, at) != a {
+        return false;
+    }
+    little8(s, at + 8) == b
+}
+
+// Is the id at a place none of the k first ids.
+fn id_good(s: &[u8], k: usize, at: usize) -> bool
+    requires { ⌜ (27 + 16 * k ≤ length (now s)) × (at + 16 ≤ length (now s)) ⌝ }
+    ensures { λ r. ⌜ (r ≡ true → among (now (s .entry)) 16 16 27 k (beAt (now (s .entry)) 16 at) ≡ false) ⌝ }
+{
+    let a = little8(s, at);
+    let b = little8(s, at + 8);
+    let mut i: usize = 0;
+    let mut p: usize = 27;
+    while i < k {
+        if words_at(s, p, a, b) {
+            return false;
+        }
+        p += 16;
+        i += 1;
+    }
+    true
+}
+
+// The replica ids.
+fn ids_good(s: &[u8], n: usize) -> bool
+    requires { ⌜ 27 + 16 * n ≤ length (now s) ⌝ }
+    ensures { λ r. ⌜ (r ≡ true → repeat (replicaId basic (now (s .entry)) 27) n 0 27 ≡ Got.Num n (27 + 16 * n)) ⌝ }
+{
+    let mut k: usize = 0;
+    let mut at: usize = 27;
+    while k < n {
+        if id_good(s, k, at) {
+            at += 16;
+            k += 1;
+        } else {
+            return false;
+        }
+    }
+    true
+}
+
+// The n elements of a clock vector.
+fn elements_good(s: &[u8], r: usize, n: usize, start: usize) -> bool
+    requires { ⌜ (r ≤ 16) × (start + 12 * n ≤ length (now s)) ⌝ }
+    ensures { λ g. ⌜ (g ≡ true → repeat (element (now (s .entry)) r start) n 0 start ≡ Got.Num n (start + 12 * n)) ⌝ }
+{
+    let mut seen = [0u8; REPLICAS];
+    let mut bad: u8 = 0;
+    let mut k: usize = 0;
+    let mut at = start;
+    while k < n {
+        let key = four(s, at);
+        if r <= key {
+            return false;
+        }
+        bad = bad | seen[key];
+        bad = bad | s[at + 4];
+        seen[key] = 128;
+        at += 12;
+        k += 1;
+    }
+    bad < 128
+}
+
+// The vectors after the first, with 57 bytes or more after them: what follows the vectors takes no less.
+fn vectors_good(s: &[u8], r: usize, v: usize, start: usize) -> Got
+    requires { ⌜ (r ≤ 16) × (start + 57 ≤ length (now s)) ⌝ }
+    ensures { λ g. ⌜ Reached (now (s .entry)) 57 (repeat (vector (now (s .entry)) r) (v - 1) 0 start) g ⌝ }
+{
+    let room = s.len() - 57;
+    let mut k: usize = 1;
+    let mut e: usize = 0;
+    let mut at = start;
+    while k < v {
+        if little4(s, at) != 16777216 {
+            return Got::Fault(0);
+        }
+        let n = four(s, at + 4);
+        if r < n {
+            return Got::Fault(0);
+        }
+        let next = at + 8 + 12 * n;
+        if room < next {
+            return Got::Fault(0);
+        }
+        if elements_good(s, r, n, at + 8) {
+            at = next;
+            e += n;
+            k += 1;
+        } else {
+            return Got::Fault(0);
+        }
+    }
+    Got::Num(e, at)
+}
+
+// The ranges, of which there is one or more.
+fn ranges_good(s: &[u8], v: usize, g: usize, start: usize) -> bool
+    requires { ⌜ (1 ≤ g) × (start + 28 * g ≤ length (now s)) ⌝ }
+    ensures { λ r. ⌜ (r ≡ true → rangesFrom (now (s .entry)) v g start ≡ Got.Num g (start + 28 * g)) ⌝ }
+{
+    if v <= four(s, start + 24) {
+        return false;
+    }
+    let mut a = eight(s, start);
+    let mut b = eight(s, start + 8);
+    let mut c = eight(s, start + 16);
+    let mut k: usize = 1;
+    let mut at = start + 28;
+    while k < g {
+        let x = eight(s, at);
+        let y = eight(s, at + 8);
+        let z = eight(s, at + 16);
+        if less(a, b, c, x, y, z) {
+            if v <= four(s, at + 24) {
+                return false;
+            }
+            a = x;
+            b = y;
+            c = z;
+            at += 28;
+            k += 1;
+        } else {
+            return false;
+        }
+    }
+    true
+}
+
+// The check from the fields after the vectors on.
+fn ranges_fast(s: &[u8], r: usize, v: usize, e: usize, at: usize) -> Checked
+    requires { ⌜ (at + 57 ≤ length (now s)) × (checked basic (now s) ≡ afterVectors (now s) r v e at) ⌝ }
+    ensures { λ c. ⌜ c ≡ checked basic (now (s .entry)) ⌝ }
+{
+    if before_ranges_good(s, at) {
+        let g = wide(s[at + 15]);
+        if g < 1 {
+            return slow(s);
+        }
+        if RANGES < g {
+            return slow(s);
+        }
+        let end = at + 16 + 28 * g;
+        if s.len() - 13 != end {
+            return slow(s);
+        }
+        if closing_good(s, end) {
+            if ranges_good(s, v, g, at + 16) {
+                return Checked::Accepted { r, v, e, g };
+            }
+        }
+    }
+    slow(s)
+}
+
+// The check from the fields after the replica map on.
+fn vectors_fast(s: &[u8], r: usize, at: usize) -> Checked
+    requires { ⌜ (r ≤ 16) × (at + 86 ≤ length (now s)) × (checked basic (now s) ≡ afterMap (now s) r at) ⌝ }
+    ensures { λ c. ⌜ c ≡ checked basic (now (s .entry)) ⌝ }
+{
+    if before_vectors_good(s, at) {
+        let v = wide(s[at + 20]);
+        if v < 1 {
+            return slow(s);
+        }
+        if RANGES + 1 < v {
+            return slow(s);
+        }
+        if little8(s, at + 21) != 16777216 {
+            return slow(s);
+        }
+        let g = vectors_good(s, r, v, at + 29);
+        let Got::Num(e, next) = g else {
+            return slow(s);
+        };
+        return ranges_fast(s, r, v, e, next);
+    }
+    slow(s)
+}
+
+// Checks the bytes of a knowledge: its counts, or the number of the first fault.
+pub fn check(s: &[u8]) -> Checked
+    ensures { λ r. ⌜ r ≡ checked basic (now (s .entry)) ⌝ }
+{
+    if s.len() < 113 {
+        return slow(s);
+    }
+    if opening_good(s) {
+        let r = wide(s[26]);
+        if REPLICAS < r {
+            return slow(s);
+        }
+        let at = 27 + 16 * r;
+        if s.len() - 86 < at {
+            return slow(s);
+        }
+        if ids_good(s, r) {
+            return vectors_fast(s, r, at);
+        }
+    }
+    slow(s)
 }

@@ -1,0 +1,69 @@
+-- Words with the lowest byte first. What they tell of the bytes is what a word with the highest byte first tells:
+-- a word that is known makes each of its bytes known, and two words are the same where their bytes are.
+use mathlib.Core.Path.{_≡_, refl, sym, ap, ap₂, _∙_}
+use mathlib.Core.List.{List}
+use Prim.Native.Nat.{ℕ, zero, suc, _+_, _*_, _/_, _%_, _^_, _<_, _≤_}
+use native.Mathlib.Nat.{mul-comm, mul-assoc, mul-add, pow-succ', mod-eq-of-lt}
+use native.Mathlib.Omega.{arith}
+use lib.Arith.{digits-div, digits-mod}
+use lib.ListN.{getD}
+use Rattle.codec.specs.Number.{Bytes, beAt}
+use Rattle.codec.proofs.Numbers.{be-zero, be-suc, be-below}
+use Rattle.reader.specs.Method.{leAt, swap}
+
+place2 : (s : List ℕ) (at : ℕ) → getD s (at + 1 + 1) 0 ≡ getD s (at + 2) 0
+place2 s at = let e : at + 1 + 1 ≡ at + 2 = omega arith in ap (λ (i : ℕ). getD s i 0) e
+
+place3 : (s : List ℕ) (at : ℕ) → getD s (at + 1 + 1 + 1) 0 ≡ getD s (at + 3) 0
+place3 s at = let e : at + 1 + 1 + 1 ≡ at + 3 = omega arith in ap (λ (i : ℕ). getD s i 0) e
+
+pub le2 : (s : List ℕ) (at a b : ℕ) → a ≡ getD s at 0 → b ≡ getD s (at + 1) 0 → a + b * 256 ≡ leAt s 2 at
+unfolding leAt
+le2 s at a b e f = omega arith
+
+pub le4 :
+    (s : List ℕ) (at a b c d : ℕ)
+    → a ≡ getD s at 0
+    → b ≡ getD s (at + 1) 0
+    → c ≡ getD s (at + 2) 0
+    → d ≡ getD s (at + 3) 0
+    → a + b * 256 + c * 65536 + d * 16777216 ≡ leAt s 4 at
+unfolding leAt
+le4 s at a b c d e f g h = omega (arith, place2 s at, place3 s at)
+
+pub le8 : (s : List ℕ) (at a b : ℕ) → a ≡ leAt s 4 at → b ≡ leAt s 4 (at + 4) → a + b * 4294967296 ≡ leAt s 8 at
+unfolding leAt
+le8 s at a b e f =
+    let p : at + 1 + 1 + 1 + 1 ≡ at + 4 = omega arith in
+    omega (arith, ap (λ (x : ℕ). leAt s 4 x) p)
+
+-- a word that is known, with the highest byte first
+pub le-be : (s : List ℕ) (n at k : ℕ) → Bytes s → leAt s n at ≡ k → beAt s n at ≡ swap n k
+unfolding leAt swap
+le-be s zero at k b e = be-zero s at
+le-be s (suc n) at k b e =
+    let g : getD s at 0 < 256 = b .below at in
+    let l : k % 256 ≡ getD s at 0 = omega arith in
+    let h : leAt s n (at + 1) ≡ k / 256 = omega arith in
+    be-suc s n at ∙ ap₂ (λ (x y : ℕ). x * 256 ^ n + y) (sym l) (le-be s n (at + 1) (k / 256) b h)
+
+-- the same bytes make the same word
+pub be-le : (s : List ℕ) (n a b : ℕ) → Bytes s → beAt s n a ≡ beAt s n b → leAt s n a ≡ leAt s n b
+unfolding leAt
+be-le s zero a b o e = refl
+be-le s (suc n) a b o e = ap₂ (λ (x y : ℕ). x + 256 * y) first (be-le s n (a + 1) (b + 1) o rest)
+  where
+    both : getD s a 0 * 256 ^ n + beAt s n (a + 1) ≡ getD s b 0 * 256 ^ n + beAt s n (b + 1)
+    both = sym (be-suc s n a) ∙ e ∙ be-suc s n b
+
+    first : getD s a 0 ≡ getD s b 0
+    first =
+        sym (digits-div (getD s a 0) (be-below s n (a + 1) o))
+        ∙ ap (λ (x : ℕ). x / 256 ^ n) both
+        ∙ digits-div (getD s b 0) (be-below s n (b + 1) o)
+
+    rest : beAt s n (a + 1) ≡ beAt s n (b + 1)
+    rest =
+        sym (digits-mod (getD s a 0) (be-below s n (a + 1) o))
+        ∙ ap (λ (x : ℕ). x % 256 ^ n) both
+        ∙ digits-mod (getD s b 0) (be-below s n (b + 1) o)
