@@ -30,3 +30,11 @@ pub mod QueriesPlaces
 pub mod QueriesWalk
 pub mod QueriesWinner
 pub mod QueriesCoverage
+pub mod RefusalsTable
+pub mod RefusalsTests
+pub mod RefusalsNew
+pub mod RefusalsApply
+pub mod RefusalsEdit
+pub mod RefusalsMake
+pub mod RefusalsList
+pub mod RefusalsCounts

@@ -1,0 +1,240 @@
+-- Where the counts of a result can refuse a call. An edit or delete adds at most the store's own id to the replicas, and
+-- just then when the own tick is still 0; it adds no range, since the own tick is raised in all ranges alike; an edit adds
+-- a record exactly where the item has none, a delete never does. A make adds no replica to a knowledge and no record to
+-- a store. So for a valid store edit gives 11 exactly where its own tick is 0 and the map is full, 13 exactly where the
+-- item has no record and the table is full, and never 12; delete gives neither 12 nor 13; make gives neither 11 nor 13.
+use Prim.Native.Nat.{ℕ, zero, suc, _+_, _≤_, _<_}
+use mathlib.Core.Path.{_≡_, refl, sym, ap, _∙_}
+use mathlib.Core.Logic.{_⊎_, inl, inr, ⊎-elim, _↔_}
+use mathlib.Core.List.{List, [], _∷_}
+use mathlib.Core.Option.{Option, none, some}
+use native.Mathlib.Omega.{arith}
+use lib.ListN.{length}
+use Rattle.codec.specs.Number.{beAt, Bytes}
+use Rattle.codec.specs.Reply.{refuses}
+use Rattle.layout.specs.Rules.{Rules, Permitted}
+use Rattle.layout.specs.Knowledge.{Knowledge}
+use Rattle.layout.specs.Lawful.{All, Rising, Lawful}
+use Rattle.layout.specs.Parse.{accepted, parse}
+use Rattle.layout.proofs.Exact.{exact}
+use Rattle.ticks.specs.Known.{highest, known}
+use Rattle.ticks.specs.Normal.{Among, Normal}
+use Rattle.ticks.specs.Operations.{raise, normalise, largest}
+use Rattle.ticks.proofs.Lists.{less, same, more, order}
+use Rattle.ticks.proofs.Operations.{normal-test, normal-raise, known-raise-own, known-raise-other}
+use Rattle.ticks.proofs.Unique.{normal-sound}
+use Rattle.ticks.proofs.Largest.{alike-all}
+use Rattle.ticks.proofs.Counts.{distinct-count, replicas-are, raise-map, raise-replicas, raise-ranges, normalise-replicas, project-replicas}
+use Rattle.replication.specs.Record.{Rec}
+use Rattle.replication.specs.Store.{Store, versionsIn, openStore}
+use Rattle.replication.specs.Operate.{find, replace, nextTick, changedRec, changed, made}
+use Rattle.replication.specs.Calls.{editReply, deleteReply, makeReply}
+use Rattle.replication.specs.Promise.{items}
+use Rattle.replication.proofs.Tables.{find-here, find-there, replace-nil, replace-after, replace-before, replace-length-found, valid-recs}
+use Rattle.replication.proofs.TablesSelected.{selected-length}
+use Rattle.replication.proofs.StoreBytes.{ValidStore, valid-store, store-opened}
+use Rattle.replication.proofs.RefusalsTests.{Present, Unexhausted, opened-lawful}
+use Rattle.replication.proofs.RefusalsEdit.{editedStore, edit-11, edit-12, edit-13, delete-11, delete-12, delete-13}
+use Rattle.replication.proofs.RefusalsMake.{make-11, make-13}
+
+-- ---- replicas
+
+all-apart : (q : ℕ) (xs : List ℕ) → (Among q xs → ⊥) → All (λ y. q ≡ y → ⊥) xs
+all-apart q [] n = tt
+all-apart q (x ∷ xs) n = ((λ e. n (inl e)), all-apart q xs (λ m. n (inr m)))
+
+-- raising the tick of a replica that is in the map adds none
+raise-old : (q t : ℕ) (k : Knowledge) → Among q (k .replicas) → length (raise q t k .replicas) ≤ length (k .replicas)
+raise-old q t k m =
+    let n = normal-raise q t k in
+    distinct-count (raise q t k .replicas) (k .replicas) (normal-sound (raise q t k) n .distinct)
+    (λ p a.
+    let w = replicas-are (raise q t k) p n .0 a in
+    ⊎-elim (λ (e : p ≡ q). rw e m) (λ b. b) (raise-map q t k (w .0) p (w .1 .0) (w .1 .1)))
+
+-- and of one that is not in the map adds it
+raise-new : (q t : ℕ) (k : Knowledge) → Normal k → 1 ≤ t → (Among q (k .replicas) → ⊥) → length (raise q t k .replicas) ≡ suc (length (k .replicas))
+raise-new q t k n one out =
+    omega (
+      arith,
+      raise-replicas q t k,
+      distinct-count (q ∷ k .replicas) (raise q t k .replicas) (all-apart q (k .replicas) out, normal-sound k n .distinct) there,
+    )
+  where
+    known-there : (i p : ℕ) → i ≤ highest → 1 ≤ known (raise q t k) i p → Among p (raise q t k .replicas)
+    known-there i p h l = replicas-are (raise q t k) p (normal-raise q t k) .1 (i, (h, l))
+
+    there : (p : ℕ) → Among p (q ∷ k .replicas) → Among p (raise q t k .replicas)
+    there p (inl e) = known-there 0 p (omega arith) (omega (arith, known-raise-own q t k 0 p (omega arith) e))
+    there p (inr m) =
+        let w = replicas-are k p n .0 m in
+        known-there (w .0) p (w .1 .0) (omega (arith, w .1 .1, known-raise-other q t k (w .0) p (w .1 .0) (λ (e : p ≡ q). out (rw (← e) m))))
+
+-- ---- records
+
+-- a record of an item that the table lacks makes it longer
+replace-length-new : (r : Rec) (xs : List Rec) → find (r .item) xs ≡ none → length (replace r xs) ≡ suc (length xs)
+replace-length-new r [] f = rw replace-nil
+replace-length-new r (x ∷ xs) f =
+    elim (order (x .item) (r .item)) [
+      | less k ↦
+          let g : find (r .item) xs ≡ none = sym (find-there (r .item) x xs (omega arith)) ∙ f in
+          rw (replace-after r x xs k) (omega (arith, replace-length-new r xs g))
+      | same k ↦
+          let h : find (r .item) (x ∷ xs) ≡ some x = find-here (r .item) x xs k in
+          let z : _≡_ {A = ℕ} 0 1 = cc in
+          absurd (omega arith)
+      | more k ↦ rw (replace-before r x xs k)
+    ]
+
+-- ---- a changed store
+
+-- the record that a change writes, whatever stood there before
+item-of : (kind i own t tag : ℕ) (o : Option Rec) → changedRec kind i own t tag o .item ≡ i
+unfolding changedRec
+item-of kind i own t tag none = refl
+item-of kind i own t tag (some r) = refl
+
+none-or : (o : Option Rec) → (o ≡ none) ⊎ ((r : Rec) × (o ≡ some r))
+none-or none = inl refl
+none-or (some r) = inr (r, refl)
+
+zero-or : (x : ℕ) → (x ≡ 0) ⊎ (1 ≤ x)
+zero-or zero = inl refl
+zero-or (suc x) = inr (omega arith)
+
+module _ (R : Rules) (permitted : Permitted (R .limits)) (s : List ℕ) (octets : Bytes s) (st : Store) (os : openStore R s ≡ some st) where
+  valid : ValidStore (R .limits) st
+  valid = valid-store (R .limits) st .0 (store-opened R s st permitted octets os .1 .1)
+
+  normal : Normal (st .knowledge)
+  normal = normal-test (st .knowledge) .0 (valid .normal)
+
+  lawful : Lawful R (st .knowledge)
+  lawful = opened-lawful R s st permitted octets os
+
+  rising : Rising 0 (items (st .records))
+  rising = valid-recs (versionsIn (st .knowledge)) 0 (st .records) .0 (valid .records) .0
+
+  -- the own id is in the map where the own tick is 1 or more
+  own-in : 1 ≤ known (st .knowledge) 0 (st .own) → Among (st .own) (st .knowledge .replicas)
+  own-in h = replicas-are (st .knowledge) (st .own) normal .1 (0, (omega arith, h))
+
+  own-out : known (st .knowledge) 0 (st .own) ≡ 0 → Among (st .own) (st .knowledge .replicas) → ⊥
+  own-out z m =
+      let w = replicas-are (st .knowledge) (st .own) normal .0 m in
+      omega (arith, w .1 .1, alike-all (st .knowledge) (st .own) (w .0) (valid .alike))
+
+  module _ (kind i tag : ℕ) where
+    changed-replicas : (R .limits .replicas < length (changed kind i tag st .knowledge .replicas)) ↔ ((known (st .knowledge) 0 (st .own) ≡ 0) × (length (st .knowledge .replicas) ≡ R .limits .replicas))
+    unfolding changed nextTick
+    changed-replicas = (there (zero-or (known (st .knowledge) 0 (st .own))), λ h. omega (arith, h .1, raise-new (st .own) (1 + largest (st .knowledge)) (st .knowledge) normal (omega arith) (own-out (h .0))))
+      where
+        there : (known (st .knowledge) 0 (st .own) ≡ 0) ⊎ (1 ≤ known (st .knowledge) 0 (st .own)) → R .limits .replicas < length (changed kind i tag st .knowledge .replicas) → (known (st .knowledge) 0 (st .own) ≡ 0) × (length (st .knowledge .replicas) ≡ R .limits .replicas)
+        there (inl z) h = (z, omega (arith, h, lawful .replicas, raise-new (st .own) (1 + largest (st .knowledge)) (st .knowledge) normal (omega arith) (own-out z)))
+        there (inr l) h = absurd (omega (arith, h, lawful .replicas, raise-old (st .own) (1 + largest (st .knowledge)) (st .knowledge) (own-in l)))
+
+    changed-ranges : length (changed kind i tag st .knowledge .ranges) ≤ R .limits .ranges
+    unfolding changed nextTick
+    changed-ranges = omega (arith, lawful .ranges, raise-ranges (st .own) (1 + largest (st .knowledge)) (st .knowledge) normal)
+
+    changed-found : (r : Rec) → find i (st .records) ≡ some r → length (changed kind i tag st .records) ≤ R .limits .records
+    unfolding changed
+    changed-found r e =
+        let new = changedRec kind i (st .own) (nextTick st) tag (find i (st .records)) in
+        omega (
+          arith,
+          valid .count,
+          replace-length-found new 0 (st .records) r rising (ap (λ (j : ℕ). find j (st .records)) (item-of kind i (st .own) (nextTick st) tag (find i (st .records))) ∙ e),
+        )
+
+    changed-absent : find i (st .records) ≡ none → length (changed kind i tag st .records) ≡ suc (length (st .records))
+    unfolding changed
+    changed-absent e =
+        let new = changedRec kind i (st .own) (nextTick st) tag (find i (st .records)) in
+        replace-length-new new (st .records) (ap (λ (j : ℕ). find j (st .records)) (item-of kind i (st .own) (nextTick st) tag (find i (st .records))) ∙ e)
+
+    changed-records : (R .limits .records < length (changed kind i tag st .records)) ↔ ((find i (st .records) ≡ none) × (length (st .records) ≡ R .limits .records))
+    changed-records = (there (none-or (find i (st .records))), λ h. omega (arith, h .1, changed-absent (h .0)))
+      where
+        there : (find i (st .records) ≡ none) ⊎ ((r : Rec) × (find i (st .records) ≡ some r)) → R .limits .records < length (changed kind i tag st .records) → (find i (st .records) ≡ none) × (length (st .records) ≡ R .limits .records)
+        there (inl e) h = (e, omega (arith, valid .count, changed-absent e))
+        there (inr w) h = absurd (omega (arith, changed-found (w .0) (w .1)))
+
+  -- ---- edit
+
+  module _ (item tag : List ℕ) where
+    pub edit-11-full : (editReply R s item tag ≡ refuses 11) ↔ (((length item ≡ 24) × (length tag ≡ 16)) × (Unexhausted st × ((known (st .knowledge) 0 (st .own) ≡ 0) × (length (st .knowledge .replicas) ≡ R .limits .replicas))))
+    edit-11-full =
+        let law = edit-11 R permitted s item tag octets st os in
+        let count = changed-replicas 1 (beAt item 24 0) (beAt tag 16 0) in
+        ((λ h. let a = law .0 h in (a .0, (a .1 .0, count .0 (a .1 .1)))), λ a. law .1 (a .0, (a .1 .0, count .1 (a .1 .1))))
+
+    pub edit-never-12 : editReply R s item tag ≡ refuses 12 → ⊥
+    edit-never-12 h =
+        omega (arith, edit-12 R permitted s item tag octets st os .0 h .1 .1 .1, changed-ranges 1 (beAt item 24 0) (beAt tag 16 0))
+
+    -- the item has no record, the table is full, and the replicas leave room
+    pub edit-13-full : (editReply R s item tag ≡ refuses 13) ↔ (((length item ≡ 24) × (length tag ≡ 16)) × (Unexhausted st × (((1 ≤ known (st .knowledge) 0 (st .own)) ⊎ (length (st .knowledge .replicas) < R .limits .replicas)) × ((find (beAt item 24 0) (st .records) ≡ none) × (length (st .records) ≡ R .limits .records)))))
+    edit-13-full =
+        let law = edit-13 R permitted s item tag octets st os in
+        let count = changed-records 1 (beAt item 24 0) (beAt tag 16 0) in (
+          (λ h. let a = law .0 h in (a .0, (a .1 .0, (room-there (a .1 .1 .0) (zero-or (known (st .knowledge) 0 (st .own))), count .0 (a .1 .1 .1 .1))))),
+          λ a. law .1 (a .0, (a .1 .0, (room-back (a .1 .1 .0), (changed-ranges 1 (beAt item 24 0) (beAt tag 16 0), count .1 (a .1 .1 .1))))),
+        )
+      where
+        room-there : length (editedStore st item tag .knowledge .replicas) ≤ R .limits .replicas → (known (st .knowledge) 0 (st .own) ≡ 0) ⊎ (1 ≤ known (st .knowledge) 0 (st .own)) → (1 ≤ known (st .knowledge) 0 (st .own)) ⊎ (length (st .knowledge .replicas) < R .limits .replicas)
+        room-there h (inr l) = inl l
+        room-there h (inl z) =
+            elim (order (length (st .knowledge .replicas)) (R .limits .replicas)) [
+              | less k ↦ inr k
+              | same k ↦ absurd (omega (arith, h, changed-replicas 1 (beAt item 24 0) (beAt tag 16 0) .1 (z, k)))
+              | more k ↦ absurd (omega (arith, lawful .replicas))
+            ]
+
+        room-back : (1 ≤ known (st .knowledge) 0 (st .own)) ⊎ (length (st .knowledge .replicas) < R .limits .replicas) → length (editedStore st item tag .knowledge .replicas) ≤ R .limits .replicas
+        room-back x =
+            elim (order (length (editedStore st item tag .knowledge .replicas)) (R .limits .replicas)) [
+              | less k ↦ omega arith
+              | same k ↦ omega arith
+              | more k ↦ let w = changed-replicas 1 (beAt item 24 0) (beAt tag 16 0) .0 k in absurd (⊎-elim (λ (l : 1 ≤ known (st .knowledge) 0 (st .own)). omega (arith, w .0)) (λ (l : length (st .knowledge .replicas) < R .limits .replicas). omega (arith, w .1)) x)
+            ]
+
+  -- ---- delete
+
+  module _ (item : List ℕ) where
+    pub delete-11-full : (deleteReply R s item ≡ refuses 11) ↔ ((length item ≡ 24) × (Present (find (beAt item 24 0) (st .records)) × (Unexhausted st × ((known (st .knowledge) 0 (st .own) ≡ 0) × (length (st .knowledge .replicas) ≡ R .limits .replicas)))))
+    delete-11-full =
+        let law = delete-11 R permitted s item octets st os in
+        let count = changed-replicas 2 (beAt item 24 0) 0 in (
+          (λ h. let a = law .0 h in (a .0, (a .1 .0, (a .1 .1 .0, count .0 (a .1 .1 .1))))),
+          λ a. law .1 (a .0, (a .1 .0, (a .1 .1 .0, count .1 (a .1 .1 .1)))),
+        )
+
+    pub delete-never-12 : deleteReply R s item ≡ refuses 12 → ⊥
+    delete-never-12 h =
+        omega (arith, delete-12 R permitted s item octets st os .0 h .1 .1 .1 .1, changed-ranges 2 (beAt item 24 0) 0)
+
+    pub delete-never-13 : deleteReply R s item ≡ refuses 13 → ⊥
+    delete-never-13 h =
+        let a = delete-13 R permitted s item octets st os .0 h in
+        omega (arith, a .1 .1 .1 .1 .1, changed-found 2 (beAt item 24 0) 0 (a .1 .0 .0) (a .1 .0 .1 .0))
+
+  -- ---- make
+
+  module _ (kn first last : List ℕ) (given : Bytes kn) (k : Knowledge) (read : parse R kn ≡ accepted k) where
+    pub make-never-11 : makeReply R s kn first last ≡ refuses 11 → ⊥
+    make-never-11 h =
+        let l : Lawful R k = exact R permitted kn k given .0 read .1 in
+        ⊎-elim (λ a. omega (arith, a .1, normalise-replicas k, l .replicas))
+        (λ a. omega (arith, a .1 .1, project-replicas (beAt first 24 0) (beAt last 24 0) (st .knowledge), lawful .replicas)) (make-11 R s kn first last st k os read .0 h)
+
+    pub make-never-13 : makeReply R s kn first last ≡ refuses 13 → ⊥
+    unfolding made
+    make-never-13 h =
+        omega (
+          arith,
+          make-13 R s kn first last st k os read .0 h .1 .1 .1,
+          selected-length (beAt first 24 0) (beAt last 24 0) (normalise k) (st .records),
+          valid .count,
+        )
