@@ -17,7 +17,8 @@ use Rattle.layout.specs.Rules.{Rules, Permitted, base, longest, largestT
 use Rattle.layout.specs.Knowledge.{Knowledge, elements}
 use Rattle.layout.specs.Encode.{encode}
 use Rattle.layout.specs.Lawful.{Lawful}
-use Rattle.layout.specs.Parse.{Parsed, accepted, refused, checked, decode, told, parse}
+use Rattle.layout.specs.Parse.{Parsed, accepted, refused, checked, told, parse}
+use Rattle.layout.specs.Decode.{decode}
 use Rattle.layout.proofs.Forward.{forward, decoded, encode-length, encode-bytes}
 use Rattle.layout.proofs.Backward.{Means, backward}
 

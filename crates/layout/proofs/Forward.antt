@@ -18,7 +18,7 @@ use Rattle.layout.specs.Encode.{putFields, putIds, putElements, putVecto
 use Rattle.layout.specs.Lawful.{All, Distinct, Rising, bounds, Lawful, LawfulId, LawfulVector, LawfulRange}
 use Rattle.layout.specs.Read.{_▷_, fields}
 use Rattle.layout.specs.Parse.{_▶_, replicaMap, vectorCount, vectorList, rangeList, ended, checked}
-use Rattle.layout.specs.Parse.{idsAt, vectorsAt, afterVectors, rangesAt, decode}
+use Rattle.layout.specs.Decode.{idsAt, vectorsAt, afterVectors, rangesAt, decode}
 use Rattle.layout.proofs.Chain.{Stands, stands-whole, stands-length, moved, over, reads, number-reads, limit-holds}
 use Rattle.layout.proofs.Chain.{fields-over, fields-read, fresh-all, opening-fits, beforeVectors-fits, beforeRanges-fits, closing-fits}
 use Rattle.layout.proofs.ForwardRead.{num, ids-over, ids-read, vectors-over, vectors-read, vector-over, first-read, ranges-over, ranges-read}

@@ -11,7 +11,7 @@ use Rattle.layout.specs.Knowledge.{Element, Range, elements}
 use Rattle.layout.specs.Fields.{beforeElements}
 use Rattle.layout.specs.Encode.{putFields, putIds, putElements, putVectors, putRanges}
 use Rattle.layout.specs.Lawful.{All, LawfulId, LawfulElement, LawfulVector, LawfulRange}
-use Rattle.layout.specs.Parse.{idsAt, elementsAt, vectorsAt, afterVectors, rangesAt}
+use Rattle.layout.specs.Decode.{idsAt, elementsAt, vectorsAt, afterVectors, rangesAt}
 use Rattle.layout.proofs.Chain.{Stands, moved, over, reads, fields-over}
 use Rattle.layout.proofs.ForwardRead.{elements-over, vector-over}
 

@@ -6,4 +6,5 @@ pub mod Encode
 pub mod Lawful
 pub mod Read
 pub mod Parse
+pub mod Decode
 pub mod Answer

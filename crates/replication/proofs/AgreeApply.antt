@@ -20,9 +20,11 @@ use Rattle.ticks.specs.Operations.{merge, covers}
 use Rattle.ticks.proofs.Operations.{known-merge}
 use Rattle.ticks.proofs.Algebra.{contains-exact}
 use Rattle.ticks.proofs.Search.{covers-exact}
-use Rattle.replication.specs.Record.{Rec, both}
+use Rattle.replication.specs.Record.{Rec}
+use Rattle.replication.specs.Reading.{both}
 use Rattle.replication.specs.Store.{Store, encodeStore}
-use Rattle.replication.specs.Batch.{Batch, inSpan, lacksChange}
+use Rattle.replication.specs.Batch.{Batch}
+use Rattle.replication.specs.OpenBatch.{inSpan, lacksChange}
 use Rattle.replication.specs.Operate.{find, join, applied}
 use Rattle.replication.specs.Machine.{Ticks, Remembered, State, holds, greatest, learns, withTicks, applies}
 use Rattle.replication.specs.Lists.{World, putAt, keepStore}

@@ -26,7 +26,7 @@ use Rattle.replication.specs.Store.{Store, encodeStore}
 use Rattle.replication.specs.Operate.{find, replace, nextTick, changedRec, changed}
 use Rattle.replication.specs.Machine.{Ticks, Remembered, State, holds, greatest, largestKnown, recordOf, withTicks, ownTick, changes}
 use Rattle.replication.specs.Lists.{World, putAt, keepStore}
-use Rattle.replication.specs.Promise.{items}
+use Rattle.replication.specs.Record.{items}
 use Rattle.replication.proofs.Best.{Mem, mem-added, Contained, holds-contained, contained-holds, not-holds}
 use Rattle.replication.proofs.MachineGreatest.{greatest-alike, holds-alike, greatest-equal, greatest-added-lacks, greatest-added-other, greatest-added-above}
 use Rattle.replication.proofs.Supremum.{largest-known-bounds, largest-known-is}

@@ -8,7 +8,8 @@ use Rattle.layout.specs.Rules.{Rules, largestTick}
 use Rattle.layout.specs.Knowledge.{Knowledge}
 use Rattle.layout.specs.Lawful.{LawfulId, Lawful}
 use Rattle.ticks.specs.Known.{highest, known}
-use Rattle.ticks.specs.Normal.{Normal, isNormal, eqKnowledge}
+use Rattle.ticks.specs.Normal.{Normal}
+use Rattle.ticks.specs.Written.{isNormal, eqKnowledge}
 use Rattle.ticks.specs.Operations.{emptyKnowledge, normalise, merge, project, raise}
 use Rattle.ticks.proofs.Equality.{eqKnowledge-self}
 use Rattle.ticks.proofs.Unique.{normal-unique}

@@ -21,8 +21,10 @@ use Rattle.ticks.specs.Operations.{covers, largest}
 use Rattle.ticks.specs.Calls.{line, idOf, ownFault, wrongLength, wrongSpan, resultLines}
 use Rattle.ticks.proofs.Search.{covers-exact}
 use Rattle.replication.specs.Record.{Rec, live, tombstone}
-use Rattle.replication.specs.Store.{Store, newStore, encodeStore, openStore}
-use Rattle.replication.specs.Batch.{Batch, encodeBatch, openBatch}
+use Rattle.replication.specs.Store.{Store, newStore, encodeStore}
+use Rattle.replication.specs.OpenStore.{openStore}
+use Rattle.replication.specs.Batch.{Batch, encodeBatch}
+use Rattle.replication.specs.OpenBatch.{openBatch}
 use Rattle.replication.specs.Operate.{find, changed, applied}
 use Rattle.replication.specs.Calls.{then, noStore, storeOr, noBatch, batchOr, uncovered, ownAhead, gone, exhausted, tooManyRecords, storeLines, newReply, editLines, edited, editReply, deleteLines, deleted, deleteReply, makeLines, makes, makeReply, applyLines, applyReply}
 use Rattle.replication.specs.Lists.{World, batchNumber}

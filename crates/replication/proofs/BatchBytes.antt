@@ -22,10 +22,12 @@ use Rattle.layout.specs.Parse.{Parsed, accepted, refused, parse}
 use Rattle.layout.proofs.Chain.{Stands, stands-whole, over, reads}
 use Rattle.layout.proofs.Forward.{encode-bytes}
 use Rattle.layout.proofs.Exact.{exact, read-back}
-use Rattle.ticks.specs.Normal.{isNormal, eqKnowledge}
+use Rattle.ticks.specs.Written.{isNormal, eqKnowledge}
 use Rattle.ticks.specs.Operations.{project}
-use Rattle.replication.specs.Record.{Rec, putRecs, recsAt, validRecs}
-use Rattle.replication.specs.Batch.{Batch, encodeBatch, batchWith, batchAfter, batchFrom, decodeBatch, carried, validBatch, ifValidBatch, openBatch}
+use Rattle.replication.specs.Record.{Rec, putRecs}
+use Rattle.replication.specs.Reading.{recsAt, validRecs}
+use Rattle.replication.specs.Batch.{Batch, encodeBatch}
+use Rattle.replication.specs.OpenBatch.{batchWith, batchAfter, batchFrom, decodeBatch, carried, validBatch, ifValidBatch, openBatch}
 use Rattle.replication.proofs.PartBytes.{part-over, part-reads, part-length, part-back, no-bytes, append-bytes, part-bytes, test-back, both-of, both-left, both-right}
 use Rattle.replication.proofs.RecordBytes.{FitsRec, put-upto, recs-bytes, recs-read, Read, recs-back}
 use Rattle.replication.proofs.StoreBytes.{length-fits}

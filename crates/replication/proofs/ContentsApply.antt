@@ -22,14 +22,17 @@ use Rattle.ticks.proofs.Operations.{known-merge, normal-merge}
 use Rattle.ticks.proofs.LawfulResults.{below-top, lawful-merge}
 use Rattle.ticks.proofs.ForCover.{covers-for-exact}
 use Rattle.replication.specs.Record.{Rec}
-use Rattle.replication.specs.Store.{Store, encodeStore, openStore}
-use Rattle.replication.specs.Batch.{Batch, openBatch}
+use Rattle.replication.specs.Store.{Store, encodeStore}
+use Rattle.replication.specs.OpenStore.{openStore}
+use Rattle.replication.specs.Batch.{Batch}
+use Rattle.replication.specs.OpenBatch.{openBatch}
 use Rattle.replication.specs.Operate.{find, winnerOf, join, applied}
 use Rattle.replication.specs.Calls.{ownAhead, applyReply}
 use Rattle.replication.proofs.Tables.{find-all, all-find}
 use Rattle.replication.proofs.TablesJoin.{winner-tick, winner-kept, winner-replica, winner-replica-kept, join-rising, all-join, joined, joined-right, joined-left, joined-both, find-join}
 use Rattle.replication.proofs.AgreeLines.{Room, apply-met}
-use Rattle.replication.proofs.ContentsValid.{LawfulRec, ContainedIn, LawfulStore, lawful-opens, store-exact, LawfulBatch, batch-exact}
+use Rattle.replication.proofs.ContentsValid.{lawful-opens, store-exact, batch-exact}
+use Rattle.replication.specs.Valid.{LawfulRec, ContainedIn, LawfulStore, LawfulBatch}
 use Rattle.replication.proofs.ContentsMake.{gives-outcome}
 
 -- the second record wins: "the greater change tick, then the greater change replica"

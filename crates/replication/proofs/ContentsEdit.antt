@@ -23,14 +23,16 @@ use Rattle.ticks.proofs.Largest.{largest-bounds, largest-attained}
 use Rattle.ticks.proofs.LawfulResults.{below-top, lawful-raise}
 use Rattle.ticks.proofs.ForCalls.{id-is}
 use Rattle.replication.specs.Record.{Rec}
-use Rattle.replication.specs.Store.{Store, encodeStore, openStore}
+use Rattle.replication.specs.Store.{Store, encodeStore}
+use Rattle.replication.specs.OpenStore.{openStore}
 use Rattle.replication.specs.Operate.{find, replace, nextTick, changedRec, changed}
 use Rattle.replication.specs.Calls.{editReply, deleteReply}
 use Rattle.replication.proofs.Tables.{find-item, find-all, all-find, all-replace, replace-rising, find-replace-same, find-replace-other}
 use Rattle.replication.proofs.AgreeLines.{Room, edit-met, delete-met}
 use Rattle.replication.proofs.AgreeEdit.{same?}
 use Rattle.replication.proofs.AgreeMake.{id-below}
-use Rattle.replication.proofs.ContentsValid.{LawfulRec, ContainedIn, LawfulStore, lawful-opens, store-exact}
+use Rattle.replication.proofs.ContentsValid.{lawful-opens, store-exact}
+use Rattle.replication.specs.Valid.{LawfulRec, ContainedIn, LawfulStore}
 use Rattle.replication.proofs.ContentsMake.{gives-outcome}
 
 -- the record of an edit or a delete at a tick, spelled out, with the item's record before it

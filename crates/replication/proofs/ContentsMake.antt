@@ -25,9 +25,12 @@ use Rattle.ticks.specs.Calls.{idOf}
 use Rattle.ticks.proofs.Operations.{known-normalise, normal-normalise, normal-project, known-project-inside, known-project-below, known-project-above}
 use Rattle.ticks.proofs.LawfulResults.{below-top, top-below, lawful-normalise, lawful-project}
 use Rattle.ticks.proofs.ForCalls.{id-is, Within}
-use Rattle.replication.specs.Record.{Rec, both}
-use Rattle.replication.specs.Store.{Store, openStore}
-use Rattle.replication.specs.Batch.{Batch, inSpan, lacksChange, encodeBatch, openBatch}
+use Rattle.replication.specs.Record.{Rec}
+use Rattle.replication.specs.Reading.{both}
+use Rattle.replication.specs.Store.{Store}
+use Rattle.replication.specs.OpenStore.{openStore}
+use Rattle.replication.specs.Batch.{Batch, encodeBatch}
+use Rattle.replication.specs.OpenBatch.{inSpan, lacksChange, openBatch}
 use Rattle.replication.specs.Operate.{find, selected, made}
 use Rattle.replication.specs.Calls.{makeReply}
 use Rattle.replication.specs.Lists.{outcome}
@@ -36,7 +39,8 @@ use Rattle.replication.proofs.TablesSelected.{kept, kept-in, selected-r
 use Rattle.replication.proofs.AgreeInvariant.{kept-some}
 use Rattle.replication.proofs.AgreeLines.{make-met}
 use Rattle.replication.proofs.AgreeMake.{id-below}
-use Rattle.replication.proofs.ContentsValid.{lacks-exact, LawfulRec, ContainedIn, all-two, LawfulStore, store-exact, LawfulBatch, lawful-opens-batch}
+use Rattle.replication.proofs.ContentsValid.{lacks-exact, all-two, store-exact, lawful-opens-batch}
+use Rattle.replication.specs.Valid.{LawfulRec, ContainedIn, LawfulStore, LawfulBatch}
 
 -- a reply that gives bytes writes them where there is room
 pub gives-outcome : (r : Reply) (bs : List ℕ) → r ≡ gives bs → outcome r (length bs) ≡ some bs

@@ -3,21 +3,19 @@
 -- definitions is read as the relation on numbers that it decides.
 use Prim.Native.Nat.{ℕ, _≤_, _<_, _^_}
 use mathlib.Core.Path.{_≡_, refl, sym, ap, _∙_}
-use mathlib.Core.Logic.{_⊎_, _↔_}
+use mathlib.Core.Logic.{_↔_}
 use mathlib.Core.Bool.{Bool, true, false, not}
 use mathlib.Core.List.{List, [], _∷_}
 use mathlib.Core.Option.{some}
 use native.Mathlib.Omega.{arith}
 use lib.Dec.{leb}
-use lib.ListN.{length}
 use borrow.Author.Tests.{leb-true, leb-false}
 use Rattle.codec.specs.Number.{Bytes}
-use Rattle.layout.specs.Rules.{Rules, Permitted, largestTick}
+use Rattle.layout.specs.Rules.{Rules, Permitted}
 use Rattle.layout.specs.Knowledge.{Knowledge}
-use Rattle.layout.specs.Lawful.{All, Rising, Lawful}
+use Rattle.layout.specs.Lawful.{All}
 use Rattle.layout.proofs.BackwardParts.{all-map}
 use Rattle.ticks.specs.Known.{highest, known, contains}
-use Rattle.ticks.specs.Normal.{Normal}
 use Rattle.ticks.specs.Operations.{project}
 use Rattle.ticks.proofs.Equality.{eqKnowledge-sound}
 use Rattle.ticks.proofs.Unique.{normal-sound}
@@ -25,15 +23,18 @@ use Rattle.ticks.proofs.Operations.{normal-test}
 use Rattle.ticks.proofs.Algebra.{contains-yes, contains-more, contains-exact, project-outside}
 use Rattle.ticks.proofs.Largest.{alike-exact}
 use Rattle.ticks.proofs.LawfulResults.{top-below, below-top}
-use Rattle.replication.specs.Record.{Rec, both}
-use Rattle.replication.specs.Store.{Store, versionsIn, encodeStore, openStore}
-use Rattle.replication.specs.Batch.{Batch, inSpan, lacksChange, carried, encodeBatch, openBatch}
-use Rattle.replication.specs.Promise.{items}
+use Rattle.replication.specs.Record.{Rec}
+use Rattle.replication.specs.Reading.{both}
+use Rattle.replication.specs.Store.{Store, encodeStore}
+use Rattle.replication.specs.OpenStore.{versionsIn, openStore}
+use Rattle.replication.specs.Batch.{Batch, encodeBatch}
+use Rattle.replication.specs.OpenBatch.{inSpan, lacksChange, carried, openBatch}
 use Rattle.replication.proofs.Tables.{ValidRec, valid-recs, both-parts, both-holds, in-span}
 use Rattle.replication.proofs.RecordBytes.{FitsRec}
 use Rattle.replication.proofs.StoreBytes.{store-open, store-opened, valid-store}
 use Rattle.replication.proofs.BatchBytes.{batch-open, batch-opened, valid-batch}
 use Rattle.replication.proofs.AgreeForm.{form-projected}
+use Rattle.replication.specs.Valid.{LawfulRec, ContainedIn, LawfulStore, LawfulBatch}
 
 -- ---- versions
 
@@ -97,24 +98,6 @@ carried-exact b r = (
 
 -- ---- records
 
--- "Kind 1 live, kind 2 tombstone, body 88: item id 24, change replica 16, change tick 8, create replica 16, create tick
--- 8, content tag 16 (zeros in a tombstone)"; "ticks 1 to 2^63 − 1, create tick at most change tick"
-pub record LawfulRec (r : Rec) : Type 0 where
-  pub kind : (r .kind ≡ 1) ⊎ (r .kind ≡ 2)
-  pub item : r .item < 256 ^ 24
-  pub changeReplica : r .changeReplica < 256 ^ 16
-  pub createReplica : r .createReplica < 256 ^ 16
-  pub tag : r .tag < 256 ^ 16
-  pub bare : r .kind ≡ 2 → r .tag ≡ 0
-  pub createTick : 1 ≤ r .createTick
-  pub order : r .createTick ≤ r .changeTick
-  pub changeTick : r .changeTick ≤ largestTick
-
--- its change and create versions are contained in a knowledge
-pub record ContainedIn (k : Knowledge) (r : Rec) : Type 0 where
-  pub change : r .changeTick ≤ known k (r .item) (r .changeReplica)
-  pub create : r .createTick ≤ known k (r .item) (r .createReplica)
-
 pub all-two : (P Q C : Rec → Type 0) → ((r : Rec) → P r → Q r → C r) → (rs : List Rec) → All P rs → All Q rs → All C rs
 all-two P Q C f [] p q = tt
 all-two P Q C f (r ∷ rs) p q = (f r (p .0) (q .0), all-two P Q C f rs (p .1) (q .1))
@@ -151,18 +134,6 @@ rec-valid : (r : Rec) → LawfulRec r → ValidRec r
 rec-valid r l = record { created = l .createTick; order = l .order; changed = l .changeTick; tag = l .bare }
 
 -- ---- stores
-
--- "A valid store: records, kinds and tombstone tags as above, exact length, knowledge in normal form, each change and
--- create version contained in it, own tick alike in all ranges"; records "at most 256" that "rise strictly by item id"
-pub record LawfulStore (R : Rules) (st : Store) : Type 0 where
-  pub own : st .own < 256 ^ 16
-  pub lawful : Lawful R (st .knowledge)
-  pub normal : Normal (st .knowledge)
-  pub alike : (i j : ℕ) → i ≤ highest → j ≤ highest → known (st .knowledge) i (st .own) ≡ known (st .knowledge) j (st .own)
-  pub count : length (st .records) ≤ R .limits .records
-  pub rising : Rising 0 (items (st .records))
-  pub records : All LawfulRec (st .records)
-  pub versions : All (ContainedIn (st .knowledge)) (st .records)
 
 module _ (R : Rules) (permitted : Permitted (R .limits)) (st : Store) where
   store-lawful : (s : List ℕ) → Bytes s → openStore R s ≡ some st → (s ≡ encodeStore st) × LawfulStore R st
@@ -216,24 +187,6 @@ pub store-exact : (R : Rules) (s : List ℕ) (st : Store) → Permitted (R .limi
 store-exact R s st permitted bytes = (store-lawful R permitted st s bytes, λ h. ap (openStore R) (h .0) ∙ lawful-opens R permitted st (h .1))
 
 -- ---- batches
-
--- "A valid batch: records, kinds and tombstone tags as above, exact length, first not above last, both knowledges in
--- normal form, learned unchanged by projecting onto the span, records inside the span, change and create versions
--- contained in learned, change versions not in needed"
-pub record LawfulBatch (R : Rules) (b : Batch) : Type 0 where
-  pub span : b .first ≤ b .last
-  pub last : b .last < 256 ^ 24
-  pub neededLawful : Lawful R (b .needed)
-  pub neededNormal : Normal (b .needed)
-  pub learnedLawful : Lawful R (b .learned)
-  pub learnedNormal : Normal (b .learned)
-  pub outside : (i p : ℕ) → i ≤ highest → (i < b .first) ⊎ (b .last < i) → known (b .learned) i p ≡ 0
-  pub count : length (b .records) ≤ R .limits .records
-  pub rising : Rising 0 (items (b .records))
-  pub records : All LawfulRec (b .records)
-  pub inside : All (λ r. (b .first ≤ r .item) × (r .item ≤ b .last)) (b .records)
-  pub versions : All (ContainedIn (b .learned)) (b .records)
-  pub lacked : All (λ r. known (b .needed) (r .item) (r .changeReplica) < r .changeTick) (b .records)
 
 module _ (R : Rules) (permitted : Permitted (R .limits)) (b : Batch) where
   batch-lawful : (t : List ℕ) → Bytes t → openBatch R t ≡ some b → (t ≡ encodeBatch b) × LawfulBatch R b

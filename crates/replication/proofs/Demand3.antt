@@ -25,8 +25,10 @@ use Rattle.codec.specs.Number.{put}
 use Rattle.codec.specs.Reply.{gives}
 use Rattle.codec.proofs.Numbers.{put-length, put-be}
 use Rattle.codec.proofs.Replies.{fault-later, fault-none}
-use Rattle.replication.specs.Store.{Store, newStore, encodeStore, openStore}
-use Rattle.replication.specs.Batch.{Batch, inSpan, lacksChange, openBatch}
+use Rattle.replication.specs.Store.{Store, newStore, encodeStore}
+use Rattle.replication.specs.OpenStore.{openStore}
+use Rattle.replication.specs.Batch.{Batch}
+use Rattle.replication.specs.OpenBatch.{inSpan, lacksChange, openBatch}
 use Rattle.replication.specs.Operate.{find}
 use Rattle.replication.specs.Calls.{newReply, applyReply, ownAhead}
 use Rattle.replication.specs.Lists.{Call, AllGiven, World, start, outcome, batchNumber, keepStore}

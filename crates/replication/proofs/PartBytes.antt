@@ -11,7 +11,7 @@ use lib.Seq.{take-append-seam, drop-append-seam, drop-drop, getD-drop}
 use Rattle.codec.specs.Number.{Bytes}
 use Rattle.codec.proofs.Numbers.{cons-bytes}
 use Rattle.layout.proofs.Chain.{Stands, stands-length}
-use Rattle.replication.specs.Record.{both}
+use Rattle.replication.specs.Reading.{both}
 
 -- ---- parts that stand at a place
 

@@ -24,7 +24,8 @@ use Rattle.ticks.proofs.Algebra.{contains-yes, contains-exact}
 use Rattle.ticks.proofs.ForCalls.{read-accepted}
 use Rattle.ticks.proofs.Replies.{read-fault, read-fine}
 use Rattle.replication.specs.Record.{Rec}
-use Rattle.replication.specs.Store.{Store, openStore}
+use Rattle.replication.specs.Store.{Store}
+use Rattle.replication.specs.OpenStore.{openStore}
 use Rattle.replication.specs.Calls.{noStore, storeOr}
 use Rattle.replication.specs.Queries.{Coverage, covered, coverageNumber, coverageContained, coverageAll, coverageThousandths, countIn, thousandths, coveredOr, coverageAnswer}
 

@@ -12,8 +12,10 @@ use Rattle.layout.specs.Lawful.{All}
 use Rattle.layout.specs.Encode.{encode}
 use Rattle.layout.proofs.Chain.{Stands, stands-whole, over, reads}
 use Rattle.replication.specs.Record.{putRecs}
-use Rattle.replication.specs.Store.{Store, encodeStore, openStore}
-use Rattle.replication.specs.Batch.{Batch, encodeBatch, openBatch}
+use Rattle.replication.specs.Store.{Store, encodeStore}
+use Rattle.replication.specs.OpenStore.{openStore}
+use Rattle.replication.specs.Batch.{Batch, encodeBatch}
+use Rattle.replication.specs.OpenBatch.{openBatch}
 use Rattle.replication.proofs.PartBytes.{part-over}
 use Rattle.replication.proofs.RecordBytes.{FitsRec}
 use Rattle.replication.proofs.StoreBytes.{FitsStore, store-opened, length-fits}

@@ -18,9 +18,12 @@ use Rattle.layout.specs.Rules.{Rules, Permitted}
 use Rattle.layout.specs.Lawful.{All}
 use Rattle.layout.specs.Encode.{encode}
 use Rattle.layout.proofs.Chain.{Stands, stands-length}
-use Rattle.replication.specs.Record.{Rec, recAt, putRecs, whole}
-use Rattle.replication.specs.Store.{Store, openStore}
-use Rattle.replication.specs.Batch.{Batch, openBatch}
+use Rattle.replication.specs.Record.{Rec, putRecs}
+use Rattle.replication.specs.Reading.{recAt, whole}
+use Rattle.replication.specs.Store.{Store}
+use Rattle.replication.specs.OpenStore.{openStore}
+use Rattle.replication.specs.Batch.{Batch}
+use Rattle.replication.specs.OpenBatch.{openBatch}
 use Rattle.replication.specs.Queries.{walkFrom, toGive}
 use Rattle.replication.proofs.RecordBytes.{FitsRec, whole-back, kind-length, kind-reads, rec-reads, rec-over}
 use Rattle.replication.proofs.QueriesPlaces.{store-places, batch-places}

@@ -26,9 +26,12 @@ use Rattle.ticks.specs.Calls.{line, idOf, wrongLength}
 use Rattle.ticks.proofs.Lists.{less, same, more, order}
 use Rattle.ticks.proofs.ForCalls.{id-is}
 use Rattle.ticks.proofs.Answers.{length-exact}
-use Rattle.replication.specs.Record.{Rec, recAt, recLength, putRec, putRecs}
-use Rattle.replication.specs.Store.{Store, openStore}
-use Rattle.replication.specs.Batch.{Batch, openBatch}
+use Rattle.replication.specs.Record.{Rec, putRec, putRecs}
+use Rattle.replication.specs.Reading.{recAt, recLength}
+use Rattle.replication.specs.Store.{Store}
+use Rattle.replication.specs.OpenStore.{openStore}
+use Rattle.replication.specs.Batch.{Batch}
+use Rattle.replication.specs.OpenBatch.{openBatch}
 use Rattle.replication.specs.Operate.{find, wins}
 use Rattle.replication.specs.Calls.{noStore, storeOr, noBatch, batchOr}
 use Rattle.replication.specs.Queries.{Part, nothing, ofStore, ofBatch, partNumber, partSide, partAtPlace, partLength, placeOf, storeTable, batchTable, partAt, sideOf, orRefused, winnerPart, learnedPart}

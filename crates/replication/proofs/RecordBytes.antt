@@ -16,7 +16,8 @@ use Rattle.codec.specs.Number.{Bytes, beAt, put}
 use Rattle.codec.proofs.Numbers.{be-below, put-back, put-bytes, put-length}
 use Rattle.layout.specs.Lawful.{All}
 use Rattle.layout.proofs.Chain.{Stands, stands-length, moved, over, reads}
-use Rattle.replication.specs.Record.{Rec, recLength, putRec, putRecs, recAt, whole, front, recsAt}
+use Rattle.replication.specs.Record.{Rec, putRec, putRecs}
+use Rattle.replication.specs.Reading.{recLength, recAt, whole, front, recsAt}
 
 -- a record of a known kind whose values have room in their fields
 pub record FitsRec (r : Rec) : Type 0 where

@@ -16,8 +16,10 @@ use Rattle.layout.specs.Rules.{Rules}
 use Rattle.ticks.specs.Normal.{Among}
 use Rattle.ticks.specs.Operations.{merge}
 use Rattle.ticks.specs.Calls.{line}
-use Rattle.replication.specs.Store.{Store, encodeStore, openStore}
-use Rattle.replication.specs.Batch.{Batch, openBatch}
+use Rattle.replication.specs.Store.{Store, encodeStore}
+use Rattle.replication.specs.OpenStore.{openStore}
+use Rattle.replication.specs.Batch.{Batch}
+use Rattle.replication.specs.OpenBatch.{openBatch}
 use Rattle.replication.specs.Operate.{join, applied}
 use Rattle.replication.specs.Calls.{noStore, storeOr, noBatch, batchOr, uncovered, ownAhead, storeLines, applyLines, applyReply}
 use Rattle.replication.proofs.RefusalsTable.{Rule, rule, Told, told-cons, At, absent, only, refused-at, refused-among, refused-never, given-none, refuses-same}

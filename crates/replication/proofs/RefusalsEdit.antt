@@ -17,7 +17,8 @@ use Rattle.layout.specs.Lawful.{Lawful}
 use Rattle.ticks.specs.Normal.{Among}
 use Rattle.ticks.specs.Calls.{line, wrongLength}
 use Rattle.ticks.proofs.ForCalls.{id-is}
-use Rattle.replication.specs.Store.{Store, encodeStore, openStore}
+use Rattle.replication.specs.Store.{Store, encodeStore}
+use Rattle.replication.specs.OpenStore.{openStore}
 use Rattle.replication.specs.Operate.{find, changed}
 use Rattle.replication.specs.Calls.{noStore, storeOr, gone, exhausted, storeLines, editLines, edited, editReply, deleteLines, deleted, deleteReply}
 use Rattle.replication.proofs.RefusalsTable.{Rule, rule, Told, told-cons, At, only, refused-at, refused-among, refused-never, given-none, refuses-same}

@@ -25,8 +25,10 @@ use Rattle.ticks.specs.Operations.{largest}
 use Rattle.ticks.proofs.ForCalls.{id-is}
 use Rattle.ticks.proofs.Largest.{largest-bounds}
 use Rattle.ticks.proofs.Meaning.{lawful-largest}
-use Rattle.replication.specs.Store.{Store, openStore}
-use Rattle.replication.specs.Batch.{Batch, openBatch}
+use Rattle.replication.specs.Store.{Store}
+use Rattle.replication.specs.OpenStore.{openStore}
+use Rattle.replication.specs.Batch.{Batch}
+use Rattle.replication.specs.OpenBatch.{openBatch}
 use Rattle.replication.specs.Operate.{find}
 use Rattle.replication.specs.Calls.{exhausted, editReply, deleteReply, makeReply, applyReply}
 use Rattle.replication.specs.Lists.{Call, AllGiven, World, outcome, batchNumber}

@@ -22,7 +22,8 @@ use Rattle.ticks.specs.Operations.{normalise, project}
 use Rattle.ticks.specs.Calls.{line, idOf, readAs, ownFault, wrongSpan, resultLines}
 use Rattle.ticks.proofs.ForCalls.{id-is, read-accepted}
 use Rattle.ticks.proofs.Replies.{read-fault, read-fine}
-use Rattle.replication.specs.Store.{Store, openStore}
+use Rattle.replication.specs.Store.{Store}
+use Rattle.replication.specs.OpenStore.{openStore}
 use Rattle.replication.specs.Batch.{Batch, encodeBatch}
 use Rattle.replication.specs.Operate.{made}
 use Rattle.replication.specs.Calls.{then, noStore, storeOr, tooManyRecords, makeLines, makes, makeReply}

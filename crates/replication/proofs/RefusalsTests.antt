@@ -32,7 +32,8 @@ use Rattle.ticks.proofs.ForCover.{covers-for-exact}
 use Rattle.ticks.proofs.LawfulResults.{lawful-sound, lawful-ticks}
 use Rattle.ticks.proofs.Largest.{largest-bounds, largest-attained}
 use Rattle.replication.specs.Record.{Rec}
-use Rattle.replication.specs.Store.{Store, openStore}
+use Rattle.replication.specs.Store.{Store}
+use Rattle.replication.specs.OpenStore.{openStore}
 use Rattle.replication.specs.Batch.{Batch}
 use Rattle.replication.specs.Calls.{uncovered, ownAhead, gone, exhausted, tooManyRecords, storeLines}
 use Rattle.replication.proofs.StoreBytes.{store-opened}

@@ -23,10 +23,12 @@ use Rattle.layout.proofs.Chain.{Stands, stands-whole, over, reads}
 use Rattle.layout.proofs.Forward.{encode-bytes}
 use Rattle.layout.proofs.Lengths.{lawful-length}
 use Rattle.layout.proofs.Exact.{exact, read-back}
-use Rattle.ticks.specs.Normal.{isNormal}
+use Rattle.ticks.specs.Written.{isNormal}
 use Rattle.ticks.specs.Operations.{ownAlike}
-use Rattle.replication.specs.Record.{Rec, putRecs, recsAt, validRecs}
-use Rattle.replication.specs.Store.{Store, encodeStore, storeWith, storeFrom, decodeStore, versionsIn, validStore, ifValid, openStore}
+use Rattle.replication.specs.Record.{Rec, putRecs}
+use Rattle.replication.specs.Reading.{recsAt, validRecs}
+use Rattle.replication.specs.Store.{Store, encodeStore}
+use Rattle.replication.specs.OpenStore.{storeWith, storeFrom, decodeStore, versionsIn, validStore, ifValid, openStore}
 use Rattle.replication.proofs.PartBytes.{part-over, part-reads, part-length, part-back, no-bytes, append-bytes, part-bytes, test-back, both-of, both-left, both-right}
 use Rattle.replication.proofs.RecordBytes.{FitsRec, put-upto, recs-bytes, recs-read, Read, recs-back}
 

@@ -15,10 +15,11 @@ use borrow.Author.Tests.{lt-ltb, le-ltb, le-leb, leb-true, eq-eqb, ne-eqb, eqb-t
 use Rattle.layout.specs.Rules.{largestTick}
 use Rattle.layout.specs.Lawful.{All, Rising}
 use Rattle.ticks.proofs.Lists.{less, same, more, order}
-use Rattle.replication.specs.Record.{Rec, both, tagKept, validRec, validRecs}
-use Rattle.replication.specs.Batch.{inSpan}
+use Rattle.replication.specs.Record.{Rec}
+use Rattle.replication.specs.Reading.{both, tagKept, validRec, validRecs}
+use Rattle.replication.specs.OpenBatch.{inSpan}
 use Rattle.replication.specs.Operate.{find, replace}
-use Rattle.replication.specs.Promise.{items}
+use Rattle.replication.specs.Record.{items}
 
 -- ---- rising item ids
 

@@ -10,10 +10,11 @@ use native.Mathlib.Omega.{arith}
 use lib.ListN.{length}
 use Rattle.layout.specs.Lawful.{All, Rising}
 use Rattle.layout.specs.Knowledge.{Knowledge}
-use Rattle.replication.specs.Record.{Rec, both}
-use Rattle.replication.specs.Batch.{inSpan, lacksChange}
+use Rattle.replication.specs.Record.{Rec}
+use Rattle.replication.specs.Reading.{both}
+use Rattle.replication.specs.OpenBatch.{inSpan, lacksChange}
 use Rattle.replication.specs.Operate.{find, selected}
-use Rattle.replication.specs.Promise.{items}
+use Rattle.replication.specs.Record.{items}
 use Rattle.replication.proofs.Tables.{rising-cons, rising-low, rising-rest, rising-down, find-nil, find-here, find-there, here, there, finds, find-below}
 
 -- of what is found, what a make carries

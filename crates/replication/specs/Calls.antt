@@ -15,8 +15,10 @@ use Rattle.ticks.specs.Known.{highest}
 use Rattle.ticks.specs.Operations.{emptyKnowledge, covers, coversFor, largest}
 use Rattle.ticks.specs.Calls.{line, idOf, readAs, ownFault, wrongLength, wrongSpan, resultLines}
 use Rattle.replication.specs.Record.{Rec, live, tombstone}
-use Rattle.replication.specs.Store.{Store, newStore, encodeStore, openStore}
-use Rattle.replication.specs.Batch.{Batch, encodeBatch, openBatch}
+use Rattle.replication.specs.Store.{Store, newStore, encodeStore}
+use Rattle.replication.specs.OpenStore.{openStore}
+use Rattle.replication.specs.Batch.{Batch, encodeBatch}
+use Rattle.replication.specs.OpenBatch.{openBatch}
 use Rattle.replication.specs.Operate.{find, changed, made, applied}
 
 -- one list of lines after the other

@@ -1,7 +1,11 @@
 -- Records, stores, batches and every call on them as definitions; the plain history machine; lists of calls.
 pub mod Record
+pub mod Reading
 pub mod Store
+pub mod OpenStore
 pub mod Batch
+pub mod Valid
+pub mod OpenBatch
 pub mod Operate
 pub mod Calls
 pub mod Queries

@@ -3,24 +3,22 @@ use Prim.Native.Nat.{ℕ, _<_, _≤_, _^_}
 use mathlib.Core.Path.{_≡_}
 use mathlib.Core.Logic.{_⊎_, _↔_}
 use mathlib.Core.Bool.{false}
-use mathlib.Core.List.{List, [], _∷_}
+use mathlib.Core.List.{List, []}
 use mathlib.Core.Option.{none, some}
 use Rattle.codec.specs.Number.{put}
 use Rattle.codec.specs.Reply.{gives}
 use Rattle.layout.specs.Rules.{Rules}
 use Rattle.layout.specs.Lawful.{Rising}
 use Rattle.ticks.specs.Known.{highest, known}
-use Rattle.replication.specs.Record.{Rec}
-use Rattle.replication.specs.Store.{Store, openStore}
-use Rattle.replication.specs.Batch.{Batch, openBatch}
+use Rattle.replication.specs.Record.{Rec, items}
+use Rattle.replication.specs.Store.{Store}
+use Rattle.replication.specs.OpenStore.{openStore}
+use Rattle.replication.specs.Batch.{Batch}
+use Rattle.replication.specs.OpenBatch.{openBatch}
 use Rattle.replication.specs.Operate.{find}
 use Rattle.replication.specs.Calls.{newReply, applyReply, ownAhead}
 use Rattle.replication.specs.Lists.{Call, World, start, run, trace, outcome, batchNumber}
 use Rattle.replication.specs.Machine.{Remembered, State, initial, history, greatest, numbered}
-
-unfoldable pub items : List Rec → List ℕ
-items [] = []
-items (r ∷ rs) = r .item ∷ items rs
 
 -- the world and the machine after a list of calls
 unfoldable pub ends : Rules → List Call → World

@@ -11,7 +11,7 @@ use borrow.Author.Tests.{eq-eqb, eqb-true}
 use Rattle.layout.specs.Knowledge.{Element, Range, Knowledge}
 use Rattle.ticks.specs.Known.{placeBy}
 use Rattle.ticks.specs.Table.{eqList, eqPair, eqRow}
-use Rattle.ticks.specs.Normal.{eqElement, eqVector, eqRange, eqKnowledge}
+use Rattle.ticks.specs.Written.{eqElement, eqVector, eqRange, eqKnowledge}
 
 -- a test of equality is exact
 pub record Exact {A : Type 0} (eq : A → A → Bool) : Type 0 where

@@ -11,7 +11,8 @@ use Rattle.layout.specs.Knowledge.{Element, Range}
 use Rattle.layout.specs.Lawful.{All, bounds}
 use Rattle.ticks.specs.Known.{indexAt}
 use Rattle.ticks.specs.Table.{at}
-use Rattle.ticks.specs.Normal.{range, eqVector, numberOf, grown, vectorsOf, rangesOf, indices, DifferAfter}
+use Rattle.ticks.specs.Normal.{indices, DifferAfter}
+use Rattle.ticks.specs.Written.{range, eqVector, numberOf, grown, vectorsOf, rangesOf}
 use Rattle.ticks.proofs.Lists.{less, same, more, order}
 use Rattle.ticks.proofs.Equality.{eqVector-exact, place-le, place-found, place-first}
 use Rattle.ticks.proofs.Steps.{stepBounds, Changing, at-nil, at-lt, at-ge}

@@ -9,7 +9,8 @@ use Rattle.layout.specs.Knowledge.{Element, Range, Knowledge}
 use Rattle.layout.specs.Lawful.{All, Rising, bounds}
 use Rattle.ticks.specs.Known.{highest, indexAt, vectorAt}
 use Rattle.ticks.specs.Table.{at}
-use Rattle.ticks.specs.Normal.{range, eqVector, numberOf, grown, vectorsOf, rangesOf, numbered, indices, FirstAtZero, DifferAfter, NeighboursDiffer, VectorsInOrder, NormalOver}
+use Rattle.ticks.specs.Normal.{indices, FirstAtZero, DifferAfter, NeighboursDiffer, VectorsInOrder, NormalOver}
+use Rattle.ticks.specs.Written.{range, eqVector, numberOf, grown, vectorsOf, rangesOf, numbered}
 use Rattle.ticks.proofs.Lists.{less, same, more, order}
 use Rattle.ticks.proofs.Equality.{eqVector-exact, place-found, place-first}
 use Rattle.ticks.proofs.Steps.{Changing, at-nil, at-lt, at-ge}

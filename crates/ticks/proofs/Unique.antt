@@ -11,7 +11,8 @@ use Rattle.layout.specs.Knowledge.{Element, Range, Knowledge}
 use Rattle.layout.specs.Lawful.{All, Distinct, Rising, keys, bounds}
 use Rattle.ticks.specs.Known.{highest, place, tickAt, indexAt, vectorAt, known}
 use Rattle.ticks.specs.Table.{at}
-use Rattle.ticks.specs.Normal.{Among, numbered, indices, Sound, ElementsInOrder, NormalOver, Normal}
+use Rattle.ticks.specs.Normal.{Among, indices, Sound, ElementsInOrder, NormalOver, Normal}
+use Rattle.ticks.specs.Written.{numbered}
 use Rattle.ticks.proofs.Lists.{less, same, more, order, among?, all-among, rising-above, rising-unique}
 use Rattle.ticks.proofs.Equality.{eqb-exact, place-first, place-found}
 use Rattle.ticks.proofs.Steps.{Changing, at-ge, before-steps, steps-unique}

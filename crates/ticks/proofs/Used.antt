@@ -9,7 +9,8 @@ use Rattle.layout.specs.Knowledge.{Element}
 use Rattle.layout.specs.Lawful.{keys}
 use Rattle.ticks.specs.Known.{highest, tickAt, known}
 use Rattle.ticks.specs.Table.{Row, Table, get, canonical, rowIds, stepIds, usedIds}
-use Rattle.ticks.specs.Normal.{vectorFrom, spansFrom, spans, numberOf, grown, vectorsOf, numbered, written, normalOf, Among, Normal, UsedIn}
+use Rattle.ticks.specs.Normal.{Among, Normal, UsedIn}
+use Rattle.ticks.specs.Written.{vectorFrom, spansFrom, spans, numberOf, grown, vectorsOf, numbered, written, normalOf}
 use Rattle.ticks.proofs.Lists.{sorted-only, rising-distinct}
 use Rattle.ticks.proofs.Canonical.{RisingRows, CanonicalTable, canonical-table, canonical-ticks, SteadyTicks}
 use Rattle.ticks.proofs.Vectors.{vector-tick, key-tick}

@@ -13,7 +13,8 @@ use Rattle.layout.specs.Knowledge.{Element}
 use Rattle.layout.specs.Lawful.{All, Rising, keys}
 use Rattle.ticks.specs.Known.{tickAt}
 use Rattle.ticks.specs.Table.{Row, get}
-use Rattle.ticks.specs.Normal.{Among, element, vectorFrom, ElementsInOrder}
+use Rattle.ticks.specs.Normal.{Among, ElementsInOrder}
+use Rattle.ticks.specs.Written.{element, vectorFrom}
 use Rattle.ticks.proofs.Equality.{eqb-exact, exact?}
 use Rattle.ticks.proofs.Rows.{RisingRow, get-before, row-unique}
 

@@ -12,7 +12,8 @@ use Rattle.layout.specs.Knowledge.{Element, Range, Knowledge}
 use Rattle.layout.specs.Lawful.{All, Distinct, Rising, keys}
 use Rattle.ticks.specs.Known.{highest, place, tickAt, vectorAt, known}
 use Rattle.ticks.specs.Table.{at}
-use Rattle.ticks.specs.Normal.{grown, vectorsOf, rangesOf, numbered, Among, Sound, indices, VectorsInOrder, ElementsInOrder, NormalOver}
+use Rattle.ticks.specs.Normal.{Among, Sound, indices, VectorsInOrder, ElementsInOrder, NormalOver}
+use Rattle.ticks.specs.Written.{grown, vectorsOf, rangesOf, numbered}
 use Rattle.ticks.proofs.Lists.{less, same, more, order}
 use Rattle.ticks.proofs.Equality.{eqb-exact, exact?, place-same, place-other}
 use Rattle.ticks.proofs.Steps.{stepBounds, Changing}

@@ -2,6 +2,7 @@
 pub mod Known
 pub mod Table
 pub mod Normal
+pub mod Written
 pub mod Operations
 pub mod Calls
 pub mod Demand2

@@ -10,7 +10,7 @@ use Rattle.layout.specs.Knowledge.{Range, Knowledge}
 use Rattle.layout.specs.Lawful.{bounds}
 use Rattle.ticks.specs.Known.{known}
 use Rattle.ticks.specs.Table.{inside, within, sorted}
-use Rattle.ticks.specs.Normal.{range, normalOf}
+use Rattle.ticks.specs.Written.{range, normalOf}
 
 -- "Empty knowledge has r = 0, v = 1, g = 1."
 unfoldable pub emptyKnowledge : Knowledge

@@ -1,0 +1,56 @@
+-- The value of a valid store, from its bytes. There is nothing to believe here: the law `store-exact` says that the bytes of a
+-- store are read as its value exactly where the store meets document 01's list (specs/Valid.antt).
+use Prim.Native.Nat.{ℕ, _+_}
+use mathlib.Core.Bool.{Bool, true, false}
+use mathlib.Core.List.{List}
+use mathlib.Core.Option.{Option, none, some}
+use lib.Dec.{leb, eqb}
+use lib.ListN.{length, take, drop}
+use Rattle.codec.specs.Number.{beAt}
+use Rattle.layout.specs.Rules.{Limits, Rules}
+use Rattle.layout.specs.Knowledge.{Knowledge}
+use Rattle.layout.specs.Parse.{Parsed, accepted, refused, parse}
+use Rattle.ticks.specs.Known.{contains}
+use Rattle.ticks.specs.Written.{isNormal}
+use Rattle.ticks.specs.Operations.{ownAlike}
+use Rattle.replication.specs.Record.{Rec}
+use Rattle.replication.specs.Reading.{both, recsAt, validRecs}
+use Rattle.replication.specs.Store.{Store}
+
+-- the value in store bytes, of any contents but of exact length
+unfoldable pub storeWith : ℕ → Knowledge → Option (List Rec) → Option Store
+storeWith own k none = none
+storeWith own k (some rs) = some (record { own = own; knowledge = k; records = rs })
+
+unfoldable pub storeFrom : List ℕ → Parsed → Option Store
+storeFrom s (refused n) = none
+storeFrom s (accepted k) = storeWith (beAt s 16 1) k (recsAt s (beAt s 4 21) (25 + beAt s 4 17))
+
+unfoldable pub decodeStore : Rules → List ℕ → Option Store
+decodeStore R s =
+    elim (eqb (beAt s 1 0) 3) [
+      | true ↦ elim (leb (25 + beAt s 4 17) (length s)) [
+        | true ↦ storeFrom s (parse R (take (beAt s 4 17) (drop 25 s)))
+        | false ↦ none
+      ]
+      | false ↦ none
+    ]
+
+-- a record's change and create versions are contained in a knowledge
+unfoldable pub versionsIn : Knowledge → Rec → Bool
+versionsIn k r =
+    both (contains k (r .item) (r .changeReplica) (r .changeTick)) (contains k (r .item) (r .createReplica) (r .createTick))
+
+unfoldable pub validStore : Limits → Store → Bool
+validStore L st =
+    both (leb (length (st .records)) (L .records))
+    (both (isNormal (st .knowledge))
+    (both (ownAlike (st .own) (st .knowledge)) (validRecs (versionsIn (st .knowledge)) 0 (st .records))))
+
+unfoldable pub ifValid : Limits → Option Store → Option Store
+ifValid L none = none
+ifValid L (some st) = elim (validStore L st) [ true ↦ some st | false ↦ none ]
+
+-- the value of a valid store; none where the bytes are none (15)
+unfoldable pub openStore : Rules → List ℕ → Option Store
+openStore R s = ifValid (R .limits) (decodeStore R s)
