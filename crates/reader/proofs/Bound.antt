@@ -3,7 +3,7 @@
 use mathlib.Core.Path.{_≡_, refl, sym, ap, ap₂, _∙_}
 use mathlib.Core.Bool.{Bool, true, false}
 use mathlib.Core.List.{List}
-use Prim.Native.Nat.{ℕ, zero, suc, _+_, _-_, _^_, _<_, _≤_}
+use Prim.Native.Nat.{ℕ, suc, _+_, _-_, _<_, _≤_}
 use native.Mathlib.Nat.{le-of-lt}
 use native.Mathlib.Omega.{arith}
 use borrow.Author.Tests.{lt-ltb, le-ltb, le-leb, lt-leb, ltb-true, ltb-false, leb-true, leb-false}
@@ -15,7 +15,7 @@ use Rattle.codec.specs.Number.{beAt, words3}
 use Rattle.codec.proofs.Order.{words3-be, words3-less-high, words3-less-middle, words3-less-low}
 use Rattle.layout.specs.declared.Got.{Got}
 use Rattle.layout.specs.declared.Got.the-variants.{Num, Fault}
-use Rattle.layout.specs.Read.{_▷_, repeat, number, index, range}
+use Rattle.layout.specs.Read.{_▷_, repeat, index, range}
 use Rattle.reader.specs.Method.{placeOf, rangesFrom, rangesAfter}
 use Rattle.reader.proofs.Steps.{number-there, number-short}
 

@@ -1,20 +1,16 @@
--- Numbers of one, two, four and eight bytes as the sums that the code computes: the definition multiplies by 256
--- and adds the next byte, which is the same sum.
-use mathlib.Core.Path.{_≡_, ap}
+-- Numbers of four and eight bytes as the sums that the code computes: the definition multiplies by 256 and adds the
+-- next byte, which is the same sum. And a number of up to eight bytes, byte by byte, which fits a word.
+use mathlib.Core.Path.{_≡_, refl, sym, ap, ap₂, _∙_}
 use mathlib.Core.List.{List}
-use Prim.Native.Nat.{ℕ, _+_, _*_, _^_, _<_, _≤_}
+use Prim.Native.Nat.{ℕ, suc, _+_, _-_, _*_, _^_, _<_, _≤_}
+use native.Mathlib.Nat.{pow-succ', pow-le-pow-right, mul-comm, lt-of-lt-of-le}
+use native.Mathlib.Numerals.{add-one}
 use native.Mathlib.Omega.{arith}
+use lib.Arith.{digits-lt}
+use lib.Dec.{lit<}
 use lib.ListN.{getD}
-use Rattle.codec.specs.Number.{Bytes, beFrom, beAt}
-use Rattle.codec.proofs.Numbers.{be-add, be-below}
-
-pub be1 : (s : List ℕ) (at x : ℕ) → x ≡ getD s at 0 → x ≡ beAt s 1 at
-unfolding beFrom beAt
-be1 s at x e = omega arith
-
-pub be2 : (s : List ℕ) (at a b : ℕ) → a ≡ getD s at 0 → b ≡ getD s (at + 1) 0 → a * 256 + b ≡ beAt s 2 at
-unfolding beFrom beAt
-be2 s at a b e f = omega arith
+use Rattle.codec.specs.Number.{beFrom, beAt}
+use Rattle.codec.proofs.Numbers.{be-add}
 
 place2 : (s : List ℕ) (at : ℕ) → getD s (at + 1 + 1) 0 ≡ getD s (at + 2) 0
 place2 s at = let e : at + 1 + 1 ≡ at + 2 = omega arith in ap (λ (i : ℕ). getD s i 0) e
@@ -35,3 +31,42 @@ be4 s at a b c d e f g h = omega (arith, place2 s at, place3 s at)
 -- eight bytes are four and four more
 pub be8 : (s : List ℕ) (at a b : ℕ) → a ≡ beAt s 4 at → b ≡ beAt s 4 (at + 4) → a * 4294967296 + b ≡ beAt s 8 at
 be8 s at a b e f = omega (arith, be-add s 4 4 at)
+
+-- ---- byte by byte
+
+pub digits-none : (s : List ℕ) (n at : ℕ) → beAt s n at ≡ beFrom s (n - 0) (at + 0) 0
+unfolding beAt
+digits-none s n at =
+    let e : n ≡ n - 0 = omega arith in
+    let f : at ≡ at + 0 = omega arith in
+    ap₂ (λ (m b : ℕ). beFrom s m b 0) e f
+
+digits-clause : (s : List ℕ) (n at x : ℕ) → beFrom s (suc n) at x ≡ beFrom s n (at + 1) (x * 256 + getD s at 0)
+unfolding beFrom
+digits-clause s n at x = refl
+
+pub digits-on :
+    (s : List ℕ) (n at i x b : ℕ)
+    → beAt s n at ≡ beFrom s (n - i) (at + i) x
+    → i < n
+    → b ≡ getD s (at + i) 0
+    → beAt s n at ≡ beFrom s (n - (i + 1)) (at + (i + 1)) (x * 256 + b)
+digits-on s n at i x b inv h f =
+    let e : n - i ≡ suc (n - (i + 1)) = omega arith in
+    let p : at + i + 1 ≡ at + (i + 1) = omega arith in
+    inv
+    ∙ ap (λ (m : ℕ). beFrom s m (at + i) x) e
+    ∙ digits-clause s (n - (i + 1)) (at + i) x
+    ∙ ap₂ (λ (a d : ℕ). beFrom s (n - (i + 1)) a (x * 256 + d)) p (sym f)
+
+pub digits-end : (s : List ℕ) (n at i x : ℕ) → beAt s n at ≡ beFrom s (n - i) (at + i) x → n ≤ i → x ≡ beAt s n at
+unfolding beFrom
+digits-end s n at i x inv h = let z : n - i ≡ 0 = omega arith in sym (inv ∙ ap (λ (m : ℕ). beFrom s m (at + i) x) z)
+
+-- one byte more
+pub digit-more : (x b i : ℕ) → x < 256 ^ i → b < 256 → x * 256 + b < 256 ^ (i + 1)
+digit-more x b i h l = rw (add-one i, pow-succ' 256 i, mul-comm 256 (256 ^ i)) (digits-lt h l)
+
+-- up to eight bytes fit a word
+pub digits-fit : (x b i : ℕ) → x < 256 ^ i → b < 256 → i + 1 ≤ 8 → x * 256 + b < 2 ^ 64
+digits-fit x b i h l k = lt-of-lt-of-le (digit-more x b i h l) (pow-le-pow-right {n = 256} (lit< tt) k)

@@ -3,7 +3,7 @@
 use mathlib.Core.Path.{_≡_, refl, sym, ap, _∙_}
 use mathlib.Core.Bool.{Bool, true, false}
 use mathlib.Core.List.{List}
-use Prim.Native.Nat.{ℕ, _+_, _-_, _<_, _≤_}
+use Prim.Native.Nat.{ℕ, _+_, _<_, _≤_}
 use native.Mathlib.Omega.{arith}
 use borrow.Author.Tests.{lt-ltb, le-ltb, le-leb, lt-leb, leb-true, leb-false, ltb-true, ltb-false}
 use lib.Dec.{leb, ltb}
@@ -49,9 +49,48 @@ module _ (s : List ℕ) (r start k at : ℕ) where
         ap (λ (b : ℕ). Num (k + 1) b) p
         ∙ sym (key-good ∙ rw (number-there s 8 k (at + 4) (omega arith), le-leb (beAt s 8 (at + 4)) largestTick u, _▷_))
 
--- the code's own answer, of the key that it has read
-pub key-seen : (s : List ℕ) (start k at key : ℕ) (b t : Bool) → key ≡ beAt s 4 at → b ≡ among s 4 12 start k key → b ≡ t → among s 4 12 start k (beAt s 4 at) ≡ t
-key-seen s start k at key b t e f h = ap (λ (x : ℕ). among s 4 12 start k x) (sym e) ∙ sym f ∙ h
+-- ---- the code's answers, step by step
+
+module _ (s : List ℕ) (k at : ℕ) (g : Got) (e : g ≡ number s 8 k at) where
+  tick-after : tick s k at ≡ (g ▷ λ t next. elim (leb t largestTick) [ true ↦ Num (k + 1) next | false ↦ Fault 7 ])
+  unfolding tick
+  tick-after = rw e
+
+  pub tick-fault : (j : ℕ) → g ≡ Fault j → g ≡ tick s k at
+  tick-fault j t = sym (tick-after ∙ (rw t) ∙ sym t)
+
+  module _ (x b : ℕ) (t : g ≡ Num x b) where
+    pub tick-above : largestTick < x → Fault 7 ≡ tick s k at
+    tick-above h = sym (tick-after ∙ rw (t, lt-leb x largestTick h, _▷_))
+
+    pub tick-good : x ≤ largestTick → Num (k + 1) b ≡ tick s k at
+    tick-good h = sym (tick-after ∙ rw (t, le-leb x largestTick h, _▷_))
+
+pub ruleset ticks = (tick-fault, tick-above, tick-good)
+
+module _ (s : List ℕ) (r start k at : ℕ) (g : Got) (e : g ≡ number s 4 k at) where
+  element-after :
+      element s r start k at
+      ≡ (g ▷ λ key next.
+      elim (ltb key r) [ true ↦ elim (among s 4 12 start k key) [ true ↦ Fault 6 | false ↦ tick s k next ] | false ↦ Fault 6 ])
+  unfolding element
+  element-after = rw e
+
+  pub element-fault : (j : ℕ) → g ≡ Fault j → g ≡ element s r start k at
+  element-fault j t = sym (element-after ∙ (rw t) ∙ sym t)
+
+  module _ (key next : ℕ) (t : g ≡ Num key next) where
+    pub element-high : r ≤ key → Fault 6 ≡ element s r start k at
+    element-high h = sym (element-after ∙ rw (t, le-ltb key r h, _▷_))
+
+    module _ (h : key < r) (b : Bool) (m : b ≡ among s 4 12 start k key) where
+      pub element-twice : b ≡ true → Fault 6 ≡ element s r start k at
+      element-twice u = let n : among s 4 12 start k key ≡ true = sym m ∙ u in sym (element-after ∙ rw (t, lt-ltb key r h, n, _▷_))
+
+      pub element-on : b ≡ false → (f : Got) → f ≡ tick s k next → f ≡ element s r start k at
+      element-on u f w = let n : among s 4 12 start k key ≡ false = sym m ∙ u in w ∙ sym (element-after ∙ rw (t, lt-ltb key r h, n, _▷_))
+
+pub ruleset elementSteps = (element-fault, element-high, element-twice, element-on)
 
 -- where there is an element, it is one more, and it stands inside the bytes
 pub element-went : (s : List ℕ) (r start k at : ℕ) (g : Got) → g ≡ element s r start k at → (y b : ℕ) → g ≡ Num y b → Went s 12 k at y b

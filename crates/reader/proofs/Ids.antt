@@ -3,18 +3,18 @@
 use mathlib.Core.Path.{_≡_, refl, sym, ap, ap₂, _∙_}
 use mathlib.Core.Bool.{Bool, true, false}
 use mathlib.Core.List.{List}
-use Prim.Native.Nat.{ℕ, _+_, _-_, _^_, _<_, _≤_}
+use Prim.Native.Nat.{ℕ, _+_, _-_, _<_, _≤_}
 use native.Mathlib.Omega.{arith}
 use borrow.Author.Tests.{eq-eqb, ne-eqb, eqb-true, eqb-false, leb-true, leb-false}
 use mir.Val.{Fits}
-use mir.Syntax.{w8, w64}
+use mir.Syntax.{w64}
 use lib.Dec.{eqb, leb}
-use lib.ListN.{length, getD}
+use lib.ListN.{length}
 use Rattle.codec.specs.Number.{Bytes, beAt, words2}
 use Rattle.layout.specs.declared.Got.{Got}
 use Rattle.layout.specs.declared.Got.the-variants.{Num, Fault}
 use Rattle.layout.specs.Rules.{basic}
-use Rattle.layout.specs.Read.{_▷_, number, among, judged, replicaId}
+use Rattle.layout.specs.Read.{_▷_, among, judged, replicaId}
 use Rattle.reader.specs.Method.{leAt}
 use Rattle.reader.proofs.Little.{be-le}
 use Rattle.reader.proofs.Steps.{Went, number-there, number-short}

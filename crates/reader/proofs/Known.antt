@@ -11,17 +11,17 @@ use lib.ListN.{length, drop, getD}
 use Rattle.codec.specs.Number.{Bytes, beFrom, beAt}
 use Rattle.codec.proofs.Numbers.{be-add, be-below}
 use Rattle.layout.specs.declared.Got.{Got}
-use Rattle.layout.specs.declared.Got.the-variants.{Num, Fault}
-use Rattle.layout.specs.Fields.{Field, field, opening, beforeVectors, beforeElements, beforeRanges, closing}
-use Rattle.layout.specs.Read.{_▷_, number, same, fields, empty, firstVector}
+use Rattle.layout.specs.declared.Got.the-variants.{Num}
+use Rattle.layout.specs.Fields.{Field, field, opening, beforeVectors, beforeRanges, closing}
+use Rattle.layout.specs.Read.{_▷_, same, fields, empty, firstVector}
 use Rattle.reader.specs.Method.{leAt, swap, Opened, Counting, Ranging}
 use Rattle.reader.proofs.Steps.{number-there, empty-yes}
 use Rattle.reader.proofs.Vector.{count-there}
 use Rattle.reader.proofs.Little.{le-be}
 
 -- a test that failed shows nothing
-pub never : {A : Type 0} → false ≡ true → A
-never e = let z : _≡_ {A = ℕ} 0 1 = ap (λ (b : Bool). elim b [ true ↦ 1 | false ↦ 0 ]) e in absurd (omega arith)
+pub never : {A : Type 0} → true ≡ false → A
+never e = let z : _≡_ {A = ℕ} 0 1 = ap (λ (b : Bool). elim b [ true ↦ 0 | false ↦ 1 ]) e in absurd (omega arith)
 
 -- one field that has its value
 field-known :

@@ -3,7 +3,7 @@ pub mod Digits
 pub mod Steps
 pub mod Among
 pub mod Repeat
-pub mod Fixed
+pub mod Run
 pub mod Ids
 pub mod Element
 pub mod Vector

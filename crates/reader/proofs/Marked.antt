@@ -6,18 +6,17 @@ use mathlib.Core.Path.{_≡_, refl, sym, ap, _∙_}
 use mathlib.Core.Bool.{Bool, true, false}
 use mathlib.Core.List.{List}
 use Prim.Native.Nat.{ℕ, zero, suc, _+_, _-_, _*_, _<_, _≤_}
-use native.Mathlib.Nat.{mul-zero, mul-suc, add-zero}
+use native.Mathlib.Nat.{mul-zero, mul-suc}
 use native.Mathlib.Numerals.{add-one}
 use native.Mathlib.Omega.{arith}
-use borrow.Author.Tests.{eq-eqb, ne-eqb, eqb-true, eqb-false}
-use lib.Bits.{bitOr, bitAnd, or-add-and, and-le-l, and-le-r}
+use borrow.Author.Tests.{ne-eqb}
+use lib.Bits.{bitOr, or-add-and, and-le-l, and-le-r}
 use lib.Dec.{eqb}
 use lib.ListN.{length, getD, set}
 use lib.Seq.{getD-set-same, getD-set-other}
 use Rattle.codec.specs.Number.{Bytes, beAt}
 use Rattle.codec.proofs.Numbers.{be-suc, be-below}
-use Rattle.layout.specs.declared.Got.{Got}
-use Rattle.layout.specs.declared.Got.the-variants.{Num, Fault}
+use Rattle.layout.specs.declared.Got.the-variants.{Num}
 use Rattle.layout.specs.Rules.{largestTick}
 use Rattle.layout.specs.Read.{repeat, among, element}
 use Rattle.reader.proofs.Repeat.{repeat-all, repeat-on, repeat-end}

@@ -3,19 +3,19 @@
 use mathlib.Core.Path.{_≡_, refl, sym, ap, _∙_}
 use mathlib.Core.Bool.{Bool, true, false}
 use mathlib.Core.List.{List}
-use Prim.Native.Nat.{ℕ, _+_, _-_, _<_, _≤_}
+use Prim.Native.Nat.{ℕ, _+_, _≤_}
 use native.Mathlib.Omega.{arith}
 use borrow.Author.Tests.{leb-true, leb-false, eq-eqb, ne-eqb}
-use lib.Dec.{leb, eqb}
+use lib.Dec.{leb}
 use lib.ListN.{length}
 use Rattle.layout.specs.declared.Got.{Got}
 use Rattle.layout.specs.declared.Got.the-variants.{Num, Fault}
 use Rattle.layout.specs.declared.Checked.{Checked}
 use Rattle.layout.specs.declared.Checked.the-variants.{Accepted, Refused}
 use Rattle.layout.specs.Rules.{basic}
-use Rattle.layout.specs.Fields.{opening, beforeVectors, beforeRanges, closing}
+use Rattle.layout.specs.Fields.{opening, beforeRanges, closing}
 use Rattle.layout.specs.Read.{_▷_, repeat, number, fields, limit, replicaId}
-use Rattle.layout.specs.Parse.{_▶_, replicaMap, vectorCount, vectorList, rangeList, ended, checked}
+use Rattle.layout.specs.Parse.{_▶_, replicaMap, rangeList, ended, checked}
 use Rattle.reader.specs.Method.{rangesFrom, afterRanges, afterVectors, afterCount, afterMap}
 use Rattle.reader.proofs.Steps.{number-there, number-short}
 use Rattle.reader.proofs.Vector.{limit-went}

@@ -1,27 +1,25 @@
 -- The check in whole words: parts that are without a fault, put together. Each part hands on what is left of the
 -- check, so the last one has its answer.
-use mathlib.Core.Path.{_≡_, refl, sym, ap, ap₂, _∙_}
-use mathlib.Core.Bool.{Bool, true, false}
+use mathlib.Core.Path.{_≡_, refl, sym, ap, _∙_}
+use mathlib.Core.Bool.{false}
 use mathlib.Core.List.{List}
-use Prim.Native.Nat.{ℕ, zero, suc, _+_, _-_, _*_, _<_, _≤_}
+use Prim.Native.Nat.{ℕ, _+_, _-_, _*_, _<_, _≤_}
 use native.Mathlib.Omega.{arith}
-use lib.Dec.{ltb}
 use lib.ListN.{length, getD}
 use Rattle.codec.specs.Number.{beAt}
 use Rattle.layout.specs.declared.Got.{Got}
 use Rattle.layout.specs.declared.Got.the-variants.{Num, Fault}
-use Rattle.layout.specs.declared.Checked.{Checked}
-use Rattle.layout.specs.declared.Checked.the-variants.{Accepted, Refused}
+use Rattle.layout.specs.declared.Checked.the-variants.{Accepted}
 use Rattle.layout.specs.Rules.{basic}
 use Rattle.layout.specs.Fields.{opening, beforeVectors, beforeRanges, closing}
-use Rattle.layout.specs.Read.{_▷_, repeat, number, fields, limit, among, replicaId, firstVector, vector, range}
-use Rattle.layout.specs.Parse.{_▶_, replicaMap, vectorCount, vectorList, rangeList, checked}
-use Rattle.reader.specs.Method.{Opened, Counting, Ranging, Reached, placeOf, rangesFrom, rangesAfter, afterMap, afterCount, afterVectors, afterRanges}
-use Rattle.reader.proofs.Steps.{number-there, number-read, limit-in}
+use Rattle.layout.specs.Read.{_▷_, repeat, number, fields, limit, among, replicaId, firstVector, vector}
+use Rattle.layout.specs.Parse.{vectorCount, vectorList, rangeList, checked}
+use Rattle.reader.specs.Method.{Opened, Counting, Ranging, Reached, rangesFrom, rangesAfter, afterMap, afterCount, afterVectors, afterRanges}
+use Rattle.reader.proofs.Steps.{number-read, limit-in}
 use Rattle.reader.proofs.Repeat.{repeat-on, repeat-end}
 use Rattle.reader.proofs.Ids.{id-there-new}
 use Rattle.reader.proofs.Vector.{first-on}
-use Rattle.reader.proofs.Bound.{first-good, place-good, range-went, ranges-on, ranges-first, ranges-end}
+use Rattle.reader.proofs.Bound.{first-good, ranges-first, ranges-end}
 use Rattle.reader.proofs.Parts.{map-on, range-list-on, told-on, answer-whole, check-on}
 
 -- ---- a place that is reached, or not
@@ -33,10 +31,6 @@ pub reached : (s : List ℕ) (room : ℕ) (whole : Got) (y d : ℕ) → Num y d 
 reached s room whole y d i h = record {
   is = λ x b e. let p : d ≡ b = cc in (sym i ∙ e, omega arith);
 }
-
--- a word that was read, by another name of its place
-pub moved : (s : List ℕ) (n at next x : ℕ) → x ≡ beAt s n at → next ≡ at → x ≡ beAt s n next
-moved s n at next x e p = e ∙ ap (λ (b : ℕ). beAt s n b) (sym p)
 
 -- ---- ids
 
@@ -102,32 +96,6 @@ ranges-begin s v g start i h l e f =
     refl
     (rangesAfter s v g (g - 1) (start + 28))
     refl)
-
-pub ranges-more :
-    (whole : Got) (s : List ℕ) (v g k at i : ℕ) (r : Bool)
-    → whole ≡ rangesAfter s v g (g - k) at
-    → k < g
-    → at + 28 ≤ length s
-    → r ≡ ltb (beAt s 24 (at - 28)) (beAt s 24 at)
-    → r ≡ true
-    → i ≡ beAt s 4 (at + 24)
-    → i < v
-    → whole ≡ rangesAfter s v g (g - (k + 1)) (at + 28)
-ranges-more whole s v g k at i r inv h l e t f u =
-    ranges-on
-    whole
-    s
-    v
-    g
-    k
-    at
-    inv
-    h
-    (Num 0 (at + 28))
-    (place-good s v (at - 28) at (omega arith) r (omega arith) e t (omega arith) i f u)
-    0
-    (at + 28)
-    refl
 
 pub ranges-all :
     (s : List ℕ) (v g k start at : ℕ)

@@ -1,18 +1,15 @@
 -- The steps of reading, one law for each way that a function of the code returns: its premises are the facts that
 -- the code has tested there. Each holds since the definition makes the same test.
-use mathlib.Core.Path.{_≡_, refl, sym, ap, _∙_}
-use mathlib.Core.Bool.{Bool, true, false}
-use mathlib.Core.List.{List, [], _∷_}
+use mathlib.Core.Path.{_≡_, sym, ap, _∙_}
+use mathlib.Core.List.{List}
 use Prim.Native.Nat.{ℕ, _+_, _-_, _≤_, _<_}
 use native.Mathlib.Omega.{arith}
-use borrow.Author.Tests.{lt-ltb, le-ltb, le-leb, lt-leb, eq-eqb, ne-eqb}
-use lib.Dec.{leb, ltb, eqb}
+use borrow.Author.Tests.{le-leb, lt-leb, eq-eqb, ne-eqb}
 use lib.ListN.{length}
 use Rattle.codec.specs.Number.{beAt}
 use Rattle.layout.specs.declared.Got.{Got}
 use Rattle.layout.specs.declared.Got.the-variants.{Num, Fault}
-use Rattle.layout.specs.Fields.{Field, field}
-use Rattle.layout.specs.Read.{_▷_, number, same, fields, limit, empty}
+use Rattle.layout.specs.Read.{_▷_, number, same, limit, empty}
 
 -- one more part of a size, counted, and inside the bytes
 pub record Went (s : List ℕ) (size k at y b : ℕ) : Type 0 where
@@ -27,6 +24,10 @@ number-there s n x at h = rw (le-leb (at + n) (length s) h, number)
 pub number-short : (s : List ℕ) (n x at : ℕ) → length s < at + n → number s n x at ≡ Fault 1
 unfolding number
 number-short s n x at h = rw (lt-leb (at + n) (length s) h, number)
+
+-- the step after one whose answer is known by another name
+pub next-step : (f : ℕ → ℕ → Got) (g h k : Got) → h ≡ g → k ≡ (h ▷ f) → k ≡ (g ▷ f)
+next-step f g h k e i = i ∙ ap (λ (x : Got). x ▷ f) e
 
 -- ---- a number of n bytes
 

@@ -2,10 +2,10 @@
 -- inside the bytes, and each of its elements takes twelve of them.
 use mathlib.Core.Path.{_≡_, refl, sym, ap, _∙_}
 use mathlib.Core.Bool.{Bool, true, false}
-use mathlib.Core.List.{List, [], _∷_}
+use mathlib.Core.List.{List, []}
 use Prim.Native.Nat.{ℕ, _+_, _-_, _*_, _<_, _≤_}
 use native.Mathlib.Omega.{arith}
-use borrow.Author.Tests.{leb-true, leb-false, eqb-true, eqb-false, eq-eqb, ne-eqb, le-leb, lt-leb}
+use borrow.Author.Tests.{leb-true, leb-false, eqb-true, eqb-false, eq-eqb, ne-eqb}
 use lib.Dec.{leb, eqb}
 use lib.ListN.{length}
 use Rattle.codec.specs.Number.{beAt}
@@ -15,7 +15,7 @@ use Rattle.layout.specs.Fields.{beforeElements}
 use Rattle.layout.specs.Read.{_▷_, repeat, number, same, fields, limit, empty, element, firstVector, vector}
 use Rattle.layout.specs.Parse.{vectorList}
 use Rattle.reader.proofs.Steps.{number-there, number-short, limit-low, limit-high, limit-in}
-use Rattle.reader.proofs.Fixed.{run-none, run-next, run-whole}
+use Rattle.reader.proofs.Run.{run-none, run-next, run-whole}
 use Rattle.reader.proofs.Repeat.{repeat-went}
 use Rattle.reader.proofs.Element.{element-went}
 

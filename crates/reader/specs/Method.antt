@@ -8,7 +8,7 @@ use Rattle.codec.specs.Number.{Bytes, beAt}
 use Rattle.layout.specs.declared.Got.{Got}
 use Rattle.layout.specs.declared.Got.the-variants.{Num, Fault}
 use Rattle.layout.specs.declared.Checked.{Checked}
-use Rattle.layout.specs.declared.Checked.the-variants.{Accepted, Refused}
+use Rattle.layout.specs.declared.Checked.the-variants.{Accepted}
 use Rattle.layout.specs.Rules.{basic}
 use Rattle.layout.specs.Fields.{opening, beforeVectors, beforeRanges, closing}
 use Rattle.layout.specs.Read.{_▷_, repeat, fields, range}

@@ -1,22 +1,25 @@
-// The check of a knowledge's bytes: total, for every input.
+// The check of a knowledge's bytes, for every input of any length. Bytes without a fault are checked in whole words;
+// where anything is amiss, the check is made field by field, which finds the first fault.
 use layout::Checked;
 use layout::Got;
 ghost use mathlib.Core.Path.{_≡_};
 ghost use mathlib.Core.Bool.{true, false};
-ghost use Prim.Native.Nat.{ℕ, suc, _+_, _-_, _*_, _^_, _≤_, _<_};
+ghost use Prim.Native.Nat.{suc, _+_, _-_, _*_, _≤_, _<_};
 ghost use lib.Dec.{eqb, ltb};
-ghost use lib.ListN.{length, getD};
-ghost use Rattle.codec.specs.Number.{Bytes, beAt, words2, words3};
+ghost use lib.ListN.{length};
+ghost use Rattle.codec.specs.Number.{beAt, words2, words3};
 ghost use Rattle.layout.specs.Rules.{basic};
-ghost use Rattle.layout.specs.Read.{_▷_, repeat, number, same, fields, limit, empty, among, replicaId, element, firstVector, vector, range};
+ghost use Rattle.layout.specs.Read.{_▷_, repeat, number, same, fields, limit, empty, among, replicaId, tick, element, firstVector, vector, range};
 ghost use Rattle.layout.specs.Fields.{opening, beforeVectors, beforeElements, beforeRanges, closing};
 ghost use Rattle.layout.specs.Parse.{replicaMap, vectorCount, vectorList, rangeList, checked};
 ghost use Rattle.reader.specs.Method.{Word, leAt, Little, Opened, Counting, Ranging, Reached, placeOf, rangesFrom, rangesAfter, afterMap, afterCount, afterVectors, afterRanges};
 
-// the most replicas, and the most ranges
+// the most replicas
 const REPLICAS: usize = 16;
 
+// the most ranges
 const RANGES: usize = 64;
+
 // the largest tick
 const TICK: usize = 9223372036854775807;
 
@@ -27,20 +30,6 @@ fn wide(x: u8) -> usize
     ensures { λ r. ⌜ (r ≡ x) × (r < 256) ⌝ }
 {
     x as usize
-}
-
-fn one(s: &[u8], at: usize) -> usize
-    requires { ⌜ at + 1 ≤ length (now s) ⌝ }
-    ensures { λ r. ⌜ r ≡ beAt (now (s .entry)) 1 at ⌝ }
-{
-    wide(s[at])
-}
-
-fn two(s: &[u8], at: usize) -> usize
-    requires { ⌜ at + 2 ≤ length (now s) ⌝ }
-    ensures { λ r. ⌜ r ≡ beAt (now (s .entry)) 2 at ⌝ }
-{
-    wide(s[at]) * 256 + wide(s[at + 1])
 }
 
 fn four(s: &[u8], at: usize) -> usize
@@ -59,23 +48,23 @@ fn eight(s: &[u8], at: usize) -> usize
 
 // ---- one field after the other
 
-fn read1(s: &[u8], g: Got) -> Got
-    ensures { λ r. ⌜ r ≡ (g ▷ number (now (s .entry)) 1) ⌝ }
+// The number of n bytes at a place, byte by byte.
+fn number_at(s: &[u8], at: usize, n: usize) -> usize
+    requires { ⌜ (n ≤ 8) × (at + n ≤ length (now s)) ⌝ }
+    ensures { λ r. ⌜ r ≡ beAt (now (s .entry)) n at ⌝ }
 {
-    let Got::Num(_, at) = g else {
-        return g;
-    };
-    if s.len() < at {
-        return Got::Fault(1);
+    let mut x: usize = 0;
+    let mut i: usize = 0;
+    while i < n {
+        x = x * 256 + wide(s[at + i]);
+        i += 1;
     }
-    if s.len() - at < 1 {
-        return Got::Fault(1);
-    }
-    Got::Num(one(s, at), at + 1)
+    x
 }
 
-fn read2(s: &[u8], g: Got) -> Got
-    ensures { λ r. ⌜ r ≡ (g ▷ number (now (s .entry)) 2) ⌝ }
+fn read(s: &[u8], g: Got, n: usize) -> Got
+    requires { ⌜ n ≤ 8 ⌝ }
+    ensures { λ r. ⌜ r ≡ (g ▷ number (now (s .entry)) n) ⌝ }
 {
     let Got::Num(_, at) = g else {
         return g;
@@ -83,25 +72,10 @@ fn read2(s: &[u8], g: Got) -> Got
     if s.len() < at {
         return Got::Fault(1);
     }
-    if s.len() - at < 2 {
+    if s.len() - at < n {
         return Got::Fault(1);
     }
-    Got::Num(two(s, at), at + 2)
-}
-
-fn read4(s: &[u8], g: Got) -> Got
-    ensures { λ r. ⌜ r ≡ (g ▷ number (now (s .entry)) 4) ⌝ }
-{
-    let Got::Num(_, at) = g else {
-        return g;
-    };
-    if s.len() < at {
-        return Got::Fault(1);
-    }
-    if s.len() - at < 4 {
-        return Got::Fault(1);
-    }
-    Got::Num(four(s, at), at + 4)
+    Got::Num(number_at(s, at, n), at + n)
 }
 
 // Compares what was read with the fixed value.
@@ -117,22 +91,11 @@ fn equal(g: Got, w: usize) -> Got
     Got::Fault(2)
 }
 
-fn fixed1(s: &[u8], g: Got, w: usize) -> Got
-    ensures { λ r. ⌜ r ≡ (g ▷ number (now (s .entry)) 1 ▷ same w) ⌝ }
+fn fixed(s: &[u8], g: Got, n: usize, w: usize) -> Got
+    requires { ⌜ n ≤ 8 ⌝ }
+    ensures { λ r. ⌜ r ≡ (g ▷ number (now (s .entry)) n ▷ same w) ⌝ }
 {
-    equal(read1(s, g), w)
-}
-
-fn fixed2(s: &[u8], g: Got, w: usize) -> Got
-    ensures { λ r. ⌜ r ≡ (g ▷ number (now (s .entry)) 2 ▷ same w) ⌝ }
-{
-    equal(read2(s, g), w)
-}
-
-fn fixed4(s: &[u8], g: Got, w: usize) -> Got
-    ensures { λ r. ⌜ r ≡ (g ▷ number (now (s .entry)) 4 ▷ same w) ⌝ }
-{
-    equal(read4(s, g), w)
+    equal(read(s, g, n), w)
 }
 
 fn in_limits(g: Got, lo: usize, hi: usize) -> Got
@@ -167,43 +130,43 @@ fn no_elements(g: Got) -> Got
 fn opening_fields(s: &[u8]) -> Got
     ensures { λ r. ⌜ r ≡ fields (now (s .entry)) opening 0 0 ⌝ }
 {
-    let g = fixed4(s, Got::Num(0, 0), 5);
-    let g = fixed4(s, g, 0);
-    let g = fixed4(s, g, 1);
-    let g = fixed4(s, g, 0);
-    let g = fixed4(s, g, 5);
-    let g = fixed1(s, g, 0);
-    fixed2(s, g, 16)
+    let g = fixed(s, Got::Num(0, 0), 4, 5);
+    let g = fixed(s, g, 4, 0);
+    let g = fixed(s, g, 4, 1);
+    let g = fixed(s, g, 4, 0);
+    let g = fixed(s, g, 4, 5);
+    let g = fixed(s, g, 1, 0);
+    fixed(s, g, 2, 16)
 }
 
 fn fields_before_vectors(s: &[u8], at: usize) -> Got
     ensures { λ r. ⌜ r ≡ fields (now (s .entry)) beforeVectors 0 at ⌝ }
 {
-    let g = fixed4(s, Got::Num(0, at), 24);
-    let g = fixed1(s, g, 0);
-    let g = fixed2(s, g, 16);
-    let g = fixed1(s, g, 0);
-    let g = fixed2(s, g, 24);
-    let g = fixed1(s, g, 0);
-    let g = fixed2(s, g, 1);
-    fixed4(s, g, 21)
+    let g = fixed(s, Got::Num(0, at), 4, 24);
+    let g = fixed(s, g, 1, 0);
+    let g = fixed(s, g, 2, 16);
+    let g = fixed(s, g, 1, 0);
+    let g = fixed(s, g, 2, 24);
+    let g = fixed(s, g, 1, 0);
+    let g = fixed(s, g, 2, 1);
+    fixed(s, g, 4, 21)
 }
 
 fn fields_before_ranges(s: &[u8], at: usize) -> Got
     ensures { λ r. ⌜ r ≡ fields (now (s .entry)) beforeRanges 0 at ⌝ }
 {
-    let g = fixed4(s, Got::Num(0, at), 23);
-    let g = fixed4(s, g, 1);
-    fixed4(s, g, 22)
+    let g = fixed(s, Got::Num(0, at), 4, 23);
+    let g = fixed(s, g, 4, 1);
+    fixed(s, g, 4, 22)
 }
 
 fn closing_fields(s: &[u8], at: usize) -> Got
     ensures { λ r. ⌜ r ≡ fields (now (s .entry)) closing 0 at ⌝ }
 {
-    let g = fixed4(s, Got::Num(0, at), 0);
-    let g = fixed4(s, g, 25);
-    let g = fixed1(s, g, 1);
-    fixed4(s, g, 0)
+    let g = fixed(s, Got::Num(0, at), 4, 0);
+    let g = fixed(s, g, 4, 25);
+    let g = fixed(s, g, 1, 1);
+    fixed(s, g, 4, 0)
 }
 
 // ---- replica ids
@@ -286,28 +249,37 @@ fn seen_key(s: &[u8], start: usize, k: usize, key: usize) -> bool
     false
 }
 
+// The tick at a place, with k elements before its own.
+fn next_tick(s: &[u8], k: usize, at: usize) -> Got
+    requires { ⌜ k ≤ length (now s) ⌝ }
+    ensures { λ g. ⌜ g ≡ tick (now (s .entry)) k at ⌝ }
+{
+    let g = read(s, Got::Num(k, at), 8);
+    let Got::Num(t, next) = g else {
+        return g;
+    };
+    if TICK < t {
+        return Got::Fault(7);
+    }
+    Got::Num(k + 1, next)
+}
+
 // The element at a place, with k elements before it from start on.
 fn next_element(s: &[u8], r: usize, start: usize, k: usize, at: usize) -> Got
-    requires { ⌜ (start + 12 * k ≤ length (now s)) × (at ≤ length (now s)) ⌝ }
+    requires { ⌜ start + 12 * k ≤ length (now s) ⌝ }
     ensures { λ g. ⌜ g ≡ element (now (s .entry)) r start k at ⌝ }
 {
-    if s.len() - at < 4 {
-        return Got::Fault(1);
-    }
-    let key = four(s, at);
+    let g = read(s, Got::Num(k, at), 4);
+    let Got::Num(key, next) = g else {
+        return g;
+    };
     if r <= key {
         return Got::Fault(6);
     }
     if seen_key(s, start, k, key) {
         return Got::Fault(6);
     }
-    if s.len() - at < 12 {
-        return Got::Fault(1);
-    }
-    if TICK < eight(s, at + 4) {
-        return Got::Fault(7);
-    }
-    Got::Num(k + 1, at + 12)
+    next_tick(s, k, next)
 }
 
 fn elements(s: &[u8], r: usize, n: usize, start: usize) -> Got
@@ -331,7 +303,7 @@ fn elements(s: &[u8], r: usize, n: usize, start: usize) -> Got
 fn count_of_elements(s: &[u8], at: usize) -> Got
     ensures { λ r. ⌜ r ≡ (fields (now (s .entry)) beforeElements 0 at ▷ number (now (s .entry)) 4) ⌝ }
 {
-    read4(s, fixed4(s, Got::Num(0, at), 1))
+    read(s, fixed(s, Got::Num(0, at), 4, 1), 4)
 }
 
 fn first_vector(s: &[u8], at: usize) -> Got
@@ -420,21 +392,6 @@ fn first_range(s: &[u8], v: usize, at: usize) -> Got
     Got::Num(0, at + 28)
 }
 
-// Is the bound at a place above the one at another.
-fn rises(s: &[u8], from: usize, at: usize) -> bool
-    requires { ⌜ (from + 24 ≤ length (now s)) × (at + 24 ≤ length (now s)) ⌝ }
-    ensures { λ r. ⌜ r ≡ ltb (beAt (now (s .entry)) 24 from) (beAt (now (s .entry)) 24 at) ⌝ }
-{
-    less(
-        eight(s, from),
-        eight(s, from + 8),
-        eight(s, from + 16),
-        eight(s, at),
-        eight(s, at + 8),
-        eight(s, at + 16),
-    )
-}
-
 // A range whose bound must be above the one at another place.
 fn next_range(s: &[u8], v: usize, from: usize, at: usize) -> Got
     requires { ⌜ (from + 24 ≤ length (now s)) × (at ≤ length (now s)) ⌝ }
@@ -443,7 +400,14 @@ fn next_range(s: &[u8], v: usize, from: usize, at: usize) -> Got
     if s.len() - at < 24 {
         return Got::Fault(1);
     }
-    if rises(s, from, at) {
+    if less(
+        eight(s, from),
+        eight(s, from + 8),
+        eight(s, from + 16),
+        eight(s, at),
+        eight(s, at + 8),
+        eight(s, at + 16),
+    ) {
         if s.len() - at < 28 {
             return Got::Fault(1);
         }
@@ -492,7 +456,7 @@ fn ranges(s: &[u8], v: usize, g: usize, start: usize) -> Got
 fn replica_map(s: &[u8]) -> Got
     ensures { λ g. ⌜ g ≡ replicaMap basic (now (s .entry)) ⌝ }
 {
-    let g = in_limits(read4(s, opening_fields(s)), 0, REPLICAS);
+    let g = in_limits(read(s, opening_fields(s), 4), 0, REPLICAS);
     let Got::Num(r, start) = g else {
         return g;
     };
@@ -502,13 +466,13 @@ fn replica_map(s: &[u8]) -> Got
 fn vector_count(s: &[u8], at: usize) -> Got
     ensures { λ g. ⌜ g ≡ vectorCount basic (now (s .entry)) at ⌝ }
 {
-    in_limits(read4(s, fields_before_vectors(s, at)), 1, RANGES + 1)
+    in_limits(read(s, fields_before_vectors(s, at), 4), 1, RANGES + 1)
 }
 
 fn range_list(s: &[u8], v: usize, at: usize) -> Got
     ensures { λ r. ⌜ r ≡ rangeList basic (now (s .entry)) v at ⌝ }
 {
-    let f = in_limits(read4(s, fields_before_ranges(s, at)), 1, RANGES);
+    let f = in_limits(read(s, fields_before_ranges(s, at), 4), 1, RANGES);
     let Got::Num(g, start) = f else {
         return f;
     };
@@ -571,8 +535,10 @@ fn exact(s: &[u8]) -> Checked
     }
 }
 
-// ---- the same in whole words, where nothing is amiss; whatever is amiss is left to the check field by field
+// ---- the same in whole words. A word with the lowest byte first is one load; each constant has the bytes of the fields
+// that it stands for. A function whose answer is false has found nothing amiss.
 
+// The check field by field. It takes the slice anew, so that the caller's own need not lie in memory.
 fn slow(s: &[u8]) -> Checked
     ensures { λ r. ⌜ r ≡ checked basic (now (s .entry)) ⌝ }
 {
@@ -601,67 +567,77 @@ fn little8(s: &[u8], at: usize) -> usize
 }
 
 // The opening, and all but the last byte of the count r.
-fn opening_good(s: &[u8]) -> bool
+fn opening_amiss(s: &[u8]) -> bool
     requires { ⌜ 27 ≤ length (now s) ⌝ }
-    ensures { λ r. ⌜ (r ≡ true → Opened (now (s .entry))) ⌝ }
+    ensures { λ r. ⌜ (r ≡ false → Opened (now (s .entry))) ⌝ }
 {
+    // 5 and 0
     if little8(s, 0) != 83886080 {
-        return false;
+        return true;
     }
+    // 1 and 0
     if little8(s, 8) != 16777216 {
-        return false;
+        return true;
     }
+    // 5
     if little4(s, 16) != 83886080 {
-        return false;
+        return true;
     }
+    // 0, 16, and the count's first byte
     if little4(s, 20) != 1048576 {
-        return false;
+        return true;
     }
-    little2(s, 24) == 0
+    little2(s, 24) != 0
 }
 
 // The fields before the vectors, and all but the last byte of the count v.
-fn before_vectors_good(s: &[u8], at: usize) -> bool
+fn before_vectors_amiss(s: &[u8], at: usize) -> bool
     requires { ⌜ at + 21 ≤ length (now s) ⌝ }
-    ensures { λ r. ⌜ (r ≡ true → Counting (now (s .entry)) at) ⌝ }
+    ensures { λ r. ⌜ (r ≡ false → Counting (now (s .entry)) at) ⌝ }
 {
+    // 24, 0, 16, 0
     if little8(s, at) != 4503600030023680 {
-        return false;
+        return true;
     }
+    // 24, 0, 1, and the first three bytes of 21
     if little8(s, at + 8) != 4294973440 {
-        return false;
+        return true;
     }
-    little4(s, at + 16) == 21
+    // the last byte of 21, and the count's first three
+    little4(s, at + 16) != 21
 }
 
 // The fields before the ranges, and all but the last byte of the count g.
-fn before_ranges_good(s: &[u8], at: usize) -> bool
+fn before_ranges_amiss(s: &[u8], at: usize) -> bool
     requires { ⌜ at + 16 ≤ length (now s) ⌝ }
-    ensures { λ r. ⌜ (r ≡ true → Ranging (now (s .entry)) at) ⌝ }
+    ensures { λ r. ⌜ (r ≡ false → Ranging (now (s .entry)) at) ⌝ }
 {
+    // 23 and 1
     if little8(s, at) != 72057594423803904 {
-        return false;
+        return true;
     }
+    // 22
     if little4(s, at + 8) != 369098752 {
-        return false;
+        return true;
     }
     if little2(s, at + 12) != 0 {
-        return false;
+        return true;
     }
-    wide(s[at + 14]) == 0
+    wide(s[at + 14]) != 0
 }
 
-fn closing_good(s: &[u8], at: usize) -> bool
+fn closing_amiss(s: &[u8], at: usize) -> bool
     requires { ⌜ at + 13 ≤ length (now s) ⌝ }
-    ensures { λ r. ⌜ (r ≡ true → fields (now (s .entry)) closing 0 at ≡ Got.Num 0 (at + 13)) ⌝ }
+    ensures { λ r. ⌜ (r ≡ false → fields (now (s .entry)) closing 0 at ≡ Got.Num 0 (at + 13)) ⌝ }
 {
+    // 0 and 25
     if little8(s, at) != 1801439850948198400 {
-        return false;
+        return true;
     }
     if wide(s[at + 8]) != 1 {
-        return false;
+        return true;
     }
-    little4(s, at + 9) == 0
+    little4(s, at + 9) != 0
 }
 
 // Do two words stand at a place.
@@ -675,10 +651,10 @@ fn words_at(s: &[u8], at: usize, a: usize, b: usize) -> bool
     little8(s, at + 8) == b
 }
 
-// Is the id at a place none of the k first ids.
-fn id_good(s: &[u8], k: usize, at: usize) -> bool
+// Is the id at a place one of the k first ids.
+fn id_amiss(s: &[u8], k: usize, at: usize) -> bool
     requires { ⌜ (27 + 16 * k ≤ length (now s)) × (at + 16 ≤ length (now s)) ⌝ }
-    ensures { λ r. ⌜ (r ≡ true → among (now (s .entry)) 16 16 27 k (beAt (now (s .entry)) 16 at) ≡ false) ⌝ }
+    ensures { λ r. ⌜ (r ≡ false → among (now (s .entry)) 16 16 27 k (beAt (now (s .entry)) 16 at) ≡ false) ⌝ }
 {
     let a = little8(s, at);
     let b = little8(s, at + 8);
@@ -686,36 +662,35 @@ fn id_good(s: &[u8], k: usize, at: usize) -> bool
     let mut p: usize = 27;
     while i < k {
         if words_at(s, p, a, b) {
-            return false;
+            return true;
         }
         p += 16;
         i += 1;
     }
-    true
+    false
 }
 
 // The replica ids.
-fn ids_good(s: &[u8], n: usize) -> bool
+fn ids_amiss(s: &[u8], n: usize) -> bool
     requires { ⌜ 27 + 16 * n ≤ length (now s) ⌝ }
-    ensures { λ r. ⌜ (r ≡ true → repeat (replicaId basic (now (s .entry)) 27) n 0 27 ≡ Got.Num n (27 + 16 * n)) ⌝ }
+    ensures { λ r. ⌜ (r ≡ false → repeat (replicaId basic (now (s .entry)) 27) n 0 27 ≡ Got.Num n (27 + 16 * n)) ⌝ }
 {
     let mut k: usize = 0;
     let mut at: usize = 27;
     while k < n {
-        if id_good(s, k, at) {
-            at += 16;
-            k += 1;
-        } else {
-            return false;
+        if id_amiss(s, k, at) {
+            return true;
         }
+        at += 16;
+        k += 1;
     }
-    true
+    false
 }
 
-// The n elements of a clock vector.
-fn elements_good(s: &[u8], r: usize, n: usize, start: usize) -> bool
+// The n elements of a clock vector. One byte gathers the marks that are met and the first bytes of the ticks.
+fn elements_amiss(s: &[u8], r: usize, n: usize, start: usize) -> bool
     requires { ⌜ (r ≤ 16) × (start + 12 * n ≤ length (now s)) ⌝ }
-    ensures { λ g. ⌜ (g ≡ true → repeat (element (now (s .entry)) r start) n 0 start ≡ Got.Num n (start + 12 * n)) ⌝ }
+    ensures { λ g. ⌜ (g ≡ false → repeat (element (now (s .entry)) r start) n 0 start ≡ Got.Num n (start + 12 * n)) ⌝ }
 {
     let mut seen = [0u8; REPLICAS];
     let mut bad: u8 = 0;
@@ -724,7 +699,7 @@ fn elements_good(s: &[u8], r: usize, n: usize, start: usize) -> bool
     while k < n {
         let key = four(s, at);
         if r <= key {
-            return false;
+            return true;
         }
         bad = bad | seen[key];
         bad = bad | s[at + 4];
@@ -732,11 +707,11 @@ fn elements_good(s: &[u8], r: usize, n: usize, start: usize) -> bool
         at += 12;
         k += 1;
     }
-    bad < 128
+    128 <= bad
 }
 
 // The vectors after the first, with 57 bytes or more after them: what follows the vectors takes no less.
-fn vectors_good(s: &[u8], r: usize, v: usize, start: usize) -> Got
+fn vectors_whole(s: &[u8], r: usize, v: usize, start: usize) -> Got
     requires { ⌜ (r ≤ 16) × (start + 57 ≤ length (now s)) ⌝ }
     ensures { λ g. ⌜ Reached (now (s .entry)) 57 (repeat (vector (now (s .entry)) r) (v - 1) 0 start) g ⌝ }
 {
@@ -745,6 +720,7 @@ fn vectors_good(s: &[u8], r: usize, v: usize, start: usize) -> Got
     let mut e: usize = 0;
     let mut at = start;
     while k < v {
+        // 1
         if little4(s, at) != 16777216 {
             return Got::Fault(0);
         }
@@ -756,48 +732,60 @@ fn vectors_good(s: &[u8], r: usize, v: usize, start: usize) -> Got
         if room < next {
             return Got::Fault(0);
         }
-        if elements_good(s, r, n, at + 8) {
-            at = next;
-            e += n;
-            k += 1;
-        } else {
+        if elements_amiss(s, r, n, at + 8) {
             return Got::Fault(0);
         }
+        at = next;
+        e += n;
+        k += 1;
     }
     Got::Num(e, at)
 }
 
+// Is the bound at a place above the one at another.
+fn rises(s: &[u8], from: usize, at: usize) -> bool
+    requires { ⌜ (from + 24 ≤ length (now s)) × (at + 24 ≤ length (now s)) ⌝ }
+    ensures { λ r. ⌜ r ≡ ltb (beAt (now (s .entry)) 24 from) (beAt (now (s .entry)) 24 at) ⌝ }
+{
+    less(
+        eight(s, from),
+        eight(s, from + 8),
+        eight(s, from + 16),
+        eight(s, at),
+        eight(s, at + 8),
+        eight(s, at + 16),
+    )
+}
+
+// A range after another one.
+fn range_amiss(s: &[u8], v: usize, at: usize) -> bool
+    requires { ⌜ (28 ≤ at) × (at + 28 ≤ length (now s)) ⌝ }
+    ensures { λ r. ⌜ (r ≡ false → Got.Num 0 (at + 28) ≡ placeOf (range (now (s .entry)) v (suc (beAt (now (s .entry)) 24 (at - 28))) at)) ⌝ }
+{
+    if rises(s, at - 28, at) {
+        return v <= four(s, at + 24);
+    }
+    true
+}
+
 // The ranges, of which there is one or more.
-fn ranges_good(s: &[u8], v: usize, g: usize, start: usize) -> bool
+fn ranges_amiss(s: &[u8], v: usize, g: usize, start: usize) -> bool
     requires { ⌜ (1 ≤ g) × (start + 28 * g ≤ length (now s)) ⌝ }
-    ensures { λ r. ⌜ (r ≡ true → rangesFrom (now (s .entry)) v g start ≡ Got.Num g (start + 28 * g)) ⌝ }
+    ensures { λ r. ⌜ (r ≡ false → rangesFrom (now (s .entry)) v g start ≡ Got.Num g (start + 28 * g)) ⌝ }
 {
     if v <= four(s, start + 24) {
-        return false;
+        return true;
     }
-    let mut a = eight(s, start);
-    let mut b = eight(s, start + 8);
-    let mut c = eight(s, start + 16);
     let mut k: usize = 1;
     let mut at = start + 28;
     while k < g {
-        let x = eight(s, at);
-        let y = eight(s, at + 8);
-        let z = eight(s, at + 16);
-        if less(a, b, c, x, y, z) {
-            if v <= four(s, at + 24) {
-                return false;
-            }
-            a = x;
-            b = y;
-            c = z;
-            at += 28;
-            k += 1;
-        } else {
-            return false;
+        if range_amiss(s, v, at) {
+            return true;
         }
+        at += 28;
+        k += 1;
     }
-    true
+    false
 }
 
 // The check from the fields after the vectors on.
@@ -805,25 +793,27 @@ fn ranges_fast(s: &[u8], r: usize, v: usize, e: usize, at: usize) -> Checked
     requires { ⌜ (at + 57 ≤ length (now s)) × (checked basic (now s) ≡ afterVectors (now s) r v e at) ⌝ }
     ensures { λ c. ⌜ c ≡ checked basic (now (s .entry)) ⌝ }
 {
-    if before_ranges_good(s, at) {
-        let g = wide(s[at + 15]);
-        if g < 1 {
-            return slow(s);
-        }
-        if RANGES < g {
-            return slow(s);
-        }
-        let end = at + 16 + 28 * g;
-        if s.len() - 13 != end {
-            return slow(s);
-        }
-        if closing_good(s, end) {
-            if ranges_good(s, v, g, at + 16) {
-                return Checked::Accepted { r, v, e, g };
-            }
-        }
+    if before_ranges_amiss(s, at) {
+        return slow(s);
     }
-    slow(s)
+    let g = wide(s[at + 15]);
+    if g < 1 {
+        return slow(s);
+    }
+    if RANGES < g {
+        return slow(s);
+    }
+    let end = at + 16 + 28 * g;
+    if s.len() - 13 != end {
+        return slow(s);
+    }
+    if closing_amiss(s, end) {
+        return slow(s);
+    }
+    if ranges_amiss(s, v, g, at + 16) {
+        return slow(s);
+    }
+    Checked::Accepted { r, v, e, g }
 }
 
 // The check from the fields after the replica map on.
@@ -831,24 +821,25 @@ fn vectors_fast(s: &[u8], r: usize, at: usize) -> Checked
     requires { ⌜ (r ≤ 16) × (at + 86 ≤ length (now s)) × (checked basic (now s) ≡ afterMap (now s) r at) ⌝ }
     ensures { λ c. ⌜ c ≡ checked basic (now (s .entry)) ⌝ }
 {
-    if before_vectors_good(s, at) {
-        let v = wide(s[at + 20]);
-        if v < 1 {
-            return slow(s);
-        }
-        if RANGES + 1 < v {
-            return slow(s);
-        }
-        if little8(s, at + 21) != 16777216 {
-            return slow(s);
-        }
-        let g = vectors_good(s, r, v, at + 29);
-        let Got::Num(e, next) = g else {
-            return slow(s);
-        };
-        return ranges_fast(s, r, v, e, next);
+    if before_vectors_amiss(s, at) {
+        return slow(s);
     }
-    slow(s)
+    let v = wide(s[at + 20]);
+    if v < 1 {
+        return slow(s);
+    }
+    if RANGES + 1 < v {
+        return slow(s);
+    }
+    // the first vector: 1 and no elements
+    if little8(s, at + 21) != 16777216 {
+        return slow(s);
+    }
+    let g = vectors_whole(s, r, v, at + 29);
+    let Got::Num(e, next) = g else {
+        return slow(s);
+    };
+    ranges_fast(s, r, v, e, next)
 }
 
 // Checks the bytes of a knowledge: its counts, or the number of the first fault.
@@ -858,18 +849,19 @@ pub fn check(s: &[u8]) -> Checked
     if s.len() < 113 {
         return slow(s);
     }
-    if opening_good(s) {
-        let r = wide(s[26]);
-        if REPLICAS < r {
-            return slow(s);
-        }
-        let at = 27 + 16 * r;
-        if s.len() - 86 < at {
-            return slow(s);
-        }
-        if ids_good(s, r) {
-            return vectors_fast(s, r, at);
-        }
+    if opening_amiss(s) {
+        return slow(s);
     }
-    slow(s)
+    let r = wide(s[26]);
+    if REPLICAS < r {
+        return slow(s);
+    }
+    let at = 27 + 16 * r;
+    if s.len() - 86 < at {
+        return slow(s);
+    }
+    if ids_amiss(s, r) {
+        return slow(s);
+    }
+    vectors_fast(s, r, at)
 }

@@ -1,37 +1,28 @@
+-- `reader::after_count` meets its contract. The vectors, then what is after them.
 use Rattle.reader.specs.Method.{afterCount}
 use Rattle.reader.proofs.Parts.{told-fault, told-on}
 use mathlib.Core.Path.{sym, _∙_}
 use borrow.Author.Needs.{needs}
 use Rattle.reader.proofs.after_count.Statement.{statement}
 use Rattle.reader.proofs.after_count.Tie as tie
-use Rattle.reader.proofs.after_count.Reads as reads
-use Rattle.reader.proofs.after_count.Lts as lts
-use Rattle.reader.proofs.after_vectors.Reads as after-vectors-reads
-use Rattle.reader.proofs.vectors.Reads as vectors-reads
 
--- src/lib.rt:540:11
 vectors-requires : tie.Need-vectors-requires
 vectors-requires c κs = search needs
 
--- src/lib.rt:541:18
 enum-known-e : tie.Need-enum-known-e
 enum-known-e c = search needs
 
--- src/lib.rt:541:30
 after-vectors-requires : tie.Need-after-vectors-requires
 after-vectors-requires c κs = search needs
 
--- src/lib.rt:542:20
 enum-known-n : tie.Need-enum-known-n
 enum-known-n c = search needs
 
--- src/lib.rt:537:1
 returns : tie.Need-returns
 unfolding afterCount
 returns c =
     told-on _ _ _ _ _ (sym (c .before .before .before .before .vectors .ensures) ∙ c .before .before .e .given .1) (c .after-vectors .ensures)
 
--- src/lib.rt:537:1
 returns-2 : tie.Need-returns-2
 unfolding afterCount
 returns-2 c =

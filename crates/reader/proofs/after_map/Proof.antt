@@ -1,37 +1,28 @@
+-- `reader::after_map` meets its contract. The count of the vectors, then what is after it.
 use Rattle.reader.specs.Method.{afterMap}
 use Rattle.reader.proofs.Parts.{told-fault, told-on}
 use mathlib.Core.Path.{sym, _∙_}
 use borrow.Author.Needs.{needs}
 use Rattle.reader.proofs.after_map.Statement.{statement}
 use Rattle.reader.proofs.after_map.Tie as tie
-use Rattle.reader.proofs.after_map.Reads as reads
-use Rattle.reader.proofs.after_map.Lts as lts
-use Rattle.reader.proofs.after_count.Reads as after-count-reads
-use Rattle.reader.proofs.vector_count.Reads as vector-count-reads
 
--- src/lib.rt:550:11
 vector-count-requires : tie.Need-vector-count-requires
 vector-count-requires c κs = search needs
 
--- src/lib.rt:551:18
 enum-known-v : tie.Need-enum-known-v
 enum-known-v c = search needs
 
--- src/lib.rt:551:30
 after-count-requires : tie.Need-after-count-requires
 after-count-requires c κs = search needs
 
--- src/lib.rt:552:20
 enum-known-n : tie.Need-enum-known-n
 enum-known-n c = search needs
 
--- src/lib.rt:547:1
 returns : tie.Need-returns
 unfolding afterMap
 returns c =
     told-on _ _ _ _ _ (sym (c .before .before .before .before .vector-count .ensures) ∙ c .before .before .v .given .1) (c .after-count .ensures)
 
--- src/lib.rt:547:1
 returns-2 : tie.Need-returns-2
 unfolding afterMap
 returns-2 c =

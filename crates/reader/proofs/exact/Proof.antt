@@ -1,34 +1,25 @@
+-- `reader::exact` meets its contract. The replica map, then what is after it.
 use Rattle.reader.proofs.Parts.{check-fault, check-on}
 use borrow.Author.Needs.{needs}
 use Rattle.reader.proofs.exact.Statement.{statement}
 use Rattle.reader.proofs.exact.Tie as tie
-use Rattle.reader.proofs.exact.Reads as reads
-use Rattle.reader.proofs.exact.Lts as lts
-use Rattle.reader.proofs.after_map.Reads as after-map-reads
-use Rattle.reader.proofs.replica_map.Reads as replica-map-reads
 
--- src/lib.rt:560:11
 replica-map-requires : tie.Need-replica-map-requires
 replica-map-requires c κs = search needs
 
--- src/lib.rt:561:18
 enum-known-r : tie.Need-enum-known-r
 enum-known-r c = search needs
 
--- src/lib.rt:561:28
 after-map-requires : tie.Need-after-map-requires
 after-map-requires c κs = search needs
 
--- src/lib.rt:562:20
 enum-known-n : tie.Need-enum-known-n
 enum-known-n c = search needs
 
--- src/lib.rt:557:1
 returns : tie.Need-returns
 returns c =
     check-on _ _ _ _ (c .before .before .before .before .replica-map .ensures) (c .before .before .r .given .1) _ (c .after-map .ensures)
 
--- src/lib.rt:557:1
 returns-2 : tie.Need-returns-2
 returns-2 c =
     check-fault _ _ _ (c .before .before .before .replica-map .ensures) (c .before .n .given .1)

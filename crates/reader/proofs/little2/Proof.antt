@@ -1,41 +1,31 @@
+-- `reader::little2` meets its contract. The code adds the bytes, each times its power of 256 from the lowest on.
 use Rattle.reader.proofs.Little.{le2}
 use native.Mathlib.Omega.{arith}
 use borrow.Author.Needs.{needs}
 use Rattle.reader.proofs.little2.Statement.{statement}
 use Rattle.reader.proofs.little2.Tie as tie
-use Rattle.reader.proofs.little2.Reads as reads
-use Rattle.reader.proofs.little2.Lts as lts
-use Rattle.reader.proofs.wide.Reads as wide-reads
 
--- src/lib.rt:586:10
 shared-slice-read-wide : tie.Need-shared-slice-read-wide
 shared-slice-read-wide c = search needs
 
--- src/lib.rt:586:5
 wide-requires : tie.Need-wide-requires
 wide-requires c κs = search needs
 
--- src/lib.rt:586:26
 add-wide : tie.Need-add-wide
 add-wide c = search needs
 
--- src/lib.rt:586:24
 shared-slice-read-wide-2 : tie.Need-shared-slice-read-wide-2
 shared-slice-read-wide-2 c = search needs
 
--- src/lib.rt:586:19
 wide-requires-2 : tie.Need-wide-requires-2
 wide-requires-2 c κs = search needs
 
--- src/lib.rt:586:19
 mul-result : tie.Need-mul-result
 mul-result c = search needs
 
--- src/lib.rt:586:5
 add-result : tie.Need-add-result
 add-result c = search needs
 
--- src/lib.rt:582:1
 returns : tie.Need-returns
 returns c =
     record { is = search le2; below = search needs; bytes = record { below = λ i. omega (arith, c .before .shared-slice-known3 .given i) } }

@@ -1,3 +1,4 @@
+-- `reader::more_ranges` meets its contract. The loop's invariant: the whole answer is the answer from here on, where the bound before stands 28 bytes before the place.
 use lib.ListN.{length}
 use Rattle.reader.specs.Method.{rangesAfter}
 use Prim.Native.Nat.{_-_, _≤_}
@@ -7,9 +8,6 @@ use borrow.Author.Needs.{needs}
 use native.Mathlib.Omega.{arith}
 use Rattle.reader.proofs.more_ranges.Statement.{statement}
 use Rattle.reader.proofs.more_ranges.Tie as tie
-use Rattle.reader.proofs.more_ranges.Reads as reads
-use Rattle.reader.proofs.more_ranges.Lts as lts
-use Rattle.reader.proofs.next_range.Reads as next-range-reads
 
 abbrev Inv-loop : tie.InvT-loop
 Inv-loop s v g start k₀ at₀ k at =
@@ -18,47 +16,38 @@ Inv-loop s v g start k₀ at₀ k at =
 abbrev μ-loop : tie.MeasureT-loop
 μ-loop s v g start k₀ at₀ k at = g - k
 
--- src/lib.rt:457:5
 loop-holds : tie.Need-loop-holds Inv-loop μ-loop
 loop-holds c =
     (refl, omega arith, omega arith)
 
--- src/lib.rt:458:34
 sub-next-range : tie.Need-sub-next-range Inv-loop μ-loop
 sub-next-range c =
     omega arith
 
--- src/lib.rt:458:13
 next-range-requires : tie.Need-next-range-requires Inv-loop μ-loop
 next-range-requires c κs =
     omega arith
 
--- src/lib.rt:459:25
 enum-known-f : tie.Need-enum-known-f Inv-loop μ-loop
 enum-known-f c =
     search needs
 
--- src/lib.rt:460:13
 enum-told : tie.Need-enum-told Inv-loop μ-loop
 enum-told c =
     search needs
 
--- src/lib.rt:460:13
 returns : tie.Need-returns Inv-loop μ-loop
 returns c =
     search (ranges-stop)
 
--- src/lib.rt:463:9
 add-k : tie.Need-add-k Inv-loop μ-loop
 add-k c =
     omega arith
 
--- src/lib.rt:457:5
 loop-less : tie.Need-loop-less Inv-loop μ-loop
 loop-less c =
     omega arith
 
--- src/lib.rt:457:5
 loop-again : tie.Need-loop-again Inv-loop μ-loop
 loop-again c =
     let d = c .before .before .before in
@@ -68,7 +57,6 @@ loop-again c =
       omega arith,
     )
 
--- src/lib.rt:451:1
 returns-2 : tie.Need-returns-2 Inv-loop μ-loop
 returns-2 c =
     search (ranges-end)

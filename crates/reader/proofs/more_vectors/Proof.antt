@@ -1,3 +1,4 @@
+-- `reader::more_vectors` meets its contract. The loop's invariant: the whole answer is the answer from here on, and there are no more elements than bytes.
 use Rattle.layout.specs.Read.{repeat, vector}
 use Prim.Native.Nat.{_-_, _≤_}
 use mathlib.Core.Path.{_≡_, refl}
@@ -7,9 +8,6 @@ use borrow.Author.Needs.{needs}
 use native.Mathlib.Omega.{arith}
 use Rattle.reader.proofs.more_vectors.Statement.{statement}
 use Rattle.reader.proofs.more_vectors.Tie as tie
-use Rattle.reader.proofs.more_vectors.Reads as reads
-use Rattle.reader.proofs.more_vectors.Lts as lts
-use Rattle.reader.proofs.next_vector.Reads as next-vector-reads
 
 abbrev Inv-loop : tie.InvT-loop
 Inv-loop s r v start k₀ e₀ at₀ k e at =
@@ -18,42 +16,34 @@ Inv-loop s r v start k₀ e₀ at₀ k e at =
 abbrev μ-loop : tie.MeasureT-loop
 μ-loop s r v start k₀ e₀ at₀ k e at = v - k
 
--- src/lib.rt:365:5
 loop-holds : tie.Need-loop-holds Inv-loop μ-loop
 loop-holds c =
     (refl, omega arith)
 
--- src/lib.rt:366:13
 next-vector-requires : tie.Need-next-vector-requires Inv-loop μ-loop
 next-vector-requires c κs =
     omega arith
 
--- src/lib.rt:367:22
 enum-known-g : tie.Need-enum-known-g Inv-loop μ-loop
 enum-known-g c =
     search needs
 
--- src/lib.rt:368:13
 enum-told : tie.Need-enum-told Inv-loop μ-loop
 enum-told c =
     search needs
 
--- src/lib.rt:368:13
 returns : tie.Need-returns Inv-loop μ-loop
 returns c =
     search repeats
 
--- src/lib.rt:372:9
 add-k : tie.Need-add-k Inv-loop μ-loop
 add-k c =
     omega arith
 
--- src/lib.rt:365:5
 loop-less : tie.Need-loop-less Inv-loop μ-loop
 loop-less c =
     omega arith
 
--- src/lib.rt:365:5
 loop-again : tie.Need-loop-again Inv-loop μ-loop
 loop-again c =
     let d = c .before .before .before in (
@@ -61,7 +51,6 @@ loop-again c =
       vector-below _ _ _ _ _ (d .next-vector .ensures) _ _ (c .before .g .given .1) (omega arith),
     )
 
--- src/lib.rt:359:1
 returns-2 : tie.Need-returns-2 Inv-loop μ-loop
 returns-2 c =
     search repeats

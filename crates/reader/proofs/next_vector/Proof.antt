@@ -1,57 +1,43 @@
+-- `reader::next_vector` meets its contract. The count, then as many elements. Each element takes twelve bytes, so that the sum of the counts fits.
 use borrow.Author.Needs.{needs}
 use native.Mathlib.Omega.{arith}
 use Rattle.reader.proofs.Vector.{vector-count-fault, vector-start, vector-element-fault, vector-end, vector-good}
 use Rattle.reader.proofs.next_vector.Statement.{statement}
 use Rattle.reader.proofs.next_vector.Tie as tie
-use Rattle.reader.proofs.next_vector.Reads as reads
-use Rattle.reader.proofs.next_vector.Lts as lts
-use Rattle.reader.proofs.count_of_elements.Reads as count-of-elements-reads
-use Rattle.reader.proofs.elements.Reads as elements-reads
-use Rattle.reader.proofs.in_limits.Reads as in-limits-reads
 
--- src/lib.rt:347:23
 count-of-elements-requires : tie.Need-count-of-elements-requires
 count-of-elements-requires c κs = search needs
 
--- src/lib.rt:347:9
 in-limits-requires : tie.Need-in-limits-requires
 in-limits-requires c κs = search needs
 
--- src/lib.rt:348:18
 enum-known-g : tie.Need-enum-known-g
 enum-known-g c = search needs
 
--- src/lib.rt:349:9
 enum-told : tie.Need-enum-told
 enum-told c = search needs
 
--- src/lib.rt:349:9
 returns : tie.Need-returns
 returns c =
     let a = c .before .before .before .before .before .args in
     vector-count-fault (a .s .now) (a .r) (a .e) (a .at) _ _ (c .before .before .before .count-of-elements .ensures) (c .before .before .in-limits .ensures) _ (c .enum-told .given .1)
 
--- src/lib.rt:351:9
 elements-requires : tie.Need-elements-requires
 elements-requires c κs =
     let a = c .before .before .before .before .before .before .args in
     vector-start (a .s .now) (a .r) (a .e) (a .at) _ _ (c .before .before .before .before .count-of-elements .ensures) (c .before .before .before .in-limits .ensures) _ _ (c .before .g .given .1) .inside
 
--- src/lib.rt:352:18
 enum-known-g-2 : tie.Need-enum-known-g-2
 enum-known-g-2 c = search needs
 
--- src/lib.rt:353:9
 enum-told-2 : tie.Need-enum-told-2
 enum-told-2 c = search needs
 
--- src/lib.rt:353:9
 returns-2 : tie.Need-returns-2
 returns-2 c =
     let a = c .before .before .before .before .before .before .before .before .before .args in
     vector-element-fault (a .s .now) (a .r) (a .e) (a .at) _ _ (c .before .before .before .before .before .before .before .count-of-elements .ensures) (c .before .before .before .before .before .before .in-limits .ensures) _ _ (c .before .before .before .before .g .given .1) _ (c .before .before .elements .ensures) _ (c .enum-told2 .given .1)
 
--- src/lib.rt:355:14
 add-t12 : tie.Need-add-t12
 add-t12 c =
     let a = c .before .before .before .before .before .before .before .before .before .before .args in
@@ -59,7 +45,6 @@ add-t12 c =
     let v = vector-end (a .s .now) (a .r) (a .e) (a .at) _ _ (c .before .before .before .before .before .before .before .before .count-of-elements .ensures) (c .before .before .before .before .before .before .before .in-limits .ensures) _ _ (c .before .before .before .before .before .g .given .1) _ (c .before .before .before .elements .ensures) _ _ (c .before .g2 .given .1) in
     record { fits = omega arith }
 
--- src/lib.rt:343:1
 returns-3 : tie.Need-returns-3
 returns-3 c =
     let a = c .before .before .before .before .before .before .before .before .before .before .args in

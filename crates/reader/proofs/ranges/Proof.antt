@@ -1,42 +1,32 @@
+-- `reader::ranges` meets its contract. The first range, then those after it.
 use Rattle.reader.proofs.Bound.{range-went, ranges-none, ranges-first-fault, ranges-first}
 use native.Mathlib.Omega.{arith}
 use borrow.Author.Needs.{needs}
 use Rattle.reader.proofs.ranges.Statement.{statement}
 use Rattle.reader.proofs.ranges.Tie as tie
-use Rattle.reader.proofs.ranges.Reads as reads
-use Rattle.reader.proofs.ranges.Lts as lts
-use Rattle.reader.proofs.first_range.Reads as first-range-reads
-use Rattle.reader.proofs.more_ranges.Reads as more-ranges-reads
 
--- src/lib.rt:473:9
 returns : tie.Need-returns
 returns c =
     search ranges-none
 
--- src/lib.rt:475:9
 first-range-requires : tie.Need-first-range-requires
 first-range-requires c κs = search needs
 
--- src/lib.rt:476:21
 enum-known-f : tie.Need-enum-known-f
 enum-known-f c = search needs
 
--- src/lib.rt:477:9
 enum-told : tie.Need-enum-told
 enum-told c = search needs
 
--- src/lib.rt:477:9
 returns-2 : tie.Need-returns-2
 returns-2 c =
     ranges-first-fault _ _ _ _ (c .before .before .before .if1 .left) _ (c .before .before .first-range .ensures) _ (c .enum-told .given .1)
 
--- src/lib.rt:479:5
 more-ranges-requires : tie.Need-more-ranges-requires
 more-ranges-requires c κs =
     let w = range-went _ _ _ _ _ (c .before .before .before .first-range .ensures) _ _ (c .before .f .given .1) in
     omega arith
 
--- src/lib.rt:468:1
 returns-3 : tie.Need-returns-3
 returns-3 c =
     ranges-first _ _ _ _ (c .before .before .before .before .before .if1 .left) _ (c .before .before .before .before .first-range .ensures) _ _ (c .before .before .f .given .1) _ (c .more-ranges .ensures)

@@ -1,57 +1,42 @@
+-- `reader::rises` meets its contract. Item ids are compared word by word from the front.
 use borrow.Author.Needs.{needs}
 use Rattle.reader.proofs.Bound.{bounds-less}
 use Rattle.reader.proofs.rises.Statement.{statement}
 use Rattle.reader.proofs.rises.Tie as tie
-use Rattle.reader.proofs.rises.Reads as reads
-use Rattle.reader.proofs.rises.Lts as lts
-use Rattle.reader.proofs.eight.Reads as eight-reads
-use Rattle.reader.proofs.less.Reads as less-reads
 
--- src/lib.rt:427:10
 eight-requires : tie.Need-eight-requires
 eight-requires c κs = search needs
 
--- src/lib.rt:427:35
 add-eight : tie.Need-add-eight
 add-eight c = search needs
 
--- src/lib.rt:427:26
 eight-requires-2 : tie.Need-eight-requires-2
 eight-requires-2 c κs = search needs
 
--- src/lib.rt:427:55
 add-eight-2 : tie.Need-add-eight-2
 add-eight-2 c = search needs
 
--- src/lib.rt:427:46
 eight-requires-3 : tie.Need-eight-requires-3
 eight-requires-3 c κs = search needs
 
--- src/lib.rt:427:67
 eight-requires-4 : tie.Need-eight-requires-4
 eight-requires-4 c κs = search needs
 
--- src/lib.rt:427:90
 add-eight-3 : tie.Need-add-eight-3
 add-eight-3 c = search needs
 
--- src/lib.rt:427:81
 eight-requires-5 : tie.Need-eight-requires-5
 eight-requires-5 c κs = search needs
 
--- src/lib.rt:427:108
 add-eight-4 : tie.Need-add-eight-4
 add-eight-4 c = search needs
 
--- src/lib.rt:427:99
 eight-requires-6 : tie.Need-eight-requires-6
 eight-requires-6 c κs = search needs
 
--- src/lib.rt:427:5
 less-requires : tie.Need-less-requires
 less-requires c κs = search needs
 
--- src/lib.rt:423:1
 returns : tie.Need-returns
 returns c =
     let a = c .before .before .before .before .before .before .before .before .args in

@@ -1,14 +1,12 @@
+-- `reader::seen_id` meets its contract. The loop's invariant: the whole answer is the answer from here on.
 use Rattle.reader.proofs.seen_id.Statement.{statement}
 use native.Mathlib.Omega.{arith}
-use mathlib.Core.Path.{_≡_, refl}
+use mathlib.Core.Path.{_≡_}
 use Prim.Native.Nat.{_+_, _-_, _*_, _≤_}
 use Rattle.codec.specs.Number.{words2}
 use Rattle.layout.specs.Read.{among}
 use Rattle.reader.proofs.Among.{amongs}
 use Rattle.reader.proofs.seen_id.Tie as tie
-use Rattle.reader.proofs.seen_id.Reads as reads
-use Rattle.reader.proofs.seen_id.Lts as lts
-use Rattle.reader.proofs.same_id.Reads as same-id-reads
 
 abbrev Inv-loop : tie.InvT-loop
 Inv-loop s start k high low i₀ at₀ i at =
@@ -17,35 +15,27 @@ Inv-loop s start k high low i₀ at₀ i at =
 abbrev μ-loop : tie.MeasureT-loop
 μ-loop s start k high low i₀ at₀ i at = k - i
 
--- src/lib.rt:228:5
 loop-holds : tie.Need-loop-holds Inv-loop μ-loop
 loop-holds c = (search amongs, omega arith, omega arith)
 
--- src/lib.rt:229:12
 same-id-requires : tie.Need-same-id-requires Inv-loop μ-loop
 same-id-requires c κs = omega arith
 
--- src/lib.rt:230:13
 returns : tie.Need-returns Inv-loop μ-loop
 returns c = search amongs
 
--- src/lib.rt:232:9
 add-at : tie.Need-add-at Inv-loop μ-loop
 add-at c = omega arith
 
--- src/lib.rt:233:9
 add-i : tie.Need-add-i Inv-loop μ-loop
 add-i c = omega arith
 
--- src/lib.rt:228:5
 loop-less : tie.Need-loop-less Inv-loop μ-loop
 loop-less c = omega arith
 
--- src/lib.rt:228:5
 loop-again : tie.Need-loop-again Inv-loop μ-loop
 loop-again c = (search amongs, omega arith, omega arith)
 
--- src/lib.rt:222:1
 returns-2 : tie.Need-returns-2 Inv-loop μ-loop
 returns-2 c = search amongs
 

@@ -1,29 +1,22 @@
+-- `reader::words_at` meets its contract. Both words are compared.
 use borrow.Author.Tests.{eqb-false}
 use mathlib.Core.Path.{_∙_}
 use borrow.Author.Needs.{needs}
 use Rattle.reader.proofs.words_at.Statement.{statement}
 use Rattle.reader.proofs.words_at.Tie as tie
-use Rattle.reader.proofs.words_at.Reads as reads
-use Rattle.reader.proofs.words_at.Lts as lts
-use Rattle.reader.proofs.little8.Reads as little8-reads
 
--- src/lib.rt:672:8
 little8-requires : tie.Need-little8-requires
 little8-requires c κs = search needs
 
--- src/lib.rt:673:9
 returns : tie.Need-returns
 returns c = search needs
 
--- src/lib.rt:675:16
 add-little8 : tie.Need-add-little8
 add-little8 c = search needs
 
--- src/lib.rt:675:5
 little8-requires-2 : tie.Need-little8-requires-2
 little8-requires-2 c κs = search needs
 
--- src/lib.rt:668:1
 returns-2 : tie.Need-returns-2
 returns-2 c =
     λ e p q. eqb-false _ _ e (c .little82 .ensures .is ∙ q)
