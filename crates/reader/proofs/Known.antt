@@ -15,8 +15,8 @@ use Rattle.layout.specs.declared.Got.the-variants.{Num}
 use Rattle.layout.specs.Fields.{Field, field, opening, beforeVectors, beforeRanges, closing}
 use Rattle.layout.specs.Read.{_▷_, same, fields, empty, firstVector}
 use Rattle.reader.specs.Method.{leAt, swap, Opened, Counting, Ranging}
-use Rattle.reader.proofs.Steps.{number-there, empty-yes}
-use Rattle.reader.proofs.Vector.{count-there}
+use Rattle.fields.proofs.Steps.{number-there, empty-yes}
+use Rattle.fields.proofs.Vector.{count-there}
 use Rattle.reader.proofs.Little.{le-be}
 
 -- a test that failed shows nothing

@@ -8,6 +8,7 @@ use lib.Arith.{digits-div, digits-mod}
 use lib.ListN.{getD}
 use Rattle.codec.specs.Number.{Bytes, beAt}
 use Rattle.codec.proofs.Numbers.{be-zero, be-suc, be-below}
+use Rattle.codec.proofs.Order.{words2-be, words2-same, word-below}
 use Rattle.reader.specs.Method.{leAt, swap}
 
 place2 : (s : List ℕ) (at : ℕ) → getD s (at + 1 + 1) 0 ≡ getD s (at + 2) 0
@@ -66,3 +67,24 @@ be-le s (suc n) a b o e = ap₂ (λ (x y : ℕ). x + 256 * y) first (be-le s n (
         sym (digits-mod (getD s a 0) (be-below s n (a + 1) o))
         ∙ ap (λ (x : ℕ). x % 256 ^ n) both
         ∙ digits-mod (getD s b 0) (be-below s n (b + 1) o)
+
+-- two ids whose words, lowest byte first, are not both the same
+pub id-other :
+    (s : List ℕ) (p at a b : ℕ)
+    → Bytes s
+    → a ≡ leAt s 8 at
+    → b ≡ leAt s 8 (at + 8)
+    → (leAt s 8 p ≡ a → leAt s 8 (p + 8) ≡ b → ⊥)
+    → beAt s 16 p ≡ beAt s 16 at
+    → ⊥
+id-other s p at a b o e f ne h =
+    let w =
+    words2-same
+    (beAt s 8 p)
+    (beAt s 8 (p + 8))
+    (beAt s 8 at)
+    (beAt s 8 (at + 8))
+    (word-below s (p + 8) o)
+    (word-below s (at + 8) o)
+    (sym (words2-be s p) ∙ h ∙ words2-be s at) in
+    ne (be-le s 8 p at o (w .0) ∙ sym e) (be-le s 8 (p + 8) (at + 8) o (w .1) ∙ sym f)

@@ -3,10 +3,9 @@
 -- first bytes of the ticks: it stays below 128 exactly where each of them is, that is, where no key was met twice and
 -- no tick is above the largest.
 use mathlib.Core.Path.{_≡_, refl, sym, ap, _∙_}
-use mathlib.Core.Bool.{Bool, true, false}
+use mathlib.Core.Bool.{Bool, false}
 use mathlib.Core.List.{List}
-use Prim.Native.Nat.{ℕ, zero, suc, _+_, _-_, _*_, _<_, _≤_}
-use native.Mathlib.Nat.{mul-zero, mul-suc}
+use Prim.Native.Nat.{ℕ, suc, _+_, _-_, _*_, _<_, _≤_}
 use native.Mathlib.Numerals.{add-one}
 use native.Mathlib.Omega.{arith}
 use borrow.Author.Tests.{ne-eqb}
@@ -19,42 +18,21 @@ use Rattle.codec.proofs.Numbers.{be-suc, be-below}
 use Rattle.layout.specs.declared.Got.the-variants.{Num}
 use Rattle.layout.specs.Rules.{largestTick}
 use Rattle.layout.specs.Read.{repeat, among, element}
-use Rattle.reader.proofs.Repeat.{repeat-all, repeat-on, repeat-end}
-use Rattle.reader.proofs.Element.{element-good}
+use Rattle.fields.proofs.Among.{either, among-last}
+use Rattle.fields.proofs.Repeat.{repeat-all, repeat-on, repeat-end}
+use Rattle.fields.proofs.Element.{element-good}
 
 -- ---- one number more
 
-none-first : (s : List ℕ) (n step at k x : ℕ) → among s n step at (suc k) x ≡ false → (eqb (beAt s n at) x ≡ false) × (among s n step (at + step) k x ≡ false)
-unfolding among
-none-first s n step at k x e = by-case (eqb (beAt s n at) x) refl
-  where
-    by-case : (r : Bool) → eqb (beAt s n at) x ≡ r → (eqb (beAt s n at) x ≡ false) × (among s n step (at + step) k x ≡ false)
-    by-case true t =
-        let h : among s n step at (suc k) x ≡ true = rw (t, among) in
-        let z : true ≡ false = sym h ∙ e in
-        let o : _≡_ {A = ℕ} 0 1 = ap (λ (b : Bool). elim b [ true ↦ 0 | false ↦ 1 ]) z in
-        absurd (omega arith)
-    by-case false t =
-        let h : among s n step at (suc k) x ≡ among s n step (at + step) k x = rw (t, among) in
-        (t, sym h ∙ e)
-
-none-clause : (s : List ℕ) (n step at k x : ℕ) → eqb (beAt s n at) x ≡ false → among s n step (at + step) k x ≡ false → among s n step at (suc k) x ≡ false
-unfolding among
-none-clause s n step at k x e f = rw (e, among) f
-
-pub none-more :
+none-more :
     (s : List ℕ) (n step at k x : ℕ)
     → among s n step at k x ≡ false
     → (beAt s n (at + step * k) ≡ x → ⊥)
     → among s n step at (suc k) x ≡ false
-unfolding among
-none-more s n step at zero x e ne =
-    let p : at + step * zero ≡ at = omega (arith, mul-zero step) in
-    none-clause s n step at zero x (ne-eqb (beAt s n at) x λ h. ne (ap (λ (y : ℕ). beAt s n y) p ∙ h)) refl
-none-more s n step at (suc k) x e ne =
-    let i = none-first s n step at k x e in
-    let p : at + step + step * k ≡ at + step * suc k = omega (arith, mul-suc step k) in
-    none-clause s n step at (suc k) x (i .0) (none-more s n step (at + step) k x (i .1) λ h. ne (ap (λ (y : ℕ). beAt s n y) (sym p) ∙ h))
+none-more s n step at k x e ne =
+    among-last s n step at k x
+    ∙ ap (λ (b : Bool). either b (eqb (beAt s n (at + step * k)) x)) e
+    ∙ ne-eqb (beAt s n (at + step * k)) x ne
 
 -- ---- the byte that gathers
 

@@ -14,13 +14,14 @@ use Rattle.layout.specs.Rules.{basic}
 use Rattle.layout.specs.Fields.{opening, beforeVectors, beforeRanges, closing}
 use Rattle.layout.specs.Read.{_▷_, repeat, number, fields, limit, among, replicaId, firstVector, vector}
 use Rattle.layout.specs.Parse.{vectorCount, vectorList, rangeList, checked}
-use Rattle.reader.specs.Method.{Opened, Counting, Ranging, Reached, rangesFrom, rangesAfter, afterMap, afterCount, afterVectors, afterRanges}
-use Rattle.reader.proofs.Steps.{number-read, limit-in}
-use Rattle.reader.proofs.Repeat.{repeat-on, repeat-end}
-use Rattle.reader.proofs.Ids.{id-there-new}
-use Rattle.reader.proofs.Vector.{first-on}
-use Rattle.reader.proofs.Bound.{first-good, ranges-first, ranges-end}
-use Rattle.reader.proofs.Parts.{map-on, range-list-on, told-on, answer-whole, check-on}
+use Rattle.fields.specs.Method.{rangesFrom, rangesAfter, afterMap, afterCount, afterVectors, afterRanges}
+use Rattle.reader.specs.Method.{Opened, Counting, Ranging, Reached}
+use Rattle.fields.proofs.Steps.{number-read, limit-in}
+use Rattle.fields.proofs.Repeat.{repeat-on, repeat-end}
+use Rattle.fields.proofs.Ids.{id-there-new}
+use Rattle.fields.proofs.Vector.{first-on}
+use Rattle.fields.proofs.Bound.{first-good, ranges-first, ranges-end}
+use Rattle.fields.proofs.Parts.{map-on, range-list-on, told-on, answer-whole, check-on}
 
 -- ---- a place that is reached, or not
 

@@ -5,23 +5,21 @@ use layout::Got;
 ghost use mathlib.Core.Path.{_≡_};
 ghost use mathlib.Core.Bool.{true, false};
 ghost use Prim.Native.Nat.{suc, _+_, _-_, _*_, _≤_, _<_};
-ghost use lib.Dec.{eqb, ltb};
+ghost use lib.Dec.{ltb};
 ghost use lib.ListN.{length};
-ghost use Rattle.codec.specs.Number.{beAt, words2, words3};
+ghost use Rattle.codec.specs.Number.{beAt, words3};
 ghost use Rattle.layout.specs.Rules.{basic};
-ghost use Rattle.layout.specs.Read.{_▷_, repeat, number, same, fields, limit, empty, among, replicaId, tick, element, firstVector, vector, range};
-ghost use Rattle.layout.specs.Fields.{opening, beforeVectors, beforeElements, beforeRanges, closing};
-ghost use Rattle.layout.specs.Parse.{replicaMap, vectorCount, vectorList, rangeList, checked};
-ghost use Rattle.reader.specs.Method.{Word, leAt, Little, Opened, Counting, Ranging, Reached, placeOf, rangesFrom, rangesAfter, afterMap, afterCount, afterVectors, afterRanges};
+ghost use Rattle.layout.specs.Read.{repeat, fields, among, replicaId, element, vector, range};
+ghost use Rattle.layout.specs.Fields.{closing};
+ghost use Rattle.layout.specs.Parse.{checked};
+ghost use Rattle.fields.specs.Method.{Word, placeOf, rangesFrom, afterMap, afterVectors};
+ghost use Rattle.reader.specs.Method.{leAt, Little, Opened, Counting, Ranging, Reached};
 
 // the most replicas
 const REPLICAS: usize = 16;
 
 // the most ranges
 const RANGES: usize = 64;
-
-// the largest tick
-const TICK: usize = 9223372036854775807;
 
 // ---- numbers that are there
 
@@ -46,503 +44,14 @@ fn eight(s: &[u8], at: usize) -> usize
     four(s, at) * 4294967296 + four(s, at + 4)
 }
 
-// ---- one field after the other
-
-// The number of n bytes at a place, byte by byte.
-fn number_at(s: &[u8], at: usize, n: usize) -> usize
-    requires { ⌜ (n ≤ 8) × (at + n ≤ length (now s)) ⌝ }
-    ensures { λ r. ⌜ r ≡ beAt (now (s .entry)) n at ⌝ }
-{
-    let mut x: usize = 0;
-    let mut i: usize = 0;
-    while i < n {
-        x = x * 256 + wide(s[at + i]);
-        i += 1;
-    }
-    x
-}
-
-fn read(s: &[u8], g: Got, n: usize) -> Got
-    requires { ⌜ n ≤ 8 ⌝ }
-    ensures { λ r. ⌜ r ≡ (g ▷ number (now (s .entry)) n) ⌝ }
-{
-    let Got::Num(_, at) = g else {
-        return g;
-    };
-    if s.len() < at {
-        return Got::Fault(1);
-    }
-    if s.len() - at < n {
-        return Got::Fault(1);
-    }
-    Got::Num(number_at(s, at, n), at + n)
-}
-
-// Compares what was read with the fixed value.
-fn equal(g: Got, w: usize) -> Got
-    ensures { λ r. ⌜ r ≡ (g ▷ same w) ⌝ }
-{
-    let Got::Num(x, _) = g else {
-        return g;
-    };
-    if x == w {
-        return g;
-    }
-    Got::Fault(2)
-}
-
-fn fixed(s: &[u8], g: Got, n: usize, w: usize) -> Got
-    requires { ⌜ n ≤ 8 ⌝ }
-    ensures { λ r. ⌜ r ≡ (g ▷ number (now (s .entry)) n ▷ same w) ⌝ }
-{
-    equal(read(s, g, n), w)
-}
-
-fn in_limits(g: Got, lo: usize, hi: usize) -> Got
-    ensures { λ r. ⌜ r ≡ (g ▷ limit lo hi) ⌝ }
-{
-    let Got::Num(x, _) = g else {
-        return g;
-    };
-    if x < lo {
-        return Got::Fault(3);
-    }
-    if hi < x {
-        return Got::Fault(3);
-    }
-    g
-}
-
-fn no_elements(g: Got) -> Got
-    ensures { λ r. ⌜ r ≡ (g ▷ empty) ⌝ }
-{
-    let Got::Num(x, _) = g else {
-        return g;
-    };
-    if x == 0 {
-        return g;
-    }
-    Got::Fault(4)
-}
-
-// ---- the runs of fixed fields
-
-fn opening_fields(s: &[u8]) -> Got
-    ensures { λ r. ⌜ r ≡ fields (now (s .entry)) opening 0 0 ⌝ }
-{
-    let g = fixed(s, Got::Num(0, 0), 4, 5);
-    let g = fixed(s, g, 4, 0);
-    let g = fixed(s, g, 4, 1);
-    let g = fixed(s, g, 4, 0);
-    let g = fixed(s, g, 4, 5);
-    let g = fixed(s, g, 1, 0);
-    fixed(s, g, 2, 16)
-}
-
-fn fields_before_vectors(s: &[u8], at: usize) -> Got
-    ensures { λ r. ⌜ r ≡ fields (now (s .entry)) beforeVectors 0 at ⌝ }
-{
-    let g = fixed(s, Got::Num(0, at), 4, 24);
-    let g = fixed(s, g, 1, 0);
-    let g = fixed(s, g, 2, 16);
-    let g = fixed(s, g, 1, 0);
-    let g = fixed(s, g, 2, 24);
-    let g = fixed(s, g, 1, 0);
-    let g = fixed(s, g, 2, 1);
-    fixed(s, g, 4, 21)
-}
-
-fn fields_before_ranges(s: &[u8], at: usize) -> Got
-    ensures { λ r. ⌜ r ≡ fields (now (s .entry)) beforeRanges 0 at ⌝ }
-{
-    let g = fixed(s, Got::Num(0, at), 4, 23);
-    let g = fixed(s, g, 4, 1);
-    fixed(s, g, 4, 22)
-}
-
-fn closing_fields(s: &[u8], at: usize) -> Got
-    ensures { λ r. ⌜ r ≡ fields (now (s .entry)) closing 0 at ⌝ }
-{
-    let g = fixed(s, Got::Num(0, at), 4, 0);
-    let g = fixed(s, g, 4, 25);
-    let g = fixed(s, g, 1, 1);
-    fixed(s, g, 4, 0)
-}
-
-// ---- replica ids
-
-// Does the id of two words stand at a place.
-fn same_id(s: &[u8], at: usize, high: usize, low: usize) -> bool
-    requires { ⌜ at + 16 ≤ length (now s) ⌝ }
-    ensures { λ r. ⌜ r ≡ eqb (beAt (now (s .entry)) 16 at) (words2 high low) ⌝ }
-{
-    if eight(s, at) == high {
-        return eight(s, at + 8) == low;
-    }
-    false
-}
-
-// Is the id of two words one of the k ids from a place on.
-fn seen_id(s: &[u8], start: usize, k: usize, high: usize, low: usize) -> bool
-    requires { ⌜ start + 16 * k ≤ length (now s) ⌝ }
-    ensures { λ r. ⌜ r ≡ among (now (s .entry)) 16 16 start k (words2 high low) ⌝ }
-{
-    let mut i: usize = 0;
-    let mut at = start;
-    while i < k {
-        if same_id(s, at, high, low) {
-            return true;
-        }
-        at += 16;
-        i += 1;
-    }
-    false
-}
-
-// The id at a place, with k ids before it from start on.
-fn replica_id(s: &[u8], start: usize, k: usize, at: usize) -> Got
-    requires { ⌜ (start + 16 * k ≤ length (now s)) × (at ≤ length (now s)) ⌝ }
-    ensures { λ r. ⌜ r ≡ replicaId basic (now (s .entry)) start k at ⌝ }
-{
-    if s.len() - at < 16 {
-        return Got::Fault(1);
-    }
-    if seen_id(s, start, k, eight(s, at), eight(s, at + 8)) {
-        return Got::Fault(5);
-    }
-    Got::Num(k + 1, at + 16)
-}
-
-fn replica_ids(s: &[u8], n: usize, start: usize) -> Got
-    requires { ⌜ start ≤ length (now s) ⌝ }
-    ensures { λ r. ⌜ r ≡ repeat (replicaId basic (now (s .entry)) start) n 0 start ⌝ }
-{
-    let mut k: usize = 0;
-    let mut at = start;
-    while k < n {
-        let g = replica_id(s, start, k, at);
-        let Got::Num(_, next) = g else {
-            return g;
-        };
-        at = next;
-        k += 1;
-    }
-    Got::Num(k, at)
-}
-
-// ---- clock vectors
-
-// Is the key one of the k keys from a place on.
-fn seen_key(s: &[u8], start: usize, k: usize, key: usize) -> bool
-    requires { ⌜ start + 12 * k ≤ length (now s) ⌝ }
-    ensures { λ r. ⌜ r ≡ among (now (s .entry)) 4 12 start k key ⌝ }
-{
-    let mut i: usize = 0;
-    let mut at = start;
-    while i < k {
-        if four(s, at) == key {
-            return true;
-        }
-        at += 12;
-        i += 1;
-    }
-    false
-}
-
-// The tick at a place, with k elements before its own.
-fn next_tick(s: &[u8], k: usize, at: usize) -> Got
-    requires { ⌜ k ≤ length (now s) ⌝ }
-    ensures { λ g. ⌜ g ≡ tick (now (s .entry)) k at ⌝ }
-{
-    let g = read(s, Got::Num(k, at), 8);
-    let Got::Num(t, next) = g else {
-        return g;
-    };
-    if TICK < t {
-        return Got::Fault(7);
-    }
-    Got::Num(k + 1, next)
-}
-
-// The element at a place, with k elements before it from start on.
-fn next_element(s: &[u8], r: usize, start: usize, k: usize, at: usize) -> Got
-    requires { ⌜ start + 12 * k ≤ length (now s) ⌝ }
-    ensures { λ g. ⌜ g ≡ element (now (s .entry)) r start k at ⌝ }
-{
-    let g = read(s, Got::Num(k, at), 4);
-    let Got::Num(key, next) = g else {
-        return g;
-    };
-    if r <= key {
-        return Got::Fault(6);
-    }
-    if seen_key(s, start, k, key) {
-        return Got::Fault(6);
-    }
-    next_tick(s, k, next)
-}
-
-fn elements(s: &[u8], r: usize, n: usize, start: usize) -> Got
-    requires { ⌜ start ≤ length (now s) ⌝ }
-    ensures { λ g. ⌜ g ≡ repeat (element (now (s .entry)) r start) n 0 start ⌝ }
-{
-    let mut k: usize = 0;
-    let mut at = start;
-    while k < n {
-        let g = next_element(s, r, start, k, at);
-        let Got::Num(_, next) = g else {
-            return g;
-        };
-        at = next;
-        k += 1;
-    }
-    Got::Num(k, at)
-}
-
-// The field before the elements, and their count.
-fn count_of_elements(s: &[u8], at: usize) -> Got
-    ensures { λ r. ⌜ r ≡ (fields (now (s .entry)) beforeElements 0 at ▷ number (now (s .entry)) 4) ⌝ }
-{
-    read(s, fixed(s, Got::Num(0, at), 4, 1), 4)
-}
-
-fn first_vector(s: &[u8], at: usize) -> Got
-    ensures { λ r. ⌜ r ≡ firstVector (now (s .entry)) 0 at ⌝ }
-{
-    no_elements(count_of_elements(s, at))
-}
-
-// A clock vector, with e elements in those before it.
-fn next_vector(s: &[u8], r: usize, e: usize, at: usize) -> Got
-    requires { ⌜ e ≤ at ⌝ }
-    ensures { λ g. ⌜ g ≡ vector (now (s .entry)) r e at ⌝ }
-{
-    let g = in_limits(count_of_elements(s, at), 0, r);
-    let Got::Num(n, start) = g else {
-        return g;
-    };
-    let g = elements(s, r, n, start);
-    let Got::Num(m, next) = g else {
-        return g;
-    };
-    Got::Num(e + m, next)
-}
-
-// The vectors after the first, which ends at start: the count of their elements.
-fn more_vectors(s: &[u8], r: usize, v: usize, start: usize) -> Got
-    ensures { λ g. ⌜ g ≡ repeat (vector (now (s .entry)) r) (v - 1) 0 start ⌝ }
-{
-    let mut k: usize = 1;
-    let mut e: usize = 0;
-    let mut at = start;
-    while k < v {
-        let g = next_vector(s, r, e, at);
-        let Got::Num(x, next) = g else {
-            return g;
-        };
-        e = x;
-        at = next;
-        k += 1;
-    }
-    Got::Num(e, at)
-}
-
-fn vectors(s: &[u8], r: usize, v: usize, at: usize) -> Got
-    ensures { λ g. ⌜ g ≡ vectorList (now (s .entry)) r v at ⌝ }
-{
-    let g = first_vector(s, at);
-    let Got::Num(_, start) = g else {
-        return g;
-    };
-    more_vectors(s, r, v, start)
-}
-
-// ---- ranges
-
-// Is the item id of three words below that of three others.
-fn less(a: usize, b: usize, c: usize, x: usize, y: usize, z: usize) -> bool
-    ensures { λ r. ⌜ r ≡ ltb (words3 a b c) (words3 x y z) ⌝ }
-{
-    if a < x {
-        return true;
-    }
-    if x < a {
-        return false;
-    }
-    if b < y {
-        return true;
-    }
-    if y < b {
-        return false;
-    }
-    c < z
-}
-
-// The first range.
-fn first_range(s: &[u8], v: usize, at: usize) -> Got
-    requires { ⌜ at ≤ length (now s) ⌝ }
-    ensures { λ r. ⌜ r ≡ placeOf (range (now (s .entry)) v 0 at) ⌝ }
-{
-    if s.len() - at < 28 {
-        return Got::Fault(1);
-    }
-    if v <= four(s, at + 24) {
-        return Got::Fault(9);
-    }
-    Got::Num(0, at + 28)
-}
-
-// A range whose bound must be above the one at another place.
-fn next_range(s: &[u8], v: usize, from: usize, at: usize) -> Got
-    requires { ⌜ (from + 24 ≤ length (now s)) × (at ≤ length (now s)) ⌝ }
-    ensures { λ r. ⌜ r ≡ placeOf (range (now (s .entry)) v (suc (beAt (now (s .entry)) 24 from)) at) ⌝ }
-{
-    if s.len() - at < 24 {
-        return Got::Fault(1);
-    }
-    if less(
-        eight(s, from),
-        eight(s, from + 8),
-        eight(s, from + 16),
-        eight(s, at),
-        eight(s, at + 8),
-        eight(s, at + 16),
-    ) {
-        if s.len() - at < 28 {
-            return Got::Fault(1);
-        }
-        if v <= four(s, at + 24) {
-            return Got::Fault(9);
-        }
-        return Got::Num(0, at + 28);
-    }
-    Got::Fault(8)
-}
-
-// The ranges after the first, which ends at start.
-fn more_ranges(s: &[u8], v: usize, g: usize, start: usize) -> Got
-    requires { ⌜ (28 ≤ start) × (start ≤ length (now s)) ⌝ }
-    ensures { λ r. ⌜ r ≡ rangesAfter (now (s .entry)) v g (g - 1) start ⌝ }
-{
-    let mut k: usize = 1;
-    let mut at = start;
-    while k < g {
-        let f = next_range(s, v, at - 28, at);
-        let Got::Num(_, next) = f else {
-            return f;
-        };
-        at = next;
-        k += 1;
-    }
-    Got::Num(g, at)
-}
-
-fn ranges(s: &[u8], v: usize, g: usize, start: usize) -> Got
-    requires { ⌜ start ≤ length (now s) ⌝ }
-    ensures { λ r. ⌜ r ≡ rangesFrom (now (s .entry)) v g start ⌝ }
-{
-    if g == 0 {
-        return Got::Num(g, start);
-    }
-    let f = first_range(s, v, start);
-    let Got::Num(_, at) = f else {
-        return f;
-    };
-    more_ranges(s, v, g, at)
-}
-
-// ---- the whole
-
-fn replica_map(s: &[u8]) -> Got
-    ensures { λ g. ⌜ g ≡ replicaMap basic (now (s .entry)) ⌝ }
-{
-    let g = in_limits(read(s, opening_fields(s), 4), 0, REPLICAS);
-    let Got::Num(r, start) = g else {
-        return g;
-    };
-    replica_ids(s, r, start)
-}
-
-fn vector_count(s: &[u8], at: usize) -> Got
-    ensures { λ g. ⌜ g ≡ vectorCount basic (now (s .entry)) at ⌝ }
-{
-    in_limits(read(s, fields_before_vectors(s, at), 4), 1, RANGES + 1)
-}
-
-fn range_list(s: &[u8], v: usize, at: usize) -> Got
-    ensures { λ r. ⌜ r ≡ rangeList basic (now (s .entry)) v at ⌝ }
-{
-    let f = in_limits(read(s, fields_before_ranges(s, at), 4), 1, RANGES);
-    let Got::Num(g, start) = f else {
-        return f;
-    };
-    ranges(s, v, g, start)
-}
-
-// The check from the fields after the ranges on.
-fn after_ranges(s: &[u8], r: usize, v: usize, e: usize, g: usize, at: usize) -> Checked
-    ensures { λ c. ⌜ c ≡ afterRanges (now (s .entry)) r v e g at ⌝ }
-{
-    match closing_fields(s, at) {
-        Got::Num(_, end) => {
-            if end == s.len() {
-                Checked::Accepted { r, v, e, g }
-            } else {
-                Checked::Refused(10)
-            }
-        }
-        Got::Fault(n) => Checked::Refused(n),
-    }
-}
-
-// The check from the fields after the vectors on.
-fn after_vectors(s: &[u8], r: usize, v: usize, e: usize, at: usize) -> Checked
-    ensures { λ c. ⌜ c ≡ afterVectors (now (s .entry)) r v e at ⌝ }
-{
-    match range_list(s, v, at) {
-        Got::Num(g, next) => after_ranges(s, r, v, e, g, next),
-        Got::Fault(n) => Checked::Refused(n),
-    }
-}
-
-// The check from the vectors on.
-fn after_count(s: &[u8], r: usize, v: usize, at: usize) -> Checked
-    ensures { λ c. ⌜ c ≡ afterCount (now (s .entry)) r v at ⌝ }
-{
-    match vectors(s, r, v, at) {
-        Got::Num(e, next) => after_vectors(s, r, v, e, next),
-        Got::Fault(n) => Checked::Refused(n),
-    }
-}
-
-// The check from the fields after the replica map on.
-fn after_map(s: &[u8], r: usize, at: usize) -> Checked
-    ensures { λ c. ⌜ c ≡ afterMap (now (s .entry)) r at ⌝ }
-{
-    match vector_count(s, at) {
-        Got::Num(v, next) => after_count(s, r, v, next),
-        Got::Fault(n) => Checked::Refused(n),
-    }
-}
-
-// The check, field by field.
-fn exact(s: &[u8]) -> Checked
-    ensures { λ r. ⌜ r ≡ checked basic (now (s .entry)) ⌝ }
-{
-    match replica_map(s) {
-        Got::Num(r, at) => after_map(s, r, at),
-        Got::Fault(n) => Checked::Refused(n),
-    }
-}
-
-// ---- the same in whole words. A word with the lowest byte first is one load; each constant has the bytes of the fields
+// ---- the check in whole words. A word with the lowest byte first is one load; each constant has the bytes of the fields
 // that it stands for. A function whose answer is false has found nothing amiss.
 
 // The check field by field. It takes the slice anew, so that the caller's own need not lie in memory.
 fn slow(s: &[u8]) -> Checked
     ensures { λ r. ⌜ r ≡ checked basic (now (s .entry)) ⌝ }
 {
-    exact(&s[..])
+    fields::check_fields(&s[..])
 }
 
 fn little2(s: &[u8], at: usize) -> usize
@@ -740,6 +249,25 @@ fn vectors_whole(s: &[u8], r: usize, v: usize, start: usize) -> Got
         k += 1;
     }
     Got::Num(e, at)
+}
+
+// Is the item id of three words below that of three others.
+fn less(a: usize, b: usize, c: usize, x: usize, y: usize, z: usize) -> bool
+    ensures { λ r. ⌜ r ≡ ltb (words3 a b c) (words3 x y z) ⌝ }
+{
+    if a < x {
+        return true;
+    }
+    if x < a {
+        return false;
+    }
+    if b < y {
+        return true;
+    }
+    if y < b {
+        return false;
+    }
+    c < z
 }
 
 // Is the bound at a place above the one at another.

@@ -1,6 +1,6 @@
 -- `reader::eight` meets its contract. Eight bytes are four and four more.
 use borrow.Author.Needs.{needs}
-use Rattle.reader.proofs.Digits.{be8}
+use Rattle.fields.proofs.Digits.{be8}
 use Rattle.reader.proofs.eight.Statement.{statement}
 use Rattle.reader.proofs.eight.Tie as tie
 

@@ -1,7 +1,7 @@
 -- `reader::four` meets its contract. The code adds the bytes, each times its power of 256, which is the number that they make.
 use borrow.Author.Needs.{needs}
 use native.Mathlib.Omega.{arith}
-use Rattle.reader.proofs.Digits.{be4}
+use Rattle.fields.proofs.Digits.{be4}
 use Rattle.reader.proofs.four.Statement.{statement}
 use Rattle.reader.proofs.four.Tie as tie
 

@@ -3,8 +3,8 @@ use Rattle.codec.specs.Number.{beAt}
 use Rattle.layout.specs.Read.{among}
 use Prim.Native.Nat.{_+_, _-_, _*_, _≤_}
 use mathlib.Core.Path.{_≡_, refl, sym}
-use Rattle.reader.proofs.Ids.{id-other}
-use Rattle.reader.proofs.Among.{among-all, among-misses, among-end}
+use Rattle.reader.proofs.Little.{id-other}
+use Rattle.fields.proofs.Among.{among-all, among-misses, among-end}
 use Rattle.reader.proofs.Known.{never}
 use native.Mathlib.Omega.{arith}
 use Rattle.reader.proofs.id_amiss.Statement.{statement}

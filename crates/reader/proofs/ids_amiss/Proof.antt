@@ -3,7 +3,7 @@ use Rattle.layout.specs.Rules.{basic}
 use Rattle.layout.specs.Read.{repeat, replicaId}
 use mathlib.Core.Path.{_≡_}
 use Rattle.reader.proofs.Quick.{ids-more, ids-all}
-use Rattle.reader.proofs.Repeat.{repeat-all}
+use Rattle.fields.proofs.Repeat.{repeat-all}
 use Rattle.reader.proofs.Known.{never}
 use Prim.Native.Nat.{_+_, _-_, _*_, _≤_}
 use native.Mathlib.Omega.{arith}

@@ -1,6 +1,6 @@
 -- `reader::less` meets its contract. The first word that differs decides.
 use Rattle.reader.proofs.less.Statement.{statement}
-use Rattle.reader.proofs.Bound.{lesses}
+use Rattle.fields.proofs.Bound.{lesses}
 use Rattle.reader.proofs.less.Tie as tie
 
 returns : tie.Need-returns

@@ -1,7 +1,7 @@
 -- `reader::range_amiss` meets its contract. The bound is above the one before, and the index below v.
 use Prim.Native.Nat.{_-_}
 use borrow.Author.Tests.{leb-false}
-use Rattle.reader.proofs.Bound.{place-good}
+use Rattle.fields.proofs.Bound.{place-good}
 use Rattle.reader.proofs.Known.{never}
 use native.Mathlib.Omega.{arith}
 use borrow.Author.Needs.{needs}

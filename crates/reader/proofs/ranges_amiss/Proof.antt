@@ -1,8 +1,8 @@
 -- `reader::ranges_amiss` meets its contract. The loop's invariant: the whole answer is the answer from here on.
-use Rattle.reader.specs.Method.{rangesFrom, rangesAfter}
+use Rattle.fields.specs.Method.{rangesFrom, rangesAfter}
 use mathlib.Core.Path.{_≡_, refl}
 use Rattle.reader.proofs.Quick.{ranges-begin, ranges-all}
-use Rattle.reader.proofs.Bound.{ranges-on}
+use Rattle.fields.proofs.Bound.{ranges-on}
 use Rattle.reader.proofs.Known.{never}
 use Prim.Native.Nat.{_+_, _-_, _*_, _≤_}
 use native.Mathlib.Omega.{arith}

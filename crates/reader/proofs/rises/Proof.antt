@@ -1,6 +1,6 @@
 -- `reader::rises` meets its contract. Item ids are compared word by word from the front.
 use borrow.Author.Needs.{needs}
-use Rattle.reader.proofs.Bound.{bounds-less}
+use Rattle.fields.proofs.Bound.{bounds-less}
 use Rattle.reader.proofs.rises.Statement.{statement}
 use Rattle.reader.proofs.rises.Tie as tie
 

@@ -2,9 +2,9 @@
 use lib.ListN.{length}
 use Rattle.layout.specs.Read.{repeat, vector}
 use mathlib.Core.Path.{_≡_, refl, sym, _∙_}
-use Rattle.reader.proofs.Vector.{vector-known}
+use Rattle.fields.proofs.Vector.{vector-known}
 use Rattle.reader.proofs.Quick.{not-reached, reached}
-use Rattle.reader.proofs.Repeat.{repeat-on, repeat-end}
+use Rattle.fields.proofs.Repeat.{repeat-on, repeat-end}
 use Rattle.reader.proofs.Known.{one-known}
 use Prim.Native.Nat.{_+_, _-_, _*_, _≤_}
 use native.Mathlib.Omega.{arith}

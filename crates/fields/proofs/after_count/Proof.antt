@@ -1,0 +1,34 @@
+-- `fields::after_count` meets its contract. The vectors, then what is after them.
+use Rattle.fields.specs.Method.{afterCount}
+use Rattle.fields.proofs.Parts.{told-fault, told-on}
+use mathlib.Core.Path.{sym, _∙_}
+use borrow.Author.Needs.{needs}
+use Rattle.fields.proofs.after_count.Statement.{statement}
+use Rattle.fields.proofs.after_count.Tie as tie
+
+vectors-requires : tie.Need-vectors-requires
+vectors-requires c κs = search needs
+
+enum-known-e : tie.Need-enum-known-e
+enum-known-e c = search needs
+
+after-vectors-requires : tie.Need-after-vectors-requires
+after-vectors-requires c κs = search needs
+
+enum-known-n : tie.Need-enum-known-n
+enum-known-n c = search needs
+
+returns : tie.Need-returns
+unfolding afterCount
+returns c =
+    told-on _ _ _ _ _ (sym (c .before .before .before .before .vectors .ensures) ∙ c .before .before .e .given .1) (c .after-vectors .ensures)
+
+returns-2 : tie.Need-returns-2
+unfolding afterCount
+returns-2 c =
+    told-fault _ _ _ (sym (c .before .before .before .vectors .ensures) ∙ c .before .n .given .1)
+
+pub after-count-spec : {M : Type 1} → statement M
+after-count-spec =
+    tie.close
+    (tie.spec vectors-requires enum-known-e after-vectors-requires enum-known-n returns returns-2)

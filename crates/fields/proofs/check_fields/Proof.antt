@@ -1,0 +1,31 @@
+-- `fields::check_fields` meets its contract. The replica map, then what is after it.
+use Rattle.fields.proofs.Parts.{map-most, check-fault, check-on}
+use borrow.Author.Needs.{needs}
+use Rattle.fields.proofs.check_fields.Statement.{statement}
+use Rattle.fields.proofs.check_fields.Tie as tie
+
+replica-map-requires : tie.Need-replica-map-requires
+replica-map-requires c κs = search needs
+
+enum-known-r : tie.Need-enum-known-r
+enum-known-r c = search needs
+
+after-map-requires : tie.Need-after-map-requires
+after-map-requires c κs =
+    map-most _ _ (c .before .before .before .replica-map .ensures) _ _ (c .before .r .given .1)
+
+enum-known-n : tie.Need-enum-known-n
+enum-known-n c = search needs
+
+returns : tie.Need-returns
+returns c =
+    check-on _ _ _ _ (c .before .before .before .before .replica-map .ensures) (c .before .before .r .given .1) _ (c .after-map .ensures)
+
+returns-2 : tie.Need-returns-2
+returns-2 c =
+    check-fault _ _ _ (c .before .before .before .replica-map .ensures) (c .before .n .given .1)
+
+pub check-fields-spec : {M : Type 1} → statement M
+check-fields-spec =
+    tie.close
+    (tie.spec replica-map-requires enum-known-r after-map-requires enum-known-n returns returns-2)

@@ -1,0 +1,24 @@
+-- `fields::fields_before_ranges` meets its contract. The fields are read one after the other, in the order of the definition's list.
+use Rattle.layout.specs.Fields.{beforeRanges}
+use Rattle.fields.proofs.Run.{runs}
+use borrow.Author.Needs.{needs}
+use Rattle.fields.proofs.fields_before_ranges.Statement.{statement}
+use Rattle.fields.proofs.fields_before_ranges.Tie as tie
+
+fixed-requires : tie.Need-fixed-requires
+fixed-requires c κs = search needs
+
+fixed-requires-2 : tie.Need-fixed-requires-2
+fixed-requires-2 c κs = search needs
+
+fixed-requires-3 : tie.Need-fixed-requires-3
+fixed-requires-3 c κs = search needs
+
+returns : tie.Need-returns
+unfolding beforeRanges
+returns c =
+    search runs depth 12
+
+pub fields-before-ranges-spec : {M : Type 1} → statement M
+fields-before-ranges-spec =
+    tie.close (tie.spec fixed-requires fixed-requires-2 fixed-requires-3 returns)

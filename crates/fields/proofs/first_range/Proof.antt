@@ -1,0 +1,36 @@
+-- `fields::first_range` meets its contract. Each return has the test that the definition makes there; the first bound is 0 or more in any case.
+use Rattle.fields.proofs.Bound.{first-good}
+use native.Mathlib.Omega.{arith}
+use Rattle.fields.proofs.Bound.{firsts}
+use borrow.Author.Needs.{needs}
+use Rattle.fields.proofs.first_range.Statement.{statement}
+use Rattle.fields.proofs.first_range.Tie as tie
+
+sub-if1 : tie.Need-sub-if1
+sub-if1 c = search needs
+
+returns : tie.Need-returns
+returns c =
+    search firsts
+
+add-four : tie.Need-add-four
+add-four c = search needs
+
+four-requires : tie.Need-four-requires
+four-requires c κs = search needs
+
+returns-2 : tie.Need-returns-2
+returns-2 c =
+    search firsts
+
+add-t4 : tie.Need-add-t4
+add-t4 c = search needs
+
+returns-3 : tie.Need-returns-3
+returns-3 c =
+    let a = c .before .before .before .before .args in
+    first-good (a .s .now) (a .v) (a .at) (omega arith) (omega arith) _ (c .before .four .ensures .is) (c .if2 .left)
+
+pub first-range-spec : {M : Type 1} → statement M
+first-range-spec =
+    tie.close (tie.spec sub-if1 returns add-four four-requires returns-2 add-t4 returns-3)

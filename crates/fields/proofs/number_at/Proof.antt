@@ -1,0 +1,77 @@
+-- `fields::number_at` meets its contract. The loop's invariant: the whole number is what is left of it, with what was read in front. Eight bytes fit a word.
+use Rattle.codec.specs.Number.{beFrom, beAt}
+use Prim.Native.Nat.{_+_, _-_, _^_, _<_, _≤_}
+use mathlib.Core.Path.{_≡_}
+use Rattle.fields.proofs.Digits.{digits-none, digits-on, digits-end, digit-more, digits-fit}
+use borrow.Author.Needs.{needs}
+use native.Mathlib.Omega.{arith}
+use Rattle.fields.proofs.number_at.Statement.{statement}
+use Rattle.fields.proofs.number_at.Tie as tie
+
+abbrev Inv-loop : tie.InvT-loop
+Inv-loop s at n x₀ i₀ x i =
+    (beAt s n at ≡ beFrom s (n - i) (at + i) x) × (i ≤ n) × (x < 256 ^ i)
+
+abbrev μ-loop : tie.MeasureT-loop
+μ-loop s at n x₀ i₀ x i = n - i
+
+loop-holds : tie.Need-loop-holds Inv-loop μ-loop
+loop-holds c =
+    (digits-none _ _ _, omega arith, omega arith)
+
+mul-x : tie.Need-mul-x Inv-loop μ-loop
+mul-x c =
+    record { fits = omega (arith, digits-fit (c .before .loop .x) 0 (c .before .loop .i) (omega arith) (omega arith) (omega arith)) }
+
+add-wide : tie.Need-add-wide Inv-loop μ-loop
+add-wide c =
+    omega arith
+
+shared-slice-read-wide : tie.Need-shared-slice-read-wide Inv-loop μ-loop
+shared-slice-read-wide c =
+    omega arith
+
+wide-requires : tie.Need-wide-requires Inv-loop μ-loop
+wide-requires c κs =
+    search needs
+
+add-x : tie.Need-add-x Inv-loop μ-loop
+add-x c =
+    record { fits = digits-fit (c .before .before .before .loop .x) (c .wide .result) (c .before .before .before .loop .i) (omega arith) (omega arith) (omega arith) }
+
+add-i : tie.Need-add-i Inv-loop μ-loop
+add-i c =
+    omega arith
+
+loop-less : tie.Need-loop-less Inv-loop μ-loop
+loop-less c =
+    omega arith
+
+loop-again : tie.Need-loop-again Inv-loop μ-loop
+loop-again c =
+    let l = c .before .before .before .loop in (
+      digits-on _ _ _ _ _ _ (l .inv .0) (omega arith) (c .wide .ensures .0),
+      omega arith,
+      digit-more (l .x) (c .wide .result) (l .i) (omega arith) (omega arith),
+    )
+
+returns : tie.Need-returns Inv-loop μ-loop
+returns c =
+    digits-end _ _ _ _ _ (c .before .loop .inv .0) (omega arith)
+
+pub number-at-spec : {M : Type 1} → statement M
+number-at-spec =
+    tie.close
+    (tie.spec
+    Inv-loop
+    μ-loop
+    loop-holds
+    mul-x
+    add-wide
+    shared-slice-read-wide
+    wide-requires
+    add-x
+    add-i
+    loop-less
+    loop-again
+    returns)

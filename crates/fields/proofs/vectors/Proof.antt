@@ -1,0 +1,30 @@
+-- `fields::vectors` meets its contract. The first vector, then those after it.
+use Rattle.fields.proofs.Vector.{first-fault, first-on}
+use borrow.Author.Needs.{needs}
+use Rattle.fields.proofs.vectors.Statement.{statement}
+use Rattle.fields.proofs.vectors.Tie as tie
+
+first-vector-requires : tie.Need-first-vector-requires
+first-vector-requires c κs = search needs
+
+enum-known-g : tie.Need-enum-known-g
+enum-known-g c = search needs
+
+enum-told : tie.Need-enum-told
+enum-told c = search needs
+
+returns : tie.Need-returns
+returns c =
+    first-fault _ _ _ _ _ (c .before .before .first-vector .ensures) _ (c .enum-told .given .1)
+
+more-vectors-requires : tie.Need-more-vectors-requires
+more-vectors-requires c κs = search needs
+
+returns-2 : tie.Need-returns-2
+returns-2 c =
+    first-on _ _ _ _ _ (c .before .before .before .before .first-vector .ensures) _ _ (c .before .before .g .given .1) _ (c .more-vectors .ensures)
+
+pub vectors-spec : {M : Type 1} → statement M
+vectors-spec =
+    tie.close
+    (tie.spec first-vector-requires enum-known-g enum-told returns more-vectors-requires returns-2)

@@ -1,0 +1,2 @@
+-- The method of the check field by field.
+pub mod Method
