@@ -12,7 +12,8 @@ use lib.Arith.{digits-div, digits-mod}
 use lib.Dec.{eqb, ltb}
 use lib.ListN.{getD}
 use borrow.Author.Tests.{ltb-true, ltb-false, lt-ltb, le-ltb, eqb-true, eqb-false}
-use Rattle.codec.specs.Number.{Bytes, beAt, before, words2, words3}
+use Rattle.codec.specs.Number.{Bytes, beAt}
+use Rattle.codec.specs.Words.{before, words2, words3}
 use Rattle.codec.proofs.Numbers.{be-zero, be-suc, be-add, be-below}
 
 -- two tests of order are the same where each outcome of one gives that of the other

@@ -9,7 +9,7 @@ use native.Mathlib.Omega.{arith}
 use borrow.Author.Tests.{eqb-true, eqb-false, eq-eqb, ne-eqb}
 use lib.Arith.{digits-lt, digits-div}
 use lib.Dec.{eqb, ltb}
-use Rattle.codec.specs.Number.{words2, words3}
+use Rattle.codec.specs.Words.{words2, words3}
 use Rattle.codec.proofs.Order.{same-test, lex}
 
 -- two tests of sameness that pass and fail together are the same

@@ -1,4 +1,6 @@
 -- What the codec means: numbers and ids as bytes, a copied part, and the answer of a call that writes.
+pub mod Prelude
 pub mod Number
+pub mod Words
 pub mod Part
 pub mod Reply

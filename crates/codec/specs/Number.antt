@@ -1,10 +1,6 @@
--- Numbers and ids as bytes. Document 01: "Multi-byte numbers are big-endian; ids are compared byte by byte
--- from the front, unsigned." An id is the number that its bytes make: 24 bytes for an item, 16 for a replica.
-use Prim.Native.Nat.{ℕ, zero, suc, _+_, _*_, _/_, _%_, _^_, _<_}
-use mathlib.Core.Bool.{Bool, true, false}
-use mathlib.Core.List.{List, [], _∷_}
-use lib.Dec.{eqb, ltb}
-use lib.ListN.{getD}
+-- Numbers and ids as bytes. Document 01: "Multi-byte numbers are big-endian; ids are compared byte by byte from the front,
+-- unsigned." An id is the number that its bytes make: 24 bytes for an item, 16 for a replica.
+use Rattle.codec.specs.Prelude.{ℕ, zero, suc, _+_, _*_, _/_, _%_, _^_, _<_, List, [], _∷_, getD}
 
 -- a list of bytes
 pub record Bytes (s : List ℕ) : Type 0 where
@@ -23,16 +19,3 @@ beAt s n at = beFrom s n at 0
 unfoldable pub put : ℕ → ℕ → List ℕ → List ℕ
 put zero x t = t
 put (suc n) x t = x / 256 ^ n % 256 ∷ put n x t
-
--- n bytes of s from a on, compared with those of t from b on, byte by byte from the front: are they below
-unfoldable pub before : ℕ → List ℕ → ℕ → List ℕ → ℕ → Bool
-before zero s a t b = false
-before (suc n) s a t b =
-    elim (eqb (getD s a 0) (getD t b 0)) [ true ↦ before n s (a + 1) t (b + 1) | false ↦ ltb (getD s a 0) (getD t b 0) ]
-
--- a replica id as two words of 64 bits, and an item id as three, the highest first
-unfoldable pub words2 : ℕ → ℕ → ℕ
-words2 x y = x * 2 ^ 64 + y
-
-unfoldable pub words3 : ℕ → ℕ → ℕ → ℕ
-words3 x y z = (x * 2 ^ 64 + y) * 2 ^ 64 + z

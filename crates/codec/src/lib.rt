@@ -5,7 +5,8 @@ ghost use mathlib.Core.Path.{_≡_};
 ghost use Prim.Native.Nat.{_+_, _≤_, _<_, _^_};
 ghost use lib.Dec.{eqb, ltb};
 ghost use lib.ListN.{length, getD};
-ghost use Rattle.codec.specs.Number.{beAt, words2, words3};
+ghost use Rattle.codec.specs.Number.{beAt};
+ghost use Rattle.codec.specs.Words.{words2, words3};
 ghost use Rattle.codec.specs.Part.{placed, part, bytes};
 
 pub enum Answer {

@@ -1,7 +1,7 @@
 // The C interface: each function is thin, and its contract says what every byte behind every pointer is afterwards.
 use layout::Checked;
 ghost use mathlib.Core.Path.{_≡_};
-ghost use Rattle.layout.specs.Rules.{basic};
+ghost use Rattle.layout.specs.Knowledge.{basic};
 ghost use Rattle.layout.specs.Parse.{checked};
 ghost use Rattle.layout.specs.Answer.{checkedNumber, checkedSizes};
 

@@ -11,7 +11,8 @@ use mir.Val.{Fits}
 use mir.Syntax.{w64}
 use lib.Dec.{leb, ltb}
 use lib.ListN.{length}
-use Rattle.codec.specs.Number.{beAt, words3}
+use Rattle.codec.specs.Number.{beAt}
+use Rattle.codec.specs.Words.{words3}
 use Rattle.codec.proofs.Order.{words3-be, words3-less-high, words3-less-middle, words3-less-low}
 use Rattle.layout.specs.declared.Got.{Got}
 use Rattle.layout.specs.declared.Got.the-variants.{Num, Fault}

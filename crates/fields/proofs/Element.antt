@@ -11,7 +11,7 @@ use lib.ListN.{length}
 use Rattle.codec.specs.Number.{beAt}
 use Rattle.layout.specs.declared.Got.{Got}
 use Rattle.layout.specs.declared.Got.the-variants.{Num, Fault}
-use Rattle.layout.specs.Rules.{largestTick}
+use Rattle.layout.specs.Knowledge.{largestTick}
 use Rattle.layout.specs.Read.{_▷_, among, tick, element}
 use Rattle.fields.proofs.Steps.{Went, number-there, number-short}
 

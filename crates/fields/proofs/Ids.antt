@@ -10,10 +10,11 @@ use mir.Val.{Fits}
 use mir.Syntax.{w64}
 use lib.Dec.{eqb, leb}
 use lib.ListN.{length}
-use Rattle.codec.specs.Number.{Bytes, beAt, words2}
+use Rattle.codec.specs.Number.{Bytes, beAt}
+use Rattle.codec.specs.Words.{words2}
 use Rattle.layout.specs.declared.Got.{Got}
 use Rattle.layout.specs.declared.Got.the-variants.{Num, Fault}
-use Rattle.layout.specs.Rules.{basic}
+use Rattle.layout.specs.Knowledge.{basic}
 use Rattle.layout.specs.Read.{_▷_, among, judged, replicaId}
 use Rattle.fields.proofs.Steps.{Went, number-there, number-short}
 use Rattle.codec.proofs.Order.{words2-be, words2-same, word-below}

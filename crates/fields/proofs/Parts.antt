@@ -12,8 +12,7 @@ use Rattle.layout.specs.declared.Got.{Got}
 use Rattle.layout.specs.declared.Got.the-variants.{Num, Fault}
 use Rattle.layout.specs.declared.Checked.{Checked}
 use Rattle.layout.specs.declared.Checked.the-variants.{Accepted, Refused}
-use Rattle.layout.specs.Rules.{basic}
-use Rattle.layout.specs.Fields.{opening, beforeRanges, closing}
+use Rattle.layout.specs.Knowledge.{basic, opening, beforeRanges, closing}
 use Rattle.layout.specs.Read.{_▷_, repeat, number, fields, limit, replicaId}
 use Rattle.layout.specs.Parse.{_▶_, replicaMap, rangeList, ended, checked}
 use Rattle.fields.specs.Method.{rangesFrom, afterRanges, afterVectors, afterCount, afterMap}

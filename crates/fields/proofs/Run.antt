@@ -5,7 +5,7 @@ use mathlib.Core.List.{List, [], _∷_}
 use Prim.Native.Nat.{ℕ}
 use Rattle.layout.specs.declared.Got.{Got}
 use Rattle.layout.specs.declared.Got.the-variants.{Num, Fault}
-use Rattle.layout.specs.Fields.{Field, field}
+use Rattle.layout.specs.Knowledge.{Field, field}
 use Rattle.layout.specs.Read.{_▷_, number, same, fields}
 
 -- h is what reading the fields after g comes to

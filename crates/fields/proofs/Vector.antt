@@ -11,7 +11,7 @@ use lib.ListN.{length}
 use Rattle.codec.specs.Number.{beAt}
 use Rattle.layout.specs.declared.Got.{Got}
 use Rattle.layout.specs.declared.Got.the-variants.{Num, Fault}
-use Rattle.layout.specs.Fields.{beforeElements}
+use Rattle.layout.specs.Knowledge.{beforeElements}
 use Rattle.layout.specs.Read.{_▷_, repeat, number, same, fields, limit, empty, element, firstVector, vector}
 use Rattle.layout.specs.Parse.{vectorList}
 use Rattle.fields.proofs.Steps.{number-there, number-short, limit-low, limit-high, limit-in}

@@ -8,8 +8,7 @@ use Rattle.layout.specs.declared.Got.{Got}
 use Rattle.layout.specs.declared.Got.the-variants.{Num, Fault}
 use Rattle.layout.specs.declared.Checked.{Checked}
 use Rattle.layout.specs.declared.Checked.the-variants.{Accepted}
-use Rattle.layout.specs.Rules.{basic}
-use Rattle.layout.specs.Fields.{closing}
+use Rattle.layout.specs.Knowledge.{basic, closing}
 use Rattle.layout.specs.Read.{_▷_, repeat, fields, range}
 use Rattle.layout.specs.Parse.{_▶_, vectorCount, vectorList, rangeList, ended}
 

@@ -6,10 +6,10 @@ ghost use mathlib.Core.Path.{_≡_};
 ghost use Prim.Native.Nat.{suc, _+_, _-_, _*_, _≤_, _<_};
 ghost use lib.Dec.{eqb, ltb};
 ghost use lib.ListN.{length};
-ghost use Rattle.codec.specs.Number.{beAt, words2, words3};
-ghost use Rattle.layout.specs.Rules.{basic};
+ghost use Rattle.codec.specs.Number.{beAt};
+ghost use Rattle.codec.specs.Words.{words2, words3};
+ghost use Rattle.layout.specs.Knowledge.{basic, opening, beforeVectors, beforeElements, beforeRanges, closing};
 ghost use Rattle.layout.specs.Read.{_▷_, repeat, number, same, fields, limit, empty, among, replicaId, element, firstVector, vector, range};
-ghost use Rattle.layout.specs.Fields.{opening, beforeVectors, beforeElements, beforeRanges, closing};
 ghost use Rattle.layout.specs.Parse.{replicaMap, vectorCount, vectorList, rangeList, checked};
 ghost use Rattle.fields.specs.Method.{Word, placeOf, rangesFrom, rangesAfter, afterMap, afterCount, afterVectors, afterRanges};
 

@@ -4,10 +4,8 @@ use Prim.Native.Nat.{ℕ, _+_, _*_, _^_}
 use mathlib.Core.List.{List, [], _∷_}
 use Rattle.codec.specs.Number.{put}
 use Rattle.layout.specs.Knowledge.{Element, Range, Knowledge}
-use Rattle.ticks.specs.Known.{highest}
-use Rattle.replication.specs.Record.{Rec}
-use Rattle.replication.specs.Store.{Store}
-use Rattle.replication.specs.Batch.{Batch}
+use Rattle.ticks.specs.Meaning.{highest}
+use Rattle.replication.specs.Formats.{Rec, Store, Batch}
 
 -- the empty knowledge as a value: r = 0, v = 1, g = 1
 unfoldable pub emptyValue : Knowledge

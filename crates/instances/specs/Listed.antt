@@ -2,8 +2,8 @@
 -- refused, then batch 0 and batch 1.
 use Prim.Native.Nat.{ℕ}
 use mathlib.Core.List.{List, [], _∷_}
-use Rattle.layout.specs.Encode.{encode}
-use Rattle.ticks.specs.Known.{highest}
+use Rattle.layout.specs.Knowledge.{encode}
+use Rattle.ticks.specs.Meaning.{highest}
 use Rattle.replication.specs.Lists.{Call, edit, make, apply}
 use Rattle.instances.specs.Given.{emptyValue, itemBytes, tagBytes, one}
 

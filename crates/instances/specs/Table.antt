@@ -7,19 +7,15 @@ use lib.ListN.{length, take, drop}
 use Rattle.codec.specs.Reply.{Reply, gives, refuses}
 use Rattle.layout.specs.declared.Checked.{Checked}
 use Rattle.layout.specs.declared.Checked.the-variants.{Accepted, Refused}
-use Rattle.layout.specs.Rules.{basic}
-use Rattle.layout.specs.Knowledge.{Knowledge}
-use Rattle.layout.specs.Encode.{encode}
+use Rattle.layout.specs.Knowledge.{basic, Knowledge, encode}
 use Rattle.layout.specs.Parse.{Parsed, accepted, refused, checked, parse}
-use Rattle.ticks.specs.Known.{highest, known}
+use Rattle.ticks.specs.Meaning.{highest, known}
 use Rattle.ticks.specs.Calls.{containAnswer, leadAnswer, mergeReply, projectReply}
 use Rattle.ticks.specs.declared.Contain.{Contain}
 use Rattle.ticks.specs.declared.Contain.the-variants as C
 use Rattle.ticks.specs.declared.Lead.{Lead}
 use Rattle.ticks.specs.declared.Lead.the-variants as D
-use Rattle.replication.specs.Record.{Rec}
-use Rattle.replication.specs.Store.{Store, encodeStore}
-use Rattle.replication.specs.Batch.{Batch, encodeBatch}
+use Rattle.replication.specs.Formats.{Rec, Store, encodeStore, Batch, encodeBatch}
 use Rattle.replication.specs.Operate.{nextTick}
 use Rattle.replication.specs.Calls.{newReply, editReply, makeReply, applyReply}
 use Rattle.replication.specs.Queries.{Part, ofBatch, winnerPart, learnedPart}

@@ -17,11 +17,9 @@ use Rattle.layout.specs.declared.Got.{Got}
 use Rattle.layout.specs.declared.Got.the-variants.{Num, Fault}
 use Rattle.layout.specs.declared.Checked.{Checked}
 use Rattle.layout.specs.declared.Checked.the-variants.{Accepted, Refused}
-use Rattle.layout.specs.Rules.{Rules, mostVectors, basic}
-use Rattle.layout.specs.Knowledge.{Range, Knowledge, elements}
-use Rattle.layout.specs.Fields.{opening, beforeVectors, beforeRanges, closing}
-use Rattle.layout.specs.Encode.{encode, putFields, putIds, putVectors, putRanges}
-use Rattle.layout.specs.Lawful.{Lawful}
+use Rattle.layout.specs.Knowledge.{Rules, basic, Range, Knowledge, opening, beforeVectors, beforeRanges, closing, encode, putFields, putIds, putVectors, putRanges, Lawful}
+use Rattle.layout.specs.Permitted.{mostVectors}
+use Rattle.layout.specs.Answer.{elements}
 use Rattle.layout.specs.Read.{_▷_, repeat, number, fields, limit, replicaId, range}
 use Rattle.layout.specs.Parse.{_▶_, replicaMap, vectorCount, vectorList, rangeList, ended, checked}
 use Rattle.layout.proofs.BackwardSteps.{then-inv, Counted, fields-inv, count-inv}

@@ -15,14 +15,9 @@ use borrow.Author.Tests.{leb-true, ltb-true, eqb-true, eqb-false}
 use Rattle.codec.specs.Number.{Bytes, beAt, put}
 use Rattle.layout.specs.declared.Got.{Got}
 use Rattle.layout.specs.declared.Got.the-variants.{Num, Fault}
-use Rattle.layout.specs.Rules.{Rules, largestTick}
-use Rattle.layout.specs.Knowledge.{Element, Range, elements}
-use Rattle.layout.specs.Fields.{beforeElements}
-use Rattle.layout.specs.Encode.{putFields, putIds, putElements, putVectors, putRanges}
-use Rattle.layout.specs.Lawful.{All, Distinct, Rising, keys}
-use Rattle.layout.specs.Lawful.{bounds, LawfulId, LawfulElement, LawfulVector, LawfulRange}
-use Rattle.layout.specs.Read.{_▷_, repeat, number, fields, limit, empty, among}
-use Rattle.layout.specs.Read.{judged, replicaId, tick, element, firstVector, vector, index, range}
+use Rattle.layout.specs.Knowledge.{Rules, largestTick, Element, Range, beforeElements, putFields, putIds, putElements, putVectors, putRanges, All, Distinct, Rising, keys, bounds, LawfulId, LawfulElement, LawfulVector, LawfulRange}
+use Rattle.layout.specs.Answer.{elements}
+use Rattle.layout.specs.Read.{_▷_, repeat, number, fields, limit, empty, among, judged, replicaId, tick, element, firstVector, vector, index, range}
 use Rattle.layout.specs.Parse.{vectorList}
 use Rattle.layout.proofs.BackwardSteps.{fault-num, then-inv, test-inv, not-inv}
 use Rattle.layout.proofs.BackwardSteps.{Took, number-inv, fields-inv, count-inv}

@@ -11,10 +11,9 @@ use Rattle.layout.specs.declared.Got.{Got}
 use Rattle.layout.specs.declared.Got.the-variants.{Num, Fault}
 use Rattle.layout.specs.declared.Checked.{Checked}
 use Rattle.layout.specs.declared.Checked.the-variants.{Accepted, Refused}
-use Rattle.layout.specs.Rules.{Rules, mostVectors, largestTick}
-use Rattle.layout.specs.Fields.{Field, opening, beforeVectors, beforeElements, beforeRanges, closing}
-use Rattle.layout.specs.Read.{_▷_, repeat, number, same, fields, limit, empty, among}
-use Rattle.layout.specs.Read.{judged, replicaId, tick, element, firstVector, vector, index, range}
+use Rattle.layout.specs.Knowledge.{Rules, largestTick, Field, opening, beforeVectors, beforeElements, beforeRanges, closing}
+use Rattle.layout.specs.Permitted.{mostVectors}
+use Rattle.layout.specs.Read.{_▷_, repeat, number, same, fields, limit, empty, among, judged, replicaId, tick, element, firstVector, vector, index, range}
 use Rattle.layout.specs.Parse.{_▶_, replicaMap, vectorCount, vectorList, rangeList, ended, checked}
 
 -- a fault of a part, and a refusal of the check, have a number from 1 to m

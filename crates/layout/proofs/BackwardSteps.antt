@@ -12,8 +12,7 @@ use borrow.Author.Tests.{leb-true, eqb-true}
 use Rattle.codec.specs.Number.{Bytes, beAt, put}
 use Rattle.layout.specs.declared.Got.{Got}
 use Rattle.layout.specs.declared.Got.the-variants.{Num, Fault}
-use Rattle.layout.specs.Fields.{Field}
-use Rattle.layout.specs.Encode.{putFields}
+use Rattle.layout.specs.Knowledge.{Field, putFields}
 use Rattle.layout.specs.Read.{_▷_, number, same, fields, limit}
 use Rattle.codec.proofs.Numbers.{be-below, put-back}
 

@@ -14,9 +14,7 @@ use borrow.Author.Tests.{le-leb, eq-eqb, ne-eqb}
 use Rattle.codec.specs.Number.{beAt, put}
 use Rattle.codec.proofs.Numbers.{be-drop, put-length, put-be, put-drop}
 use Rattle.layout.specs.declared.Got.the-variants.{Num}
-use Rattle.layout.specs.Fields.{Field, opening, beforeVectors, beforeElements, beforeRanges, closing}
-use Rattle.layout.specs.Encode.{putFields}
-use Rattle.layout.specs.Lawful.{All}
+use Rattle.layout.specs.Knowledge.{Field, opening, beforeVectors, beforeElements, beforeRanges, closing, putFields, All}
 use Rattle.layout.specs.Read.{number, same, fields, limit, among}
 
 pub record Stands (s : List ℕ) (at : ℕ) (t : List ℕ) : Type 0 where

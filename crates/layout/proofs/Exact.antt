@@ -13,10 +13,9 @@ use Rattle.codec.specs.Number.{Bytes}
 use Rattle.layout.specs.declared.Checked.{Checked}
 use Rattle.layout.specs.declared.Checked.the-variants.{Accepted, Refused}
 use lib.Dec.{lit≤}
-use Rattle.layout.specs.Rules.{Rules, Permitted, base, longest, largestTick, mostVectors}
-use Rattle.layout.specs.Knowledge.{Knowledge, elements}
-use Rattle.layout.specs.Encode.{encode}
-use Rattle.layout.specs.Lawful.{Lawful}
+use Rattle.layout.specs.Knowledge.{Rules, largestTick, Knowledge, encode, Lawful}
+use Rattle.layout.specs.Permitted.{Permitted, base, longest, mostVectors}
+use Rattle.layout.specs.Answer.{elements}
 use Rattle.layout.specs.Parse.{Parsed, accepted, refused, checked, told, parse}
 use Rattle.layout.specs.Decode.{decode}
 use Rattle.layout.proofs.Forward.{forward, decoded, encode-length, encode-bytes}

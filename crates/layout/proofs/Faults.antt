@@ -9,8 +9,7 @@ use lib.ListN.{take}
 use Rattle.codec.specs.Number.{beFrom, beAt, put}
 use Rattle.layout.specs.declared.Checked.{Checked}
 use Rattle.layout.specs.declared.Checked.the-variants.{Accepted, Refused}
-use Rattle.layout.specs.Rules.{basic}
-use Rattle.layout.specs.Fields.{Field, opening, beforeVectors, beforeElements, beforeRanges, closing}
+use Rattle.layout.specs.Knowledge.{basic, Field, opening, beforeVectors, beforeElements, beforeRanges, closing}
 use Rattle.layout.specs.Read.{repeat, number, same, fields, limit, empty, among, judged, replicaId, tick, element, firstVector, vector, index, range}
 use Rattle.layout.specs.Parse.{replicaMap, vectorCount, vectorList, rangeList, ended, checked}
 

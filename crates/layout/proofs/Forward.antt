@@ -11,11 +11,9 @@ use Rattle.codec.proofs.Numbers.{put-bytes}
 use Rattle.layout.specs.declared.Got.the-variants.{Num}
 use Rattle.layout.specs.declared.Checked.{Checked}
 use Rattle.layout.specs.declared.Checked.the-variants.{Accepted}
-use Rattle.layout.specs.Rules.{Rules, Permitted, mostVectors, mostCount}
-use Rattle.layout.specs.Knowledge.{Element, Range, Knowledge, elements}
-use Rattle.layout.specs.Fields.{Field, opening, beforeVectors, beforeElements, beforeRanges, closing}
-use Rattle.layout.specs.Encode.{putFields, putIds, putElements, putVectors, putRanges, encode}
-use Rattle.layout.specs.Lawful.{All, Distinct, Rising, bounds, Lawful, LawfulId, LawfulVector, LawfulRange}
+use Rattle.layout.specs.Knowledge.{Rules, Element, Range, Knowledge, Field, opening, beforeVectors, beforeElements, beforeRanges, closing, putFields, putIds, putElements, putVectors, putRanges, encode, All, Distinct, Rising, bounds, Lawful, LawfulId, LawfulVector, LawfulRange}
+use Rattle.layout.specs.Permitted.{Permitted, mostVectors, mostCount}
+use Rattle.layout.specs.Answer.{elements}
 use Rattle.layout.specs.Read.{_▷_, fields}
 use Rattle.layout.specs.Parse.{_▶_, replicaMap, vectorCount, vectorList, rangeList, ended, checked}
 use Rattle.layout.specs.Decode.{idsAt, vectorsAt, afterVectors, rangesAt, decode}

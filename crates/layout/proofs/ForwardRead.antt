@@ -9,11 +9,8 @@ use lib.ListN.{length}
 use borrow.Author.Tests.{lt-ltb, le-leb}
 use Rattle.codec.specs.Number.{beAt, put}
 use Rattle.layout.specs.declared.Got.the-variants.{Num}
-use Rattle.layout.specs.Rules.{Rules, largestTick}
-use Rattle.layout.specs.Knowledge.{Element, Range, elements}
-use Rattle.layout.specs.Fields.{beforeElements}
-use Rattle.layout.specs.Encode.{putFields, putIds, putElements, putVectors, putRanges}
-use Rattle.layout.specs.Lawful.{All, Distinct, Rising, keys, bounds, LawfulId, LawfulElement, LawfulVector, LawfulRange}
+use Rattle.layout.specs.Knowledge.{Rules, largestTick, Element, Range, beforeElements, putFields, putIds, putElements, putVectors, putRanges, All, Distinct, Rising, keys, bounds, LawfulId, LawfulElement, LawfulVector, LawfulRange}
+use Rattle.layout.specs.Answer.{elements}
 use Rattle.layout.specs.Read.{_▷_, repeat, number, fields, empty, judged, replicaId, tick, element, firstVector, vector, index, range}
 use Rattle.layout.proofs.Chain.{Stands, moved, over, reads, number-reads, limit-holds, fields-over, fields-read}
 use Rattle.layout.proofs.Chain.{beforeElements-fits, Fresh, among-none, fresh-all, fresh-mores}

@@ -6,10 +6,9 @@ use mathlib.Core.List.{List, [], _∷_}
 use native.Mathlib.Nat.{mul-suc, mul-le-mul}
 use native.Mathlib.Omega.{arith}
 use lib.ListN.{length, getD}
-use Rattle.layout.specs.Rules.{Rules, longest}
-use Rattle.layout.specs.Knowledge.{Element, Knowledge, elements}
-use Rattle.layout.specs.Encode.{encode}
-use Rattle.layout.specs.Lawful.{All, Lawful, LawfulVector}
+use Rattle.layout.specs.Knowledge.{Rules, Element, Knowledge, encode, All, Lawful, LawfulVector}
+use Rattle.layout.specs.Permitted.{longest}
+use Rattle.layout.specs.Answer.{elements}
 use Rattle.layout.proofs.Forward.{encode-length}
 
 elements-most : (r : ℕ) (vs : List (List Element)) → All (LawfulVector r) vs → elements vs ≤ r * length vs

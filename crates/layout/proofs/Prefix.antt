@@ -18,8 +18,8 @@ use Rattle.layout.specs.declared.Got.{Got}
 use Rattle.layout.specs.declared.Got.the-variants.{Num, Fault}
 use Rattle.layout.specs.declared.Checked.{Checked}
 use Rattle.layout.specs.declared.Checked.the-variants.{Accepted}
-use Rattle.layout.specs.Rules.{longest, Limits, Rules, mostVectors, largestTick, base, basic}
-use Rattle.layout.specs.Fields.{Field, opening, beforeVectors, beforeElements, beforeRanges, closing}
+use Rattle.layout.specs.Permitted.{longest, mostVectors, base}
+use Rattle.layout.specs.Knowledge.{Limits, Rules, largestTick, basic, Field, opening, beforeVectors, beforeElements, beforeRanges, closing}
 use Rattle.layout.specs.Read.{_▷_, repeat, number, same, fields, limit, empty, among, judged, replicaId, tick, element, firstVector, vector, index, range}
 use Rattle.layout.specs.Parse.{replicaMap, vectorCount, vectorList, rangeList, _▶_, ended, checked}
 

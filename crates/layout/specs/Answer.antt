@@ -1,8 +1,10 @@
 -- The answer of the check as document 01 gives it: the refusal's number, 0 where nothing is refused, and the sizes
 -- r, v, e and g. On a refusal only the number returns: where the sizes are put, nothing changes.
-use Prim.Native.Nat.{ℕ}
+use Prim.Native.Nat.{ℕ, _+_}
 use mathlib.Core.List.{List, [], _∷_}
+use lib.ListN.{length}
 use lib.Seq.{sets}
+use Rattle.layout.specs.Knowledge.{Element}
 use Rattle.layout.specs.declared.Checked.{Checked}
 use Rattle.layout.specs.declared.Checked.the-variants.{Accepted, Refused}
 
@@ -14,3 +16,8 @@ checkedNumber (Refused n) = n
 unfoldable pub checkedSizes : Checked → List ℕ → List ℕ
 checkedSizes (Accepted r v e g) old = sets old 0 (r ∷ v ∷ e ∷ g ∷ [])
 checkedSizes (Refused n) old = old
+
+-- e, the elements of all vectors
+unfoldable pub elements : List (List Element) → ℕ
+elements [] = 0
+elements (es ∷ vs) = length es + elements vs

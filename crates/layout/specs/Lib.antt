@@ -1,9 +1,6 @@
--- The layout of a knowledge: its value, its limits, its bytes, what is lawful, and the reading of bytes.
-pub mod Rules
+-- The layout of a knowledge: its limits, its value, its bytes, what is lawful, and the reading of bytes.
 pub mod Knowledge
-pub mod Fields
-pub mod Encode
-pub mod Lawful
+pub mod Permitted
 pub mod Read
 pub mod Parse
 pub mod Decode

@@ -1,6 +1,6 @@
 -- The reading of a whole knowledge: document 01's table "Knowledge, left to right, first faulty field", then
 -- "Knowledge, end". `checked` decides and counts; `parse` also gives the value that the accepted bytes stand for.
-use Prim.Native.Nat.{ℕ, _-_}
+use Prim.Native.Nat.{ℕ, _+_, _-_}
 use mathlib.Core.Bool.{true, false}
 use mathlib.Core.List.{List}
 use lib.Dec.{eqb}
@@ -9,9 +9,7 @@ use Rattle.layout.specs.declared.Got.{Got}
 use Rattle.layout.specs.declared.Got.the-variants.{Num, Fault}
 use Rattle.layout.specs.declared.Checked.{Checked}
 use Rattle.layout.specs.declared.Checked.the-variants.{Accepted, Refused}
-use Rattle.layout.specs.Rules.{Rules, mostVectors}
-use Rattle.layout.specs.Knowledge.{Knowledge}
-use Rattle.layout.specs.Fields.{opening, beforeVectors, beforeRanges, closing}
+use Rattle.layout.specs.Knowledge.{Rules, Knowledge, opening, beforeVectors, beforeRanges, closing}
 use Rattle.layout.specs.Decode.{decode}
 use Rattle.layout.specs.Read.{_▷_, repeat, number, fields, limit, replicaId, firstVector, vector, range}
 
@@ -23,7 +21,7 @@ replicaMap R s =
 
 -- the fields up to the count v
 unfoldable pub vectorCount : Rules → List ℕ → ℕ → Got
-vectorCount R s at = fields s beforeVectors 0 at ▷ number s 4 ▷ limit 1 (mostVectors (R .limits))
+vectorCount R s at = fields s beforeVectors 0 at ▷ number s 4 ▷ limit 1 (R .limits .ranges + 1)
 
 -- the v clock vectors: e
 unfoldable pub vectorList : List ℕ → ℕ → ℕ → ℕ → Got

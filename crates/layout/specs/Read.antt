@@ -9,8 +9,7 @@ use lib.ListN.{length}
 use Rattle.codec.specs.Number.{beAt}
 use Rattle.layout.specs.declared.Got.{Got}
 use Rattle.layout.specs.declared.Got.the-variants.{Num, Fault}
-use Rattle.layout.specs.Rules.{Rules, largestTick}
-use Rattle.layout.specs.Fields.{Field, beforeElements}
+use Rattle.layout.specs.Knowledge.{Rules, largestTick, Field, beforeElements}
 
 infixl 40 _▷_
 -- the next part is read only where the one before has no fault

@@ -12,7 +12,7 @@ use Rattle.codec.specs.Number.{Bytes, beFrom, beAt}
 use Rattle.codec.proofs.Numbers.{be-add, be-below}
 use Rattle.layout.specs.declared.Got.{Got}
 use Rattle.layout.specs.declared.Got.the-variants.{Num}
-use Rattle.layout.specs.Fields.{Field, field, opening, beforeVectors, beforeRanges, closing}
+use Rattle.layout.specs.Knowledge.{Field, field, opening, beforeVectors, beforeRanges, closing}
 use Rattle.layout.specs.Read.{_▷_, same, fields, empty, firstVector}
 use Rattle.reader.specs.Method.{leAt, swap, Opened, Counting, Ranging}
 use Rattle.fields.proofs.Steps.{number-there, empty-yes}

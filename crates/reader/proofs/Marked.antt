@@ -16,7 +16,7 @@ use lib.Seq.{getD-set-same, getD-set-other}
 use Rattle.codec.specs.Number.{Bytes, beAt}
 use Rattle.codec.proofs.Numbers.{be-suc, be-below}
 use Rattle.layout.specs.declared.Got.the-variants.{Num}
-use Rattle.layout.specs.Rules.{largestTick}
+use Rattle.layout.specs.Knowledge.{largestTick}
 use Rattle.layout.specs.Read.{repeat, among, element}
 use Rattle.fields.proofs.Among.{either, among-last}
 use Rattle.fields.proofs.Repeat.{repeat-all, repeat-on, repeat-end}

@@ -10,8 +10,7 @@ use Rattle.codec.specs.Number.{beAt}
 use Rattle.layout.specs.declared.Got.{Got}
 use Rattle.layout.specs.declared.Got.the-variants.{Num, Fault}
 use Rattle.layout.specs.declared.Checked.the-variants.{Accepted}
-use Rattle.layout.specs.Rules.{basic}
-use Rattle.layout.specs.Fields.{opening, beforeVectors, beforeRanges, closing}
+use Rattle.layout.specs.Knowledge.{basic, opening, beforeVectors, beforeRanges, closing}
 use Rattle.layout.specs.Read.{_▷_, repeat, number, fields, limit, among, replicaId, firstVector, vector}
 use Rattle.layout.specs.Parse.{vectorCount, vectorList, rangeList, checked}
 use Rattle.fields.specs.Method.{rangesFrom, rangesAfter, afterMap, afterCount, afterVectors, afterRanges}

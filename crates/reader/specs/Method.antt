@@ -7,7 +7,7 @@ use lib.ListN.{length, getD}
 use Rattle.codec.specs.Number.{Bytes, beAt}
 use Rattle.layout.specs.declared.Got.{Got}
 use Rattle.layout.specs.declared.Got.the-variants.{Num}
-use Rattle.layout.specs.Fields.{opening, beforeVectors, beforeRanges}
+use Rattle.layout.specs.Knowledge.{opening, beforeVectors, beforeRanges}
 use Rattle.layout.specs.Read.{fields}
 
 -- the n bytes from a place on as one number, the lowest first

@@ -13,17 +13,15 @@ use native.Mathlib.Omega.{arith}
 use lib.Dec.{leb}
 use lib.ListN.{length}
 use borrow.Author.Tests.{leb-true, leb-false, not-false}
-use Rattle.layout.specs.Rules.{Rules, Permitted}
-use Rattle.layout.specs.Knowledge.{Knowledge}
-use Rattle.ticks.specs.Known.{highest, known, contains}
+use Rattle.layout.specs.Knowledge.{Rules, Knowledge}
+use Rattle.layout.specs.Permitted.{Permitted}
+use Rattle.ticks.specs.Meaning.{highest, known, contains}
 use Rattle.ticks.specs.Operations.{merge, covers}
 use Rattle.ticks.proofs.Operations.{known-merge}
 use Rattle.ticks.proofs.Algebra.{contains-exact}
 use Rattle.ticks.proofs.Search.{covers-exact}
-use Rattle.replication.specs.Record.{Rec}
+use Rattle.replication.specs.Formats.{Rec, Store, encodeStore, Batch}
 use Rattle.replication.specs.Reading.{both}
-use Rattle.replication.specs.Store.{Store, encodeStore}
-use Rattle.replication.specs.Batch.{Batch}
 use Rattle.replication.specs.OpenBatch.{inSpan, lacksChange}
 use Rattle.replication.specs.Operate.{find, join, applied}
 use Rattle.replication.specs.Machine.{Ticks, Remembered, State, holds, greatest, learns, withTicks, applies}

@@ -12,21 +12,18 @@ use native.Mathlib.Omega.{arith}
 use lib.Dec.{eqb, ltb}
 use lib.ListN.{length}
 use borrow.Author.Tests.{eq-eqb, ne-eqb, eqb-true, eqb-false, ltb-true, ltb-false}
-use Rattle.layout.specs.Rules.{Rules, Permitted, largestTick}
-use Rattle.layout.specs.Knowledge.{Knowledge}
-use Rattle.layout.specs.Lawful.{Rising}
-use Rattle.ticks.specs.Known.{highest, known}
+use Rattle.layout.specs.Knowledge.{Rules, largestTick, Knowledge, Rising}
+use Rattle.layout.specs.Permitted.{Permitted}
+use Rattle.ticks.specs.Meaning.{highest, known}
 use Rattle.ticks.specs.Operations.{raise, largest}
 use Rattle.ticks.proofs.Unique.{normal-sound}
 use Rattle.ticks.proofs.Operations.{known-raise-own, known-raise-other}
 use Rattle.ticks.proofs.Largest.{largest-bounds, largest-attained}
 use Rattle.ticks.proofs.LawfulResults.{top-below, below-top}
-use Rattle.replication.specs.Record.{Rec}
-use Rattle.replication.specs.Store.{Store, encodeStore}
+use Rattle.replication.specs.Formats.{Rec, Store, encodeStore, items}
 use Rattle.replication.specs.Operate.{find, replace, nextTick, changedRec, changed}
 use Rattle.replication.specs.Machine.{Ticks, Remembered, State, holds, greatest, largestKnown, recordOf, withTicks, ownTick, changes}
 use Rattle.replication.specs.Lists.{World, putAt, keepStore}
-use Rattle.replication.specs.Record.{items}
 use Rattle.replication.proofs.Best.{Mem, mem-added, Contained, holds-contained, contained-holds, not-holds}
 use Rattle.replication.proofs.MachineGreatest.{greatest-alike, holds-alike, greatest-equal, greatest-added-lacks, greatest-added-other, greatest-added-above}
 use Rattle.replication.proofs.Supremum.{largest-known-bounds, largest-known-is}

@@ -4,11 +4,8 @@ use Prim.Native.Nat.{ℕ, _≤_, _<_}
 use mathlib.Core.Path.{_≡_, ap, _∙_}
 use mathlib.Core.Logic.{_⊎_}
 use mathlib.Core.Bool.{Bool, true}
-use Rattle.layout.specs.Rules.{Rules, largestTick}
-use Rattle.layout.specs.Knowledge.{Knowledge}
-use Rattle.layout.specs.Lawful.{LawfulId, Lawful}
-use Rattle.ticks.specs.Known.{highest, known}
-use Rattle.ticks.specs.Normal.{Normal}
+use Rattle.layout.specs.Knowledge.{Rules, largestTick, Knowledge, LawfulId, Lawful}
+use Rattle.ticks.specs.Meaning.{highest, known, Normal}
 use Rattle.ticks.specs.Written.{isNormal, eqKnowledge}
 use Rattle.ticks.specs.Operations.{emptyKnowledge, normalise, merge, project, raise}
 use Rattle.ticks.proofs.Equality.{eqKnowledge-self}

@@ -11,24 +11,20 @@ use mathlib.Core.List.{List, [], _∷_}
 use mathlib.Core.Option.{Option, none, some}
 use native.Mathlib.Omega.{arith}
 use lib.ListN.{length}
-use Rattle.layout.specs.Rules.{Rules, Permitted, largestTick}
-use Rattle.layout.specs.Knowledge.{Knowledge}
-use Rattle.layout.specs.Lawful.{All, Rising}
-use Rattle.ticks.specs.Known.{highest, known, contains}
+use Rattle.layout.specs.Knowledge.{Rules, largestTick, Knowledge, All, Rising}
+use Rattle.layout.specs.Permitted.{Permitted}
+use Rattle.ticks.specs.Meaning.{highest, known, contains}
 use Rattle.ticks.proofs.Unique.{normal-sound}
 use Rattle.ticks.proofs.Algebra.{contains-exact}
 use Rattle.ticks.proofs.Largest.{alike-exact}
 use Rattle.ticks.proofs.LawfulResults.{top-below, below-top}
-use Rattle.replication.specs.Record.{Rec}
+use Rattle.replication.specs.Formats.{Rec, Store, encodeStore, Batch, encodeBatch, items}
 use Rattle.replication.specs.Reading.{both}
-use Rattle.replication.specs.Store.{Store, encodeStore}
 use Rattle.replication.specs.OpenStore.{versionsIn, openStore}
-use Rattle.replication.specs.Batch.{Batch, encodeBatch}
 use Rattle.replication.specs.OpenBatch.{inSpan, lacksChange, carried, openBatch}
 use Rattle.replication.specs.Operate.{find}
 use Rattle.replication.specs.Machine.{Ticks, Remembered, State, holds, greatest}
 use Rattle.replication.specs.Lists.{World}
-use Rattle.replication.specs.Record.{items}
 use Rattle.replication.proofs.Best.{Mem, Contained, holds-contained, greatest-top}
 use Rattle.replication.proofs.Tables.{ValidRec, valid-recs, all-find, both-parts, both-holds, in-span}
 use Rattle.replication.proofs.TablesSelected.{kept, kept-none, kept-in, kept-out}

@@ -12,19 +12,17 @@ use lib.ListN.{length}
 use borrow.Author.Tests.{leb-true, leb-false, ltb-true, ltb-false, eqb-true, not-false}
 use Rattle.codec.specs.Reply.{Reply, gives, refuses, Line, firstFault}
 use Rattle.codec.proofs.Replies.{None, fault-gives}
-use Rattle.layout.specs.Rules.{Limits, Rules, largestTick}
-use Rattle.layout.specs.Knowledge.{Knowledge}
+use Rattle.layout.specs.Knowledge.{Limits, Rules, largestTick, Knowledge}
 use Rattle.layout.specs.Parse.{Parsed, accepted, refused, parse}
-use Rattle.ticks.specs.Known.{highest}
+use Rattle.ticks.specs.Meaning.{highest}
 use Rattle.ticks.specs.Operations.{covers, coversFor, largest, tooManyReplicas, tooManyRanges}
 use Rattle.ticks.specs.Calls.{line, idOf, readAs, ownFault, wrongLength, wrongSpan, resultLines}
 use Rattle.ticks.proofs.ForCalls.{or-false, length-right, span-right, read-accepted, fault-refused, Within, within-lines}
-use Rattle.replication.specs.Record.{Rec, live, tombstone}
-use Rattle.replication.specs.Store.{Store, encodeStore}
-use Rattle.replication.specs.OpenStore.{openStore}
-use Rattle.replication.specs.Batch.{Batch, encodeBatch}
-use Rattle.replication.specs.OpenBatch.{openBatch}
+use Rattle.replication.specs.Formats.{Rec, Store, encodeStore, Batch, encodeBatch}
+use Rattle.replication.specs.Reading.{live, tombstone}
 use Rattle.replication.specs.Operate.{find, changed, made, applied}
+use Rattle.replication.specs.OpenStore.{openStore}
+use Rattle.replication.specs.OpenBatch.{openBatch}
 use Rattle.replication.specs.Calls.{then, noStore, storeOr, noBatch, batchOr, uncovered, ownAhead, gone, exhausted, tooManyRecords, storeLines, editLines, edited, editReply, deleteLines, deleted, deleteReply, makeLines, makes, makeReply, applyLines, applyReply}
 use Rattle.replication.specs.Lists.{outcome}
 

@@ -10,20 +10,17 @@ use native.Mathlib.Omega.{arith}
 use lib.ListN.{length}
 use Rattle.codec.specs.Number.{Bytes, beAt}
 use Rattle.codec.proofs.Numbers.{be-below}
-use Rattle.layout.specs.Rules.{Rules, Permitted}
-use Rattle.layout.specs.Knowledge.{Knowledge}
-use Rattle.layout.specs.Lawful.{Lawful}
+use Rattle.layout.specs.Knowledge.{Rules, Knowledge, Lawful}
+use Rattle.layout.specs.Permitted.{Permitted}
 use Rattle.layout.specs.Parse.{accepted, parse}
 use Rattle.layout.proofs.Exact.{exact}
-use Rattle.ticks.specs.Known.{highest, known}
+use Rattle.ticks.specs.Meaning.{highest, known}
 use Rattle.ticks.specs.Operations.{normalise, project}
 use Rattle.ticks.specs.Calls.{idOf}
 use Rattle.ticks.proofs.Operations.{known-project-inside, known-project-below, known-project-above}
 use Rattle.ticks.proofs.LawfulResults.{below-top}
 use Rattle.ticks.proofs.ForCalls.{id-is, Within}
-use Rattle.replication.specs.Record.{Rec}
-use Rattle.replication.specs.Store.{Store}
-use Rattle.replication.specs.Batch.{Batch, encodeBatch}
+use Rattle.replication.specs.Formats.{Rec, Store, Batch, encodeBatch}
 use Rattle.replication.specs.Operate.{find, selected, made}
 use Rattle.replication.specs.Machine.{Ticks, Remembered, State, value, greatest, acts}
 use Rattle.replication.specs.Lists.{Call, make, World, keepBatch}

@@ -14,18 +14,18 @@ use lib.Dec.{leb}
 use borrow.Author.Tests.{not-false}
 use Rattle.codec.specs.Reply.{Reply, gives, refuses, Line, firstFault}
 use Rattle.codec.proofs.Replies.{First, fault-exact}
-use Rattle.layout.specs.Rules.{Rules, Permitted, largestTick}
+use Rattle.layout.specs.Knowledge.{Rules, largestTick}
+use Rattle.layout.specs.Permitted.{Permitted}
 use Rattle.layout.specs.Parse.{parse}
-use Rattle.ticks.specs.Known.{highest, known}
+use Rattle.ticks.specs.Meaning.{highest, known}
 use Rattle.ticks.specs.Operations.{covers, largest}
 use Rattle.ticks.specs.Calls.{line, idOf, ownFault, wrongLength, wrongSpan, resultLines}
 use Rattle.ticks.proofs.Search.{covers-exact}
-use Rattle.replication.specs.Record.{Rec, live, tombstone}
-use Rattle.replication.specs.Store.{Store, newStore, encodeStore}
-use Rattle.replication.specs.OpenStore.{openStore}
-use Rattle.replication.specs.Batch.{Batch, encodeBatch}
-use Rattle.replication.specs.OpenBatch.{openBatch}
+use Rattle.replication.specs.Formats.{Rec, Store, newStore, encodeStore, Batch, encodeBatch}
+use Rattle.replication.specs.Reading.{live, tombstone}
 use Rattle.replication.specs.Operate.{find, changed, applied}
+use Rattle.replication.specs.OpenStore.{openStore}
+use Rattle.replication.specs.OpenBatch.{openBatch}
 use Rattle.replication.specs.Calls.{then, noStore, storeOr, noBatch, batchOr, uncovered, ownAhead, gone, exhausted, tooManyRecords, storeLines, newReply, editLines, edited, editReply, deleteLines, deleted, deleteReply, makeLines, makes, makeReply, applyLines, applyReply}
 use Rattle.replication.specs.Lists.{World, batchNumber}
 use Rattle.replication.specs.Machine.{State, greatest, largestKnown}

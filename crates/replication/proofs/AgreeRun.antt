@@ -10,20 +10,19 @@ use native.Mathlib.Omega.{arith}
 use lib.ListN.{length}
 use Rattle.codec.specs.Number.{Bytes}
 use Rattle.codec.proofs.Numbers.{power-positive}
-use Rattle.layout.specs.Rules.{Rules, Permitted}
-use Rattle.ticks.specs.Known.{highest}
+use Rattle.layout.specs.Knowledge.{Rules}
+use Rattle.layout.specs.Permitted.{Permitted}
+use Rattle.ticks.specs.Meaning.{highest}
 use Rattle.ticks.specs.Calls.{idOf}
 use Rattle.ticks.proofs.Operations.{known-empty}
 use Rattle.ticks.proofs.LawfulResults.{below-top}
-use Rattle.replication.specs.Record.{Rec, live, tombstone}
-use Rattle.replication.specs.Store.{Store, newStore, encodeStore}
+use Rattle.replication.specs.Formats.{Rec, Store, newStore, encodeStore, Batch, items}
+use Rattle.replication.specs.Reading.{live, tombstone}
 use Rattle.replication.specs.OpenStore.{openStore}
-use Rattle.replication.specs.Batch.{Batch}
 use Rattle.replication.specs.OpenBatch.{openBatch}
 use Rattle.replication.specs.Calls.{editReply, deleteReply, makeReply, applyReply}
 use Rattle.replication.specs.Lists.{Call, edit, delete, make, apply, Given, AllGiven, World, start, outcome, batchNumber, applyTo, writes, keepStore, keepBatch, step, run, isNone, Fed, trace}
 use Rattle.replication.specs.Machine.{Ticks, Remembered, State, initial, value, greatest, changes, numbered, applies, acts, fed, history}
-use Rattle.replication.specs.Record.{items}
 use Rattle.replication.proofs.Best.{Mem, greatest-nil}
 use Rattle.replication.proofs.Tables.{find-nil, rising-nil}
 use Rattle.replication.proofs.MachineSteps.{numbered-mem}

@@ -14,19 +14,16 @@ use lib.ListN.{length, take, drop}
 use borrow.Author.Tests.{le-leb, eq-eqb, leb-true, eqb-true}
 use Rattle.codec.specs.Number.{Bytes, beAt, put}
 use Rattle.codec.proofs.Numbers.{be-below, put-bytes}
-use Rattle.layout.specs.Rules.{Limits, Rules, Permitted}
-use Rattle.layout.specs.Knowledge.{Knowledge}
-use Rattle.layout.specs.Encode.{encode}
-use Rattle.layout.specs.Lawful.{All, Lawful}
+use Rattle.layout.specs.Knowledge.{Limits, Rules, Knowledge, encode, All, Lawful}
+use Rattle.layout.specs.Permitted.{Permitted}
 use Rattle.layout.specs.Parse.{Parsed, accepted, refused, parse}
 use Rattle.layout.proofs.Chain.{Stands, stands-whole, over, reads}
 use Rattle.layout.proofs.Forward.{encode-bytes}
 use Rattle.layout.proofs.Exact.{exact, read-back}
 use Rattle.ticks.specs.Written.{isNormal, eqKnowledge}
 use Rattle.ticks.specs.Operations.{project}
-use Rattle.replication.specs.Record.{Rec, putRecs}
+use Rattle.replication.specs.Formats.{Rec, putRecs, Batch, encodeBatch}
 use Rattle.replication.specs.Reading.{recsAt, validRecs}
-use Rattle.replication.specs.Batch.{Batch, encodeBatch}
 use Rattle.replication.specs.OpenBatch.{batchWith, batchAfter, batchFrom, decodeBatch, carried, validBatch, ifValidBatch, openBatch}
 use Rattle.replication.proofs.PartBytes.{part-over, part-reads, part-length, part-back, no-bytes, append-bytes, part-bytes, test-back, both-of, both-left, both-right}
 use Rattle.replication.proofs.RecordBytes.{FitsRec, put-upto, recs-bytes, recs-read, Read, recs-back}

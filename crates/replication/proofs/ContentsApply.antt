@@ -14,17 +14,15 @@ use lib.ListN.{length}
 use borrow.Author.Tests.{not-false}
 use Rattle.codec.specs.Number.{Bytes}
 use Rattle.codec.specs.Reply.{gives}
-use Rattle.layout.specs.Rules.{Rules, Permitted}
-use Rattle.layout.specs.Lawful.{All}
-use Rattle.ticks.specs.Known.{highest, known}
+use Rattle.layout.specs.Knowledge.{Rules, All}
+use Rattle.layout.specs.Permitted.{Permitted}
+use Rattle.ticks.specs.Meaning.{highest, known}
 use Rattle.ticks.specs.Operations.{merge, coversFor}
 use Rattle.ticks.proofs.Operations.{known-merge, normal-merge}
 use Rattle.ticks.proofs.LawfulResults.{below-top, lawful-merge}
 use Rattle.ticks.proofs.ForCover.{covers-for-exact}
-use Rattle.replication.specs.Record.{Rec}
-use Rattle.replication.specs.Store.{Store, encodeStore}
+use Rattle.replication.specs.Formats.{Rec, Store, encodeStore, Batch, LawfulRec, ContainedIn, LawfulStore, LawfulBatch}
 use Rattle.replication.specs.OpenStore.{openStore}
-use Rattle.replication.specs.Batch.{Batch}
 use Rattle.replication.specs.OpenBatch.{openBatch}
 use Rattle.replication.specs.Operate.{find, winnerOf, join, applied}
 use Rattle.replication.specs.Calls.{ownAhead, applyReply}
@@ -32,7 +30,6 @@ use Rattle.replication.proofs.Tables.{find-all, all-find}
 use Rattle.replication.proofs.TablesJoin.{winner-tick, winner-kept, winner-replica, winner-replica-kept, join-rising, all-join, joined, joined-right, joined-left, joined-both, find-join}
 use Rattle.replication.proofs.AgreeLines.{Room, apply-met}
 use Rattle.replication.proofs.ContentsValid.{lawful-opens, store-exact, batch-exact}
-use Rattle.replication.specs.Valid.{LawfulRec, ContainedIn, LawfulStore, LawfulBatch}
 use Rattle.replication.proofs.ContentsMake.{gives-outcome}
 
 -- the second record wins: "the greater change tick, then the greater change replica"

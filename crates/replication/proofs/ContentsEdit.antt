@@ -12,9 +12,9 @@ use lib.ListN.{length}
 use Rattle.codec.specs.Number.{Bytes, beAt}
 use Rattle.codec.specs.Reply.{gives}
 use Rattle.codec.proofs.Numbers.{power-positive}
-use Rattle.layout.specs.Rules.{Rules, Permitted, largestTick}
-use Rattle.layout.specs.Lawful.{All}
-use Rattle.ticks.specs.Known.{highest, known}
+use Rattle.layout.specs.Knowledge.{Rules, largestTick, All}
+use Rattle.layout.specs.Permitted.{Permitted}
+use Rattle.ticks.specs.Meaning.{highest, known}
 use Rattle.ticks.specs.Operations.{raise, largest}
 use Rattle.ticks.specs.Calls.{idOf}
 use Rattle.ticks.proofs.Unique.{normal-sound}
@@ -22,8 +22,7 @@ use Rattle.ticks.proofs.Operations.{known-raise-own, known-raise-other, normal-
 use Rattle.ticks.proofs.Largest.{largest-bounds, largest-attained}
 use Rattle.ticks.proofs.LawfulResults.{below-top, lawful-raise}
 use Rattle.ticks.proofs.ForCalls.{id-is}
-use Rattle.replication.specs.Record.{Rec}
-use Rattle.replication.specs.Store.{Store, encodeStore}
+use Rattle.replication.specs.Formats.{Rec, Store, encodeStore, LawfulRec, ContainedIn, LawfulStore}
 use Rattle.replication.specs.OpenStore.{openStore}
 use Rattle.replication.specs.Operate.{find, replace, nextTick, changedRec, changed}
 use Rattle.replication.specs.Calls.{editReply, deleteReply}
@@ -32,7 +31,6 @@ use Rattle.replication.proofs.AgreeLines.{Room, edit-met, delete-met}
 use Rattle.replication.proofs.AgreeEdit.{same?}
 use Rattle.replication.proofs.AgreeMake.{id-below}
 use Rattle.replication.proofs.ContentsValid.{lawful-opens, store-exact}
-use Rattle.replication.specs.Valid.{LawfulRec, ContainedIn, LawfulStore}
 use Rattle.replication.proofs.ContentsMake.{gives-outcome}
 
 -- the record of an edit or a delete at a tick, spelled out, with the item's record before it

@@ -13,23 +13,20 @@ use lib.ListN.{length}
 use borrow.Author.Tests.{le-leb}
 use Rattle.codec.specs.Number.{Bytes, beAt}
 use Rattle.codec.specs.Reply.{Reply, gives}
-use Rattle.layout.specs.Rules.{Rules, Permitted}
-use Rattle.layout.specs.Knowledge.{Knowledge}
-use Rattle.layout.specs.Lawful.{All, Lawful}
+use Rattle.layout.specs.Knowledge.{Rules, Knowledge, All, Lawful}
+use Rattle.layout.specs.Permitted.{Permitted}
 use Rattle.layout.specs.Parse.{accepted, parse}
 use Rattle.layout.proofs.BackwardParts.{all-map}
 use Rattle.layout.proofs.Exact.{exact}
-use Rattle.ticks.specs.Known.{highest, known}
+use Rattle.ticks.specs.Meaning.{highest, known}
 use Rattle.ticks.specs.Operations.{normalise, project}
 use Rattle.ticks.specs.Calls.{idOf}
 use Rattle.ticks.proofs.Operations.{known-normalise, normal-normalise, normal-project, known-project-inside, known-project-below, known-project-above}
 use Rattle.ticks.proofs.LawfulResults.{below-top, top-below, lawful-normalise, lawful-project}
 use Rattle.ticks.proofs.ForCalls.{id-is, Within}
-use Rattle.replication.specs.Record.{Rec}
+use Rattle.replication.specs.Formats.{Rec, Store, Batch, encodeBatch, LawfulRec, ContainedIn, LawfulStore, LawfulBatch}
 use Rattle.replication.specs.Reading.{both}
-use Rattle.replication.specs.Store.{Store}
 use Rattle.replication.specs.OpenStore.{openStore}
-use Rattle.replication.specs.Batch.{Batch, encodeBatch}
 use Rattle.replication.specs.OpenBatch.{inSpan, lacksChange, openBatch}
 use Rattle.replication.specs.Operate.{find, selected, made}
 use Rattle.replication.specs.Calls.{makeReply}
@@ -40,7 +37,6 @@ use Rattle.replication.proofs.AgreeInvariant.{kept-some}
 use Rattle.replication.proofs.AgreeLines.{make-met}
 use Rattle.replication.proofs.AgreeMake.{id-below}
 use Rattle.replication.proofs.ContentsValid.{lacks-exact, all-two, store-exact, lawful-opens-batch}
-use Rattle.replication.specs.Valid.{LawfulRec, ContainedIn, LawfulStore, LawfulBatch}
 
 -- a reply that gives bytes writes them where there is room
 pub gives-outcome : (r : Reply) (bs : List ℕ) → r ≡ gives bs → outcome r (length bs) ≡ some bs

@@ -11,11 +11,10 @@ use native.Mathlib.Omega.{arith}
 use lib.Dec.{leb}
 use borrow.Author.Tests.{leb-true, leb-false}
 use Rattle.codec.specs.Number.{Bytes}
-use Rattle.layout.specs.Rules.{Rules, Permitted}
-use Rattle.layout.specs.Knowledge.{Knowledge}
-use Rattle.layout.specs.Lawful.{All}
+use Rattle.layout.specs.Knowledge.{Rules, Knowledge, All}
+use Rattle.layout.specs.Permitted.{Permitted}
 use Rattle.layout.proofs.BackwardParts.{all-map}
-use Rattle.ticks.specs.Known.{highest, known, contains}
+use Rattle.ticks.specs.Meaning.{highest, known, contains}
 use Rattle.ticks.specs.Operations.{project}
 use Rattle.ticks.proofs.Equality.{eqKnowledge-sound}
 use Rattle.ticks.proofs.Unique.{normal-sound}
@@ -23,18 +22,15 @@ use Rattle.ticks.proofs.Operations.{normal-test}
 use Rattle.ticks.proofs.Algebra.{contains-yes, contains-more, contains-exact, project-outside}
 use Rattle.ticks.proofs.Largest.{alike-exact}
 use Rattle.ticks.proofs.LawfulResults.{top-below, below-top}
-use Rattle.replication.specs.Record.{Rec}
+use Rattle.replication.specs.Formats.{Rec, Store, encodeStore, Batch, encodeBatch, LawfulRec, ContainedIn, LawfulStore, LawfulBatch}
 use Rattle.replication.specs.Reading.{both}
-use Rattle.replication.specs.Store.{Store, encodeStore}
 use Rattle.replication.specs.OpenStore.{versionsIn, openStore}
-use Rattle.replication.specs.Batch.{Batch, encodeBatch}
 use Rattle.replication.specs.OpenBatch.{inSpan, lacksChange, carried, openBatch}
 use Rattle.replication.proofs.Tables.{ValidRec, valid-recs, both-parts, both-holds, in-span}
 use Rattle.replication.proofs.RecordBytes.{FitsRec}
 use Rattle.replication.proofs.StoreBytes.{store-open, store-opened, valid-store}
 use Rattle.replication.proofs.BatchBytes.{batch-open, batch-opened, valid-batch}
 use Rattle.replication.proofs.AgreeForm.{form-projected}
-use Rattle.replication.specs.Valid.{LawfulRec, ContainedIn, LawfulStore, LawfulBatch}
 
 -- ---- versions
 

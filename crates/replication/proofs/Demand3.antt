@@ -12,22 +12,20 @@ use mathlib.Core.Option.{some}
 use native.Mathlib.Omega.{arith}
 use lib.Dec.{leb}
 use borrow.Author.Tests.{leb-true, leb-false}
-use Rattle.layout.specs.Rules.{Rules, Permitted, basic}
+use Rattle.layout.specs.Knowledge.{Rules, basic, Knowledge}
+use Rattle.layout.specs.Permitted.{Permitted}
 use Rattle.layout.proofs.Exact.{base-permitted}
-use Rattle.layout.specs.Knowledge.{Knowledge}
-use Rattle.ticks.specs.Known.{highest, known}
+use Rattle.ticks.specs.Meaning.{highest, known}
 use Rattle.ticks.specs.Calls.{line, idOf, wrongLength}
 use Rattle.ticks.proofs.Answers.{length-exact}
 use Rattle.ticks.proofs.ForCalls.{id-is}
 use Rattle.ticks.proofs.ForCover.{covers-for-exact}
-use Rattle.replication.specs.Record.{Rec}
+use Rattle.replication.specs.Formats.{Rec, Store, newStore, encodeStore, Batch}
 use Rattle.codec.specs.Number.{put}
 use Rattle.codec.specs.Reply.{gives}
 use Rattle.codec.proofs.Numbers.{put-length, put-be}
 use Rattle.codec.proofs.Replies.{fault-later, fault-none}
-use Rattle.replication.specs.Store.{Store, newStore, encodeStore}
 use Rattle.replication.specs.OpenStore.{openStore}
-use Rattle.replication.specs.Batch.{Batch}
 use Rattle.replication.specs.OpenBatch.{inSpan, lacksChange, openBatch}
 use Rattle.replication.specs.Operate.{find}
 use Rattle.replication.specs.Calls.{newReply, applyReply, ownAhead}

@@ -7,7 +7,7 @@ use mathlib.Core.Path.{_≡_, refl, sym, _∙_, ap}
 use mathlib.Core.Bool.{Bool, true, false}
 use mathlib.Core.Option.{none, some}
 use native.Mathlib.Omega.{arith}
-use Rattle.replication.specs.Record.{Rec}
+use Rattle.replication.specs.Formats.{Rec}
 use Rattle.replication.specs.Machine.{Ticks, Remembered, State, holds, greatest, changes, applies}
 use Rattle.replication.proofs.Best.{Mem, Contained, contained-holds, holds-contained, not-holds, not-contained}
 use Rattle.replication.proofs.MachineGreatest.{greatest-alike, holds-alike, greatest-equal, greatest-added-lacks, greatest-added-other, greatest-added-above, greater, greatest-larger, greatest-covered, greatest-nothing}

@@ -11,9 +11,8 @@ use native.Mathlib.Nat.{le-trans}
 use native.Mathlib.Omega.{arith}
 use lib.Dec.{leb}
 use borrow.Author.Tests.{leb-true, leb-false}
-use Rattle.layout.specs.Rules.{Rules}
-use Rattle.layout.specs.Lawful.{All}
-use Rattle.replication.specs.Record.{Rec}
+use Rattle.layout.specs.Knowledge.{Rules, All}
+use Rattle.replication.specs.Formats.{Rec}
 use Rattle.replication.specs.Lists.{Call, Given, AllGiven, edit, delete, make, apply, World, step, Fed, trace}
 use Rattle.replication.specs.Machine.{Ticks, Remembered, State, initial, value, numbered, applies, acts, fed, history}
 use Rattle.replication.proofs.Best.{Mem, mem-added, Contained}

@@ -13,7 +13,7 @@ use mathlib.Core.Option.{Option, none, some}
 use native.Mathlib.Nat.{le-trans, lt-irrefl}
 use native.Mathlib.Omega.{arith}
 use Rattle.codec.proofs.Numbers.{power-positive}
-use Rattle.replication.specs.Record.{Rec}
+use Rattle.replication.specs.Formats.{Rec}
 use Rattle.replication.specs.Machine.{Remembered, State, initial, greatest, changes}
 use Rattle.replication.proofs.Best.{Mem, mem-added, Contained, holds-contained, Apart, greatest-mem, greatest-item, greatest-holds}
 use Rattle.replication.proofs.Supremum.{largest-known-bounds}

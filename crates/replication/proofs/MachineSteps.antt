@@ -10,7 +10,7 @@ use mathlib.Core.Option.{Option, none, some}
 use native.Mathlib.Omega.{arith}
 use lib.Dec.{ltb, eqb}
 use borrow.Author.Tests.{lt-ltb, le-ltb, eq-eqb, ne-eqb, ltb-true, ltb-false, eqb-true, eqb-false}
-use Rattle.replication.specs.Record.{Rec}
+use Rattle.replication.specs.Formats.{Rec}
 use Rattle.replication.specs.Machine.{Ticks, Remembered, State, largestKnown, greatest, recordOf, withTicks, ownTick, changes, learns, numbered, applies}
 use Rattle.replication.proofs.Best.{Mem}
 

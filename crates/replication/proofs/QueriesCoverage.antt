@@ -15,16 +15,14 @@ use lib.ListN.{length}
 use borrow.Author.Tests.{eq-eqb, ne-eqb}
 use Rattle.codec.specs.Reply.{gives, firstFault}
 use Rattle.codec.proofs.Replies.{fault-here, fault-later, fault-none}
-use Rattle.layout.specs.Rules.{Rules}
-use Rattle.layout.specs.Knowledge.{Knowledge}
+use Rattle.layout.specs.Knowledge.{Rules, Knowledge}
 use Rattle.layout.specs.Parse.{Parsed, accepted, refused, parse}
-use Rattle.ticks.specs.Known.{known, contains}
+use Rattle.ticks.specs.Meaning.{known, contains}
 use Rattle.ticks.specs.Calls.{line, readAs, ownFault}
 use Rattle.ticks.proofs.Algebra.{contains-yes, contains-exact}
 use Rattle.ticks.proofs.ForCalls.{read-accepted}
 use Rattle.ticks.proofs.Replies.{read-fault, read-fine}
-use Rattle.replication.specs.Record.{Rec}
-use Rattle.replication.specs.Store.{Store}
+use Rattle.replication.specs.Formats.{Rec, Store}
 use Rattle.replication.specs.OpenStore.{openStore}
 use Rattle.replication.specs.Calls.{noStore, storeOr}
 use Rattle.replication.specs.Queries.{Coverage, covered, coverageNumber, coverageContained, coverageAll, coverageThousandths, countIn, thousandths, coveredOr, coverageAnswer}

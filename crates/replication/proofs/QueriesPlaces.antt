@@ -7,14 +7,11 @@ use mathlib.Core.List.{List, [], _++_}
 use mathlib.Core.Option.{some}
 use lib.ListN.{length}
 use Rattle.codec.specs.Number.{Bytes, beAt}
-use Rattle.layout.specs.Rules.{Rules, Permitted}
-use Rattle.layout.specs.Lawful.{All}
-use Rattle.layout.specs.Encode.{encode}
+use Rattle.layout.specs.Knowledge.{Rules, All, encode}
+use Rattle.layout.specs.Permitted.{Permitted}
 use Rattle.layout.proofs.Chain.{Stands, stands-whole, over, reads}
-use Rattle.replication.specs.Record.{putRecs}
-use Rattle.replication.specs.Store.{Store, encodeStore}
+use Rattle.replication.specs.Formats.{putRecs, Store, encodeStore, Batch, encodeBatch}
 use Rattle.replication.specs.OpenStore.{openStore}
-use Rattle.replication.specs.Batch.{Batch, encodeBatch}
 use Rattle.replication.specs.OpenBatch.{openBatch}
 use Rattle.replication.proofs.PartBytes.{part-over}
 use Rattle.replication.proofs.RecordBytes.{FitsRec}

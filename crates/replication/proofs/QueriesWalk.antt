@@ -14,15 +14,12 @@ use lib.Dec.{leb, eqb}
 use lib.ListN.{length}
 use borrow.Author.Tests.{le-leb}
 use Rattle.codec.specs.Number.{Bytes, beAt}
-use Rattle.layout.specs.Rules.{Rules, Permitted}
-use Rattle.layout.specs.Lawful.{All}
-use Rattle.layout.specs.Encode.{encode}
+use Rattle.layout.specs.Knowledge.{Rules, All, encode}
+use Rattle.layout.specs.Permitted.{Permitted}
 use Rattle.layout.proofs.Chain.{Stands, stands-length}
-use Rattle.replication.specs.Record.{Rec, putRecs}
+use Rattle.replication.specs.Formats.{Rec, putRecs, Store, Batch}
 use Rattle.replication.specs.Reading.{recAt, whole}
-use Rattle.replication.specs.Store.{Store}
 use Rattle.replication.specs.OpenStore.{openStore}
-use Rattle.replication.specs.Batch.{Batch}
 use Rattle.replication.specs.OpenBatch.{openBatch}
 use Rattle.replication.specs.Queries.{walkFrom, toGive}
 use Rattle.replication.proofs.RecordBytes.{FitsRec, whole-back, kind-length, kind-reads, rec-reads, rec-over}

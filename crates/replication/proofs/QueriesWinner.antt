@@ -18,19 +18,16 @@ use Rattle.codec.specs.Number.{Bytes, beAt, put}
 use Rattle.codec.specs.Reply.{gives, firstFault}
 use Rattle.codec.proofs.Numbers.{put-append}
 use Rattle.codec.proofs.Replies.{fault-here, fault-later, fault-none}
-use Rattle.layout.specs.Rules.{Rules, Permitted}
-use Rattle.layout.specs.Lawful.{All}
-use Rattle.layout.specs.Encode.{encode}
+use Rattle.layout.specs.Knowledge.{Rules, All, encode}
+use Rattle.layout.specs.Permitted.{Permitted}
 use Rattle.layout.proofs.Chain.{Stands}
 use Rattle.ticks.specs.Calls.{line, idOf, wrongLength}
 use Rattle.ticks.proofs.Lists.{less, same, more, order}
 use Rattle.ticks.proofs.ForCalls.{id-is}
 use Rattle.ticks.proofs.Answers.{length-exact}
-use Rattle.replication.specs.Record.{Rec, putRec, putRecs}
+use Rattle.replication.specs.Formats.{Rec, putRec, putRecs, Store, Batch}
 use Rattle.replication.specs.Reading.{recAt, recLength}
-use Rattle.replication.specs.Store.{Store}
 use Rattle.replication.specs.OpenStore.{openStore}
-use Rattle.replication.specs.Batch.{Batch}
 use Rattle.replication.specs.OpenBatch.{openBatch}
 use Rattle.replication.specs.Operate.{find, wins}
 use Rattle.replication.specs.Calls.{noStore, storeOr, noBatch, batchOr}

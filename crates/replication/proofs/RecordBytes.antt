@@ -14,9 +14,9 @@ use lib.Seq.{drop-length}
 use borrow.Author.Tests.{le-leb, eq-eqb, leb-true, eqb-true, eqb-false}
 use Rattle.codec.specs.Number.{Bytes, beAt, put}
 use Rattle.codec.proofs.Numbers.{be-below, put-back, put-bytes, put-length}
-use Rattle.layout.specs.Lawful.{All}
+use Rattle.layout.specs.Knowledge.{All}
 use Rattle.layout.proofs.Chain.{Stands, stands-length, moved, over, reads}
-use Rattle.replication.specs.Record.{Rec, putRec, putRecs}
+use Rattle.replication.specs.Formats.{Rec, putRec, putRecs}
 use Rattle.replication.specs.Reading.{recLength, recAt, whole, front, recsAt}
 
 -- a record of a known kind whose values have room in their fields

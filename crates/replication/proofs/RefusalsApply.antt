@@ -12,13 +12,12 @@ use mathlib.Core.Option.{Option, none, some}
 use native.Mathlib.Omega.{arith}
 use lib.ListN.{length}
 use Rattle.codec.specs.Reply.{Reply, gives, refuses, Line, firstFault}
-use Rattle.layout.specs.Rules.{Rules}
-use Rattle.ticks.specs.Normal.{Among}
+use Rattle.layout.specs.Knowledge.{Rules}
+use Rattle.ticks.specs.Meaning.{Among}
 use Rattle.ticks.specs.Operations.{merge}
 use Rattle.ticks.specs.Calls.{line}
-use Rattle.replication.specs.Store.{Store, encodeStore}
+use Rattle.replication.specs.Formats.{Store, encodeStore, Batch}
 use Rattle.replication.specs.OpenStore.{openStore}
-use Rattle.replication.specs.Batch.{Batch}
 use Rattle.replication.specs.OpenBatch.{openBatch}
 use Rattle.replication.specs.Operate.{join, applied}
 use Rattle.replication.specs.Calls.{noStore, storeOr, noBatch, batchOr, uncovered, ownAhead, storeLines, applyLines, applyReply}

@@ -12,25 +12,21 @@ use native.Mathlib.Omega.{arith}
 use lib.ListN.{length}
 use Rattle.codec.specs.Number.{beAt, Bytes}
 use Rattle.codec.specs.Reply.{refuses}
-use Rattle.layout.specs.Rules.{Rules, Permitted}
-use Rattle.layout.specs.Knowledge.{Knowledge}
-use Rattle.layout.specs.Lawful.{All, Rising, Lawful}
+use Rattle.layout.specs.Knowledge.{Rules, Knowledge, All, Rising, Lawful}
+use Rattle.layout.specs.Permitted.{Permitted}
 use Rattle.layout.specs.Parse.{accepted, parse}
 use Rattle.layout.proofs.Exact.{exact}
-use Rattle.ticks.specs.Known.{highest, known}
-use Rattle.ticks.specs.Normal.{Among, Normal}
+use Rattle.ticks.specs.Meaning.{highest, known, Among, Normal}
 use Rattle.ticks.specs.Operations.{raise, normalise, largest}
 use Rattle.ticks.proofs.Lists.{less, same, more, order}
 use Rattle.ticks.proofs.Operations.{normal-test, normal-raise, known-raise-own, known-raise-other}
 use Rattle.ticks.proofs.Unique.{normal-sound}
 use Rattle.ticks.proofs.Largest.{alike-all}
 use Rattle.ticks.proofs.Counts.{distinct-count, replicas-are, raise-map, raise-replicas, raise-ranges, normalise-replicas, project-replicas}
-use Rattle.replication.specs.Record.{Rec}
-use Rattle.replication.specs.Store.{Store}
+use Rattle.replication.specs.Formats.{Rec, Store, items}
 use Rattle.replication.specs.OpenStore.{versionsIn, openStore}
 use Rattle.replication.specs.Operate.{find, replace, nextTick, changedRec, changed, made}
 use Rattle.replication.specs.Calls.{editReply, deleteReply, makeReply}
-use Rattle.replication.specs.Record.{items}
 use Rattle.replication.proofs.Tables.{find-here, find-there, replace-nil, replace-after, replace-before, replace-length-found, valid-recs}
 use Rattle.replication.proofs.TablesSelected.{selected-length}
 use Rattle.replication.proofs.StoreBytes.{ValidStore, valid-store, store-opened}

@@ -12,12 +12,12 @@ use mathlib.Core.Option.{Option, none, some}
 use lib.ListN.{length}
 use Rattle.codec.specs.Number.{beAt, Bytes}
 use Rattle.codec.specs.Reply.{Reply, gives, refuses, Line, firstFault}
-use Rattle.layout.specs.Rules.{Rules, Permitted}
-use Rattle.layout.specs.Lawful.{Lawful}
-use Rattle.ticks.specs.Normal.{Among}
+use Rattle.layout.specs.Knowledge.{Rules, Lawful}
+use Rattle.layout.specs.Permitted.{Permitted}
+use Rattle.ticks.specs.Meaning.{Among}
 use Rattle.ticks.specs.Calls.{line, wrongLength}
 use Rattle.ticks.proofs.ForCalls.{id-is}
-use Rattle.replication.specs.Store.{Store, encodeStore}
+use Rattle.replication.specs.Formats.{Store, encodeStore}
 use Rattle.replication.specs.OpenStore.{openStore}
 use Rattle.replication.specs.Operate.{find, changed}
 use Rattle.replication.specs.Calls.{noStore, storeOr, gone, exhausted, storeLines, editLines, edited, editReply, deleteLines, deleted, deleteReply}

@@ -18,16 +18,16 @@ use Rattle.codec.specs.Number.{beAt, Bytes}
 use Rattle.codec.specs.Reply.{Reply, gives, refuses, answer, after}
 use Rattle.codec.specs.declared.Answer.the-variants.{Written, Refused}
 use Rattle.codec.proofs.Replies.{answer-fits, answer-short, after-front, after-refused}
-use Rattle.layout.specs.Rules.{Rules, Permitted, largestTick, basic}
+use Rattle.layout.specs.Knowledge.{Rules, largestTick, basic}
+use Rattle.layout.specs.Permitted.{Permitted}
 use Rattle.layout.proofs.Exact.{base-permitted}
-use Rattle.ticks.specs.Known.{highest, known}
+use Rattle.ticks.specs.Meaning.{highest, known}
 use Rattle.ticks.specs.Operations.{largest}
 use Rattle.ticks.proofs.ForCalls.{id-is}
 use Rattle.ticks.proofs.Largest.{largest-bounds}
 use Rattle.ticks.proofs.Meaning.{lawful-largest}
-use Rattle.replication.specs.Store.{Store}
+use Rattle.replication.specs.Formats.{Store, Batch}
 use Rattle.replication.specs.OpenStore.{openStore}
-use Rattle.replication.specs.Batch.{Batch}
 use Rattle.replication.specs.OpenBatch.{openBatch}
 use Rattle.replication.specs.Operate.{find}
 use Rattle.replication.specs.Calls.{exhausted, editReply, deleteReply, makeReply, applyReply}

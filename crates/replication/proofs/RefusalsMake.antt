@@ -12,19 +12,18 @@ use native.Mathlib.Omega.{arith}
 use lib.ListN.{length}
 use Rattle.codec.specs.Number.{beAt}
 use Rattle.codec.specs.Reply.{Reply, gives, refuses, Line, firstFault}
-use Rattle.layout.specs.Rules.{Rules, Permitted}
-use Rattle.layout.specs.Knowledge.{Knowledge}
+use Rattle.layout.specs.Knowledge.{Rules, Knowledge}
+use Rattle.layout.specs.Permitted.{Permitted}
 use Rattle.layout.specs.Parse.{Parsed, accepted, refused, parse}
 use Rattle.layout.proofs.Exact.{refused-exact}
 use Rattle.layout.proofs.BackwardRefused.{refused-within}
-use Rattle.ticks.specs.Normal.{Among}
+use Rattle.ticks.specs.Meaning.{Among}
 use Rattle.ticks.specs.Operations.{normalise, project}
 use Rattle.ticks.specs.Calls.{line, idOf, readAs, ownFault, wrongSpan, resultLines}
 use Rattle.ticks.proofs.ForCalls.{id-is, read-accepted}
 use Rattle.ticks.proofs.Replies.{read-fault, read-fine}
-use Rattle.replication.specs.Store.{Store}
+use Rattle.replication.specs.Formats.{Store, Batch, encodeBatch}
 use Rattle.replication.specs.OpenStore.{openStore}
-use Rattle.replication.specs.Batch.{Batch, encodeBatch}
 use Rattle.replication.specs.Operate.{made}
 use Rattle.replication.specs.Calls.{then, noStore, storeOr, tooManyRecords, makeLines, makes, makeReply}
 use Rattle.replication.proofs.RefusalsTable.{Rule, rule, Told, told-cons, told-then, At, only, refused-at, refused-pair, refused-among, refused-never, given-none, refuses-same}

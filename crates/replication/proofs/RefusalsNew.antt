@@ -9,7 +9,7 @@ use Rattle.codec.specs.Reply.{gives, refuses, firstFault}
 use Rattle.ticks.specs.Operations.{emptyKnowledge}
 use Rattle.ticks.specs.Calls.{line, wrongLength}
 use Rattle.ticks.proofs.ForCalls.{id-is}
-use Rattle.replication.specs.Store.{newStore, encodeStore}
+use Rattle.replication.specs.Formats.{newStore, encodeStore}
 use Rattle.replication.specs.Calls.{newReply}
 use Rattle.replication.proofs.RefusalsTable.{rule, FirstOf, Told, told-nil, told-cons, refused-first, given-none}
 use Rattle.replication.proofs.RefusalsTests.{means-length}

@@ -15,12 +15,9 @@ use borrow.Author.Tests.{leb-true, leb-false, ltb-true, ltb-false, eqb-true, eqb
 use Rattle.codec.specs.Number.{beAt, Bytes}
 use Rattle.codec.specs.Reply.{Reply, gives, refuses, firstFault}
 use Rattle.codec.proofs.Replies.{fault-exact, fault-gives, fault-none}
-use Rattle.layout.specs.Rules.{Rules, Permitted, largestTick}
-use Rattle.layout.specs.Knowledge.{Knowledge}
-use Rattle.layout.specs.Lawful.{Lawful}
-use Rattle.layout.specs.Encode.{encode}
-use Rattle.ticks.specs.Known.{highest, known}
-use Rattle.ticks.specs.Normal.{Among}
+use Rattle.layout.specs.Knowledge.{Rules, largestTick, Knowledge, Lawful, encode}
+use Rattle.layout.specs.Permitted.{Permitted}
+use Rattle.ticks.specs.Meaning.{highest, known, Among}
 use Rattle.ticks.specs.Operations.{covers, coversFor, largest, tooManyReplicas, tooManyRanges}
 use Rattle.ticks.specs.Calls.{line, wrongLength, wrongSpan, resultLines}
 use Rattle.ticks.proofs.Answers.{length-exact, span-exact}
@@ -31,10 +28,8 @@ use Rattle.ticks.proofs.Search.{covers-exact}
 use Rattle.ticks.proofs.ForCover.{covers-for-exact}
 use Rattle.ticks.proofs.LawfulResults.{lawful-sound, lawful-ticks}
 use Rattle.ticks.proofs.Largest.{largest-bounds, largest-attained}
-use Rattle.replication.specs.Record.{Rec}
-use Rattle.replication.specs.Store.{Store}
+use Rattle.replication.specs.Formats.{Rec, Store, Batch}
 use Rattle.replication.specs.OpenStore.{openStore}
-use Rattle.replication.specs.Batch.{Batch}
 use Rattle.replication.specs.Calls.{uncovered, ownAhead, gone, exhausted, tooManyRecords, storeLines}
 use Rattle.replication.proofs.StoreBytes.{store-opened}
 use Rattle.replication.proofs.RefusalsTable.{Rule, rule, Means, FirstOf, NoneOf, Told, told-nil, told-cons, told-then}

@@ -8,13 +8,11 @@ use mathlib.Core.List.{List, [], _∷_}
 use mathlib.Core.Option.{Option, none, some}
 use native.Mathlib.Omega.{arith}
 use lib.ListN.{length}
-use Rattle.layout.specs.Lawful.{All, Rising}
-use Rattle.layout.specs.Knowledge.{Knowledge}
-use Rattle.replication.specs.Record.{Rec}
+use Rattle.layout.specs.Knowledge.{All, Rising, Knowledge}
+use Rattle.replication.specs.Formats.{Rec, items}
 use Rattle.replication.specs.Reading.{both}
 use Rattle.replication.specs.OpenBatch.{inSpan, lacksChange}
 use Rattle.replication.specs.Operate.{find, selected}
-use Rattle.replication.specs.Record.{items}
 use Rattle.replication.proofs.Tables.{rising-cons, rising-low, rising-rest, rising-down, find-nil, find-here, find-there, here, there, finds, find-below}
 
 -- of what is found, what a make carries

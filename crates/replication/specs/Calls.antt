@@ -8,18 +8,16 @@ use mathlib.Core.Option.{Option, none, some}
 use lib.Dec.{leb, ltb, eqb}
 use lib.ListN.{length}
 use Rattle.codec.specs.Reply.{Reply, gives, Line, firstFault}
-use Rattle.layout.specs.Rules.{Limits, Rules, largestTick}
-use Rattle.layout.specs.Knowledge.{Knowledge}
+use Rattle.layout.specs.Knowledge.{Limits, Rules, largestTick, Knowledge}
 use Rattle.layout.specs.Parse.{parse}
-use Rattle.ticks.specs.Known.{highest}
+use Rattle.ticks.specs.Meaning.{highest}
 use Rattle.ticks.specs.Operations.{emptyKnowledge, covers, coversFor, largest}
 use Rattle.ticks.specs.Calls.{line, idOf, readAs, ownFault, wrongLength, wrongSpan, resultLines}
-use Rattle.replication.specs.Record.{Rec, live, tombstone}
-use Rattle.replication.specs.Store.{Store, newStore, encodeStore}
-use Rattle.replication.specs.OpenStore.{openStore}
-use Rattle.replication.specs.Batch.{Batch, encodeBatch}
-use Rattle.replication.specs.OpenBatch.{openBatch}
+use Rattle.replication.specs.Formats.{Rec, Store, newStore, encodeStore, Batch, encodeBatch}
+use Rattle.replication.specs.Reading.{live, tombstone}
 use Rattle.replication.specs.Operate.{find, changed, made, applied}
+use Rattle.replication.specs.OpenStore.{openStore}
+use Rattle.replication.specs.OpenBatch.{openBatch}
 
 -- one list of lines after the other
 unfoldable pub then : List Line → List Line → List Line

@@ -1,10 +1,7 @@
 -- Records, stores, batches and every call on them as definitions; the plain history machine; lists of calls.
-pub mod Record
+pub mod Formats
 pub mod Reading
-pub mod Store
 pub mod OpenStore
-pub mod Batch
-pub mod Valid
 pub mod OpenBatch
 pub mod Operate
 pub mod Calls

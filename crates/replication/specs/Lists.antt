@@ -12,8 +12,8 @@ use lib.Dec.{leb, eqb}
 use lib.ListN.{length}
 use Rattle.codec.specs.Number.{Bytes}
 use Rattle.codec.specs.Reply.{Reply, gives, refuses}
-use Rattle.layout.specs.Rules.{Rules}
-use Rattle.replication.specs.Store.{newStore, encodeStore}
+use Rattle.layout.specs.Knowledge.{Rules}
+use Rattle.replication.specs.Formats.{newStore, encodeStore}
 use Rattle.replication.specs.Calls.{editReply, deleteReply, makeReply, applyReply}
 
 -- a call: its replica's id, its arguments as bytes, for an apply the number of the batch in the order in which the

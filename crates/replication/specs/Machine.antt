@@ -5,7 +5,7 @@ use mathlib.Core.Bool.{Bool, true, false}
 use mathlib.Core.List.{List, [], _∷_, _++_}
 use mathlib.Core.Option.{Option, none, some}
 use lib.Dec.{leb, ltb, eqb}
-use Rattle.replication.specs.Record.{Rec}
+use Rattle.replication.specs.Formats.{Rec}
 use Rattle.replication.specs.Lists.{Call, edit, delete, make, apply, Fed}
 
 -- "for each replica a known tick per item and replica id": by item, then replica id

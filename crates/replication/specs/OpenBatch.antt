@@ -7,16 +7,14 @@ use mathlib.Core.Option.{Option, none, some}
 use lib.Dec.{leb, eqb}
 use lib.ListN.{length, take, drop}
 use Rattle.codec.specs.Number.{beAt}
-use Rattle.layout.specs.Rules.{Limits, Rules}
-use Rattle.layout.specs.Knowledge.{Knowledge}
+use Rattle.layout.specs.Knowledge.{Limits, Rules, Knowledge}
 use Rattle.layout.specs.Parse.{Parsed, accepted, refused, parse}
-use Rattle.ticks.specs.Known.{contains}
+use Rattle.ticks.specs.Meaning.{contains}
 use Rattle.ticks.specs.Written.{isNormal, eqKnowledge}
 use Rattle.ticks.specs.Operations.{project}
-use Rattle.replication.specs.Record.{Rec}
+use Rattle.replication.specs.Formats.{Rec, Batch}
 use Rattle.replication.specs.Reading.{both, recsAt, validRecs}
 use Rattle.replication.specs.OpenStore.{versionsIn}
-use Rattle.replication.specs.Batch.{Batch}
 
 unfoldable pub batchWith : List ℕ → Knowledge → Knowledge → Option (List Rec) → Option Batch
 batchWith s needed learned none = none

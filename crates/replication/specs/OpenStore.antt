@@ -7,15 +7,13 @@ use mathlib.Core.Option.{Option, none, some}
 use lib.Dec.{leb, eqb}
 use lib.ListN.{length, take, drop}
 use Rattle.codec.specs.Number.{beAt}
-use Rattle.layout.specs.Rules.{Limits, Rules}
-use Rattle.layout.specs.Knowledge.{Knowledge}
+use Rattle.layout.specs.Knowledge.{Limits, Rules, Knowledge}
 use Rattle.layout.specs.Parse.{Parsed, accepted, refused, parse}
-use Rattle.ticks.specs.Known.{contains}
+use Rattle.ticks.specs.Meaning.{contains}
 use Rattle.ticks.specs.Written.{isNormal}
 use Rattle.ticks.specs.Operations.{ownAlike}
-use Rattle.replication.specs.Record.{Rec}
+use Rattle.replication.specs.Formats.{Rec, Store}
 use Rattle.replication.specs.Reading.{both, recsAt, validRecs}
-use Rattle.replication.specs.Store.{Store}
 
 -- the value in store bytes, of any contents but of exact length
 unfoldable pub storeWith : ℕ → Knowledge → Option (List Rec) → Option Store

@@ -6,10 +6,8 @@ use mathlib.Core.Option.{Option, none, some}
 use lib.Dec.{ltb, eqb}
 use Rattle.layout.specs.Knowledge.{Knowledge}
 use Rattle.ticks.specs.Operations.{normalise, merge, project, raise, largest}
-use Rattle.replication.specs.Record.{Rec}
+use Rattle.replication.specs.Formats.{Rec, Store, Batch}
 use Rattle.replication.specs.Reading.{both}
-use Rattle.replication.specs.Store.{Store}
-use Rattle.replication.specs.Batch.{Batch}
 use Rattle.replication.specs.OpenBatch.{inSpan, lacksChange}
 
 -- the record of an item in a table

@@ -7,13 +7,10 @@ use mathlib.Core.List.{List, []}
 use mathlib.Core.Option.{none, some}
 use Rattle.codec.specs.Number.{put}
 use Rattle.codec.specs.Reply.{gives}
-use Rattle.layout.specs.Rules.{Rules}
-use Rattle.layout.specs.Lawful.{Rising}
-use Rattle.ticks.specs.Known.{highest, known}
-use Rattle.replication.specs.Record.{Rec, items}
-use Rattle.replication.specs.Store.{Store}
+use Rattle.layout.specs.Knowledge.{Rules, Rising}
+use Rattle.ticks.specs.Meaning.{highest, known}
+use Rattle.replication.specs.Formats.{Rec, items, Store, Batch}
 use Rattle.replication.specs.OpenStore.{openStore}
-use Rattle.replication.specs.Batch.{Batch}
 use Rattle.replication.specs.OpenBatch.{openBatch}
 use Rattle.replication.specs.Operate.{find}
 use Rattle.replication.specs.Calls.{newReply, applyReply, ownAhead}

@@ -7,16 +7,13 @@ use lib.Dec.{eqb}
 use lib.ListN.{length}
 use Rattle.codec.specs.Number.{beAt}
 use Rattle.codec.specs.Reply.{Reply, gives, refuses, firstFault}
-use Rattle.layout.specs.Rules.{Rules}
-use Rattle.layout.specs.Knowledge.{Knowledge}
+use Rattle.layout.specs.Knowledge.{Rules, Knowledge}
 use Rattle.layout.specs.Parse.{parse}
-use Rattle.ticks.specs.Known.{contains}
+use Rattle.ticks.specs.Meaning.{contains}
 use Rattle.ticks.specs.Calls.{line, idOf, readAs, ownFault, wrongLength}
-use Rattle.replication.specs.Record.{Rec}
+use Rattle.replication.specs.Formats.{Rec, Store, Batch}
 use Rattle.replication.specs.Reading.{whole, recAt, recLength}
-use Rattle.replication.specs.Store.{Store}
 use Rattle.replication.specs.OpenStore.{openStore}
-use Rattle.replication.specs.Batch.{Batch}
 use Rattle.replication.specs.OpenBatch.{openBatch}
 use Rattle.replication.specs.Operate.{find, wins}
 use Rattle.replication.specs.Calls.{noStore, storeOr, noBatch, batchOr}

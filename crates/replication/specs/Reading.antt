@@ -7,8 +7,15 @@ use mathlib.Core.Option.{Option, none, some}
 use lib.Dec.{leb, eqb}
 use lib.ListN.{length}
 use Rattle.codec.specs.Number.{beAt}
-use Rattle.layout.specs.Rules.{largestTick}
-use Rattle.replication.specs.Record.{Rec, live, tombstone}
+use Rattle.layout.specs.Knowledge.{largestTick}
+use Rattle.replication.specs.Formats.{Rec}
+
+-- the kinds of records
+abbrev pub live : ℕ
+live = 1
+
+abbrev pub tombstone : ℕ
+tombstone = 2
 
 -- the length of a record with its byte of kind; 0 for a number that is no record's kind
 unfoldable pub recLength : ℕ → ℕ

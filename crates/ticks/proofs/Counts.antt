@@ -9,12 +9,9 @@ use native.Mathlib.Omega.{arith}
 use lib.Dec.{eqb}
 use lib.ListN.{length, getD, length-append}
 use borrow.Author.Tests.{eq-eqb, ne-eqb, le-ltb, ltb-false}
-use Rattle.layout.specs.Rules.{Limits}
-use Rattle.layout.specs.Knowledge.{Element, Range, Knowledge}
-use Rattle.layout.specs.Lawful.{Distinct, bounds}
-use Rattle.ticks.specs.Known.{highest, tickAt, vectorAt, known}
+use Rattle.layout.specs.Knowledge.{Limits, Element, Range, Knowledge, Distinct, bounds}
+use Rattle.ticks.specs.Meaning.{highest, tickAt, vectorAt, known, Among, FirstAtZero, NormalOver, Normal}
 use Rattle.ticks.specs.Table.{at}
-use Rattle.ticks.specs.Normal.{Among, FirstAtZero, NormalOver, Normal}
 use Rattle.ticks.specs.Operations.{normalise, merge, project, raise, tooManyReplicas, tooManyRanges}
 use Rattle.ticks.proofs.Lists.{less, same, more, order, among?, all-among, among-left, among-right, rising-distinct, rising-above, in-span, below-span, above-span, inside?}
 use Rattle.ticks.proofs.Equality.{eqb-exact, exact?}

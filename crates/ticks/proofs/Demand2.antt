@@ -9,14 +9,11 @@ use native.Mathlib.Omega.{arith}
 use lib.ListN.{length}
 use Rattle.codec.specs.Number.{Bytes}
 use Rattle.codec.specs.Reply.{Reply, gives, refuses}
-use Rattle.layout.specs.Rules.{Rules, Permitted, basic}
-use Rattle.layout.specs.Knowledge.{Knowledge}
-use Rattle.layout.specs.Lawful.{Lawful}
-use Rattle.layout.specs.Encode.{encode}
+use Rattle.layout.specs.Knowledge.{Rules, basic, Knowledge, Lawful, encode}
+use Rattle.layout.specs.Permitted.{Permitted}
 use Rattle.layout.specs.Parse.{Parsed, accepted, refused, parse}
 use Rattle.layout.proofs.Exact.{exact, read-back, base-permitted}
-use Rattle.ticks.specs.Known.{known, contains}
-use Rattle.ticks.specs.Normal.{Normal}
+use Rattle.ticks.specs.Meaning.{known, contains, Normal}
 use Rattle.ticks.specs.Operations.{normalise, merge, project, tooManyReplicas, tooManyRanges}
 use Rattle.ticks.specs.declared.Contain.{Contain}
 use Rattle.ticks.specs.declared.Contain.the-variants as C

@@ -9,7 +9,7 @@ use lib.Dec.{eqb}
 use lib.ListN.{length, getD}
 use borrow.Author.Tests.{eq-eqb, eqb-true}
 use Rattle.layout.specs.Knowledge.{Element, Range, Knowledge}
-use Rattle.ticks.specs.Known.{placeBy}
+use Rattle.ticks.specs.Meaning.{placeBy}
 use Rattle.ticks.specs.Table.{eqList, eqPair, eqRow}
 use Rattle.ticks.specs.Written.{eqElement, eqVector, eqRange, eqKnowledge}
 

@@ -7,9 +7,8 @@ use mathlib.Core.List.{List, [], _∷_}
 use native.Mathlib.Omega.{arith}
 use lib.Dec.{eqb}
 use lib.ListN.{length}
-use Rattle.layout.specs.Lawful.{All}
-use Rattle.ticks.specs.Known.{place}
-use Rattle.ticks.specs.Normal.{Among}
+use Rattle.layout.specs.Knowledge.{All}
+use Rattle.ticks.specs.Meaning.{place, Among}
 use Rattle.ticks.proofs.Lists.{less, same, more, order}
 use Rattle.ticks.proofs.Equality.{eqb-exact, exact?, place-same, place-other}
 

@@ -10,8 +10,7 @@ use lib.ListN.{length}
 use borrow.Author.Tests.{eqb-true, ltb-false, not-false}
 use Rattle.codec.specs.Number.{beAt}
 use Rattle.codec.proofs.Replies.{None}
-use Rattle.layout.specs.Rules.{Rules}
-use Rattle.layout.specs.Knowledge.{Knowledge}
+use Rattle.layout.specs.Knowledge.{Rules, Knowledge}
 use Rattle.layout.specs.Parse.{Parsed, accepted, refused}
 use Rattle.ticks.specs.Operations.{tooManyReplicas, tooManyRanges}
 use Rattle.ticks.specs.Calls.{idOf, readAs, ownFault, wrongLength, wrongSpan, resultLines}

@@ -6,11 +6,8 @@ use mathlib.Core.Logic.{_⊎_, inl, inr, ⊎-elim}
 use mathlib.Core.List.{List, [], _∷_}
 use native.Mathlib.Omega.{arith}
 use lib.ListN.{length, getD, List·getD-eq-default}
-use Rattle.layout.specs.Rules.{Rules, largestTick}
-use Rattle.layout.specs.Knowledge.{Element, Range, Knowledge}
-use Rattle.layout.specs.Lawful.{All, Distinct, Rising, keys, bounds, LawfulVector, Lawful}
-use Rattle.ticks.specs.Known.{place, tickAt, indexAt, vectorAt, known}
-use Rattle.ticks.specs.Normal.{Among, Sound}
+use Rattle.layout.specs.Knowledge.{Rules, largestTick, Element, Range, Knowledge, All, Distinct, Rising, keys, bounds, LawfulVector, Lawful}
+use Rattle.ticks.specs.Meaning.{place, tickAt, indexAt, vectorAt, known, Among, Sound}
 use Rattle.ticks.specs.Operations.{largest}
 use Rattle.ticks.proofs.Lists.{less, same, more, order, among?, all-among, rising-above}
 use Rattle.ticks.proofs.Vectors.{tick-nil, tick-same, tick-other, key-tick}

@@ -7,10 +7,9 @@ use mathlib.Core.List.{List, [], _∷_}
 use native.Mathlib.Omega.{arith}
 use lib.Dec.{eqb}
 use lib.ListN.{length}
-use Rattle.layout.specs.Lawful.{All, Distinct, Rising, keys}
-use Rattle.ticks.specs.Known.{highest, place, tickAt, vectorAt, known}
+use Rattle.layout.specs.Knowledge.{All, Distinct, Rising, keys}
+use Rattle.ticks.specs.Meaning.{highest, place, tickAt, vectorAt, known, Among, NormalOver}
 use Rattle.ticks.specs.Table.{Row, Table, get, at, sorted, rowIds, stepIds, usedIds}
-use Rattle.ticks.specs.Normal.{Among, NormalOver}
 use Rattle.ticks.specs.Written.{vectorFrom, spansFrom, spans, numbered, written}
 use Rattle.ticks.proofs.Lists.{less, same, more, order, among?, sorted-in, sorted-rising}
 use Rattle.ticks.proofs.Equality.{eqb-exact, exact?, place-found}

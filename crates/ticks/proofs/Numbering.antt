@@ -7,11 +7,9 @@ use native.Mathlib.Omega.{arith}
 use lib.ListN.{length, getD, length-append, List·getD-append}
 use lib.Seq.{getD-append-seam}
 use borrow.Author.Tests.{lt-ltb, le-ltb}
-use Rattle.layout.specs.Knowledge.{Element, Range}
-use Rattle.layout.specs.Lawful.{All, bounds}
-use Rattle.ticks.specs.Known.{indexAt}
+use Rattle.layout.specs.Knowledge.{Element, Range, All, bounds}
+use Rattle.ticks.specs.Meaning.{indexAt, indices, DifferAfter}
 use Rattle.ticks.specs.Table.{at}
-use Rattle.ticks.specs.Normal.{indices, DifferAfter}
 use Rattle.ticks.specs.Written.{range, eqVector, numberOf, grown, vectorsOf, rangesOf}
 use Rattle.ticks.proofs.Lists.{less, same, more, order}
 use Rattle.ticks.proofs.Equality.{eqVector-exact, place-le, place-found, place-first}

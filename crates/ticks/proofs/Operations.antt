@@ -9,11 +9,9 @@ use native.Mathlib.Omega.{arith}
 use lib.Dec.{eqb}
 use lib.ListN.{length, getD}
 use borrow.Author.Tests.{eq-eqb, ne-eqb}
-use Rattle.layout.specs.Knowledge.{Range, Knowledge}
-use Rattle.layout.specs.Lawful.{bounds}
-use Rattle.ticks.specs.Known.{highest, placeBy, tickAt, indexAt, vectorAt, known}
+use Rattle.layout.specs.Knowledge.{Range, Knowledge, bounds}
+use Rattle.ticks.specs.Meaning.{highest, placeBy, tickAt, indexAt, vectorAt, known, Among, Normal}
 use Rattle.ticks.specs.Table.{get, eqList, eqPair, insert, sorted, inside, within, sample, build, canonical, rowIds, stepIds, usedIds}
-use Rattle.ticks.specs.Normal.{Among, Normal}
 use Rattle.ticks.specs.Written.{vectorFrom, spansFrom, spans, eqElement, grown, vectorsOf, rangesOf, numbered, written, normalOf, eqKnowledge, isNormal}
 use Rattle.ticks.specs.Operations.{emptyKnowledge, normalise, larger, merge, knownInside, project, knownRaised, raise}
 use Rattle.ticks.proofs.Lists.{less, same, more, order, among?, among-left, among-right, inside-true, inside-below, inside-above, in-span, below-span, above-span, inside?}

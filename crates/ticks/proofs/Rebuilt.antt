@@ -5,11 +5,9 @@ use mathlib.Core.List.{List, [], _∷_, _++_}
 use native.Mathlib.Omega.{arith}
 use lib.ListN.{length, getD, take, List·getD-eq-default}
 use lib.Seq.{length-take-le, getD-take, take-suc, take-all}
-use Rattle.layout.specs.Knowledge.{Element, Range, Knowledge}
-use Rattle.layout.specs.Lawful.{All, Rising, bounds}
-use Rattle.ticks.specs.Known.{highest, indexAt, vectorAt}
+use Rattle.layout.specs.Knowledge.{Element, Range, Knowledge, All, Rising, bounds}
+use Rattle.ticks.specs.Meaning.{highest, indexAt, vectorAt, indices, FirstAtZero, DifferAfter, NeighboursDiffer, VectorsInOrder, NormalOver}
 use Rattle.ticks.specs.Table.{at}
-use Rattle.ticks.specs.Normal.{indices, FirstAtZero, DifferAfter, NeighboursDiffer, VectorsInOrder, NormalOver}
 use Rattle.ticks.specs.Written.{range, eqVector, numberOf, grown, vectorsOf, rangesOf, numbered}
 use Rattle.ticks.proofs.Lists.{less, same, more, order}
 use Rattle.ticks.proofs.Equality.{eqVector-exact, place-found, place-first}

@@ -7,10 +7,8 @@ use mathlib.Core.List.{List, [], _∷_}
 use Rattle.codec.specs.Number.{Bytes}
 use Rattle.codec.specs.Reply.{Reply, gives, refuses, Line, firstFault}
 use Rattle.codec.proofs.Replies.{fault-here, fault-later, fault-none}
-use Rattle.layout.specs.Rules.{Rules, Permitted}
-use Rattle.layout.specs.Knowledge.{Knowledge}
-use Rattle.layout.specs.Lawful.{Lawful}
-use Rattle.layout.specs.Encode.{encode}
+use Rattle.layout.specs.Knowledge.{Rules, Knowledge, Lawful, encode}
+use Rattle.layout.specs.Permitted.{Permitted}
 use Rattle.layout.specs.Parse.{Parsed, accepted, refused, parse}
 use Rattle.layout.proofs.Exact.{exact}
 use Rattle.ticks.specs.Operations.{normalise, merge, project, tooManyReplicas, tooManyRanges}

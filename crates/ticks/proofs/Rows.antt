@@ -6,9 +6,9 @@ use mathlib.Core.List.{List, [], _∷_}
 use native.Mathlib.Omega.{arith}
 use lib.Dec.{eqb}
 use borrow.Author.Tests.{eq-eqb, ne-eqb}
-use Rattle.layout.specs.Lawful.{Rising}
+use Rattle.layout.specs.Knowledge.{Rising}
 use Rattle.ticks.specs.Table.{Row, get, sample}
-use Rattle.ticks.specs.Normal.{Among}
+use Rattle.ticks.specs.Meaning.{Among}
 use Rattle.ticks.proofs.Lists.{less, same, more, order}
 use Rattle.ticks.proofs.Equality.{eqb-exact, exact?}
 

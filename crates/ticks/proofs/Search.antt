@@ -8,11 +8,9 @@ use mathlib.Core.Bool.{true, false}
 use mathlib.Core.List.{List, [], _∷_, _++_}
 use native.Mathlib.Omega.{arith}
 use borrow.Author.Tests.{lt-ltb, le-ltb}
-use Rattle.layout.specs.Knowledge.{Knowledge}
-use Rattle.layout.specs.Lawful.{Rising, bounds}
-use Rattle.ticks.specs.Known.{known}
+use Rattle.layout.specs.Knowledge.{Knowledge, Rising, bounds}
+use Rattle.ticks.specs.Meaning.{known, Among}
 use Rattle.ticks.specs.Table.{sorted, within}
-use Rattle.ticks.specs.Normal.{Among}
 use Rattle.ticks.specs.Operations.{Place, nowhere, here, lackingAt, orElse, lackingFrom, lacking, isNowhere, covers}
 use Rattle.ticks.proofs.Lists.{less, same, more, order, among-left, among-right, sorted-in, sorted-only, sorted-rising, within-in, within-only, rising-above}
 use Rattle.ticks.proofs.Equality.{clash}

@@ -7,11 +7,9 @@ use mathlib.Core.List.{List, [], _∷_}
 use native.Mathlib.Omega.{arith}
 use lib.Dec.{eqb}
 use lib.ListN.{length, getD}
-use Rattle.layout.specs.Knowledge.{Element, Range, Knowledge}
-use Rattle.layout.specs.Lawful.{All, Distinct, Rising, keys, bounds}
-use Rattle.ticks.specs.Known.{highest, place, tickAt, indexAt, vectorAt, known}
+use Rattle.layout.specs.Knowledge.{Element, Range, Knowledge, All, Distinct, Rising, keys, bounds}
+use Rattle.ticks.specs.Meaning.{highest, place, tickAt, indexAt, vectorAt, known, Among, indices, Sound, ElementsInOrder, NormalOver, Normal}
 use Rattle.ticks.specs.Table.{at}
-use Rattle.ticks.specs.Normal.{Among, indices, Sound, ElementsInOrder, NormalOver, Normal}
 use Rattle.ticks.specs.Written.{numbered}
 use Rattle.ticks.proofs.Lists.{less, same, more, order, among?, all-among, rising-above, rising-unique}
 use Rattle.ticks.proofs.Equality.{eqb-exact, place-first, place-found}

@@ -5,11 +5,9 @@ use mathlib.Core.Logic.{_⊎_, inl, inr, ⊎-elim}
 use mathlib.Core.List.{List, [], _∷_}
 use native.Mathlib.Omega.{arith}
 use lib.ListN.{length, getD}
-use Rattle.layout.specs.Knowledge.{Element}
-use Rattle.layout.specs.Lawful.{keys}
-use Rattle.ticks.specs.Known.{highest, tickAt, known}
+use Rattle.layout.specs.Knowledge.{Element, keys}
+use Rattle.ticks.specs.Meaning.{highest, tickAt, known, Among, Normal, UsedIn}
 use Rattle.ticks.specs.Table.{Row, Table, get, canonical, rowIds, stepIds, usedIds}
-use Rattle.ticks.specs.Normal.{Among, Normal, UsedIn}
 use Rattle.ticks.specs.Written.{vectorFrom, spansFrom, spans, numberOf, grown, vectorsOf, numbered, written, normalOf}
 use Rattle.ticks.proofs.Lists.{sorted-only, rising-distinct}
 use Rattle.ticks.proofs.Canonical.{RisingRows, CanonicalTable, canonical-table, canonical-ticks, SteadyTicks}

@@ -9,11 +9,9 @@ use native.Mathlib.Omega.{arith}
 use lib.Dec.{eqb}
 use lib.ListN.{length, getD}
 use borrow.Author.Tests.{eq-eqb, ne-eqb}
-use Rattle.layout.specs.Knowledge.{Element}
-use Rattle.layout.specs.Lawful.{All, Rising, keys}
-use Rattle.ticks.specs.Known.{tickAt}
+use Rattle.layout.specs.Knowledge.{Element, All, Rising, keys}
+use Rattle.ticks.specs.Meaning.{tickAt, Among, ElementsInOrder}
 use Rattle.ticks.specs.Table.{Row, get}
-use Rattle.ticks.specs.Normal.{Among, ElementsInOrder}
 use Rattle.ticks.specs.Written.{element, vectorFrom}
 use Rattle.ticks.proofs.Equality.{eqb-exact, exact?}
 use Rattle.ticks.proofs.Rows.{RisingRow, get-before, row-unique}

@@ -8,11 +8,9 @@ use native.Mathlib.Omega.{arith}
 use lib.Dec.{eqb}
 use lib.ListN.{length, getD, List·getD-eq-default}
 use borrow.Author.Tests.{lt-ltb, le-ltb}
-use Rattle.layout.specs.Knowledge.{Element, Range, Knowledge}
-use Rattle.layout.specs.Lawful.{All, Distinct, Rising, keys}
-use Rattle.ticks.specs.Known.{highest, place, tickAt, vectorAt, known}
+use Rattle.layout.specs.Knowledge.{Element, Range, Knowledge, All, Distinct, Rising, keys}
+use Rattle.ticks.specs.Meaning.{highest, place, tickAt, vectorAt, known, Among, Sound, indices, VectorsInOrder, ElementsInOrder, NormalOver}
 use Rattle.ticks.specs.Table.{at}
-use Rattle.ticks.specs.Normal.{Among, Sound, indices, VectorsInOrder, ElementsInOrder, NormalOver}
 use Rattle.ticks.specs.Written.{grown, vectorsOf, rangesOf, numbered}
 use Rattle.ticks.proofs.Lists.{less, same, more, order}
 use Rattle.ticks.proofs.Equality.{eqb-exact, exact?, place-same, place-other}

@@ -9,11 +9,9 @@ use lib.IntN.{ℤ, pos, _-ℤ_}
 use lib.ListN.{length}
 use Rattle.codec.specs.Number.{beAt}
 use Rattle.codec.specs.Reply.{Reply, gives, refuses, Line, firstFault}
-use Rattle.layout.specs.Rules.{Rules}
-use Rattle.layout.specs.Knowledge.{Knowledge}
-use Rattle.layout.specs.Encode.{encode}
+use Rattle.layout.specs.Knowledge.{Rules, Knowledge, encode}
 use Rattle.layout.specs.Parse.{Parsed, accepted, refused, parse}
-use Rattle.ticks.specs.Known.{known, contains}
+use Rattle.ticks.specs.Meaning.{known, contains}
 use Rattle.ticks.specs.Operations.{emptyKnowledge, normalise, merge, project, covers, tooManyReplicas, tooManyRanges}
 use Rattle.ticks.specs.declared.Contain.{Contain}
 use Rattle.ticks.specs.declared.Contain.the-variants as C

@@ -9,13 +9,9 @@ use mathlib.Core.List.{List}
 use lib.ListN.{length}
 use Rattle.codec.specs.Number.{Bytes}
 use Rattle.codec.specs.Reply.{gives}
-use Rattle.layout.specs.Rules.{Rules}
-use Rattle.layout.specs.Knowledge.{Knowledge}
-use Rattle.layout.specs.Lawful.{Lawful}
-use Rattle.layout.specs.Encode.{encode}
+use Rattle.layout.specs.Knowledge.{Rules, Knowledge, Lawful, encode}
 use Rattle.layout.specs.Parse.{accepted, parse}
-use Rattle.ticks.specs.Known.{highest, known, contains}
-use Rattle.ticks.specs.Normal.{Normal}
+use Rattle.ticks.specs.Meaning.{highest, known, contains, Normal}
 use Rattle.ticks.specs.Operations.{knownInside}
 use Rattle.ticks.specs.declared.Contain.the-variants as C
 use Rattle.ticks.specs.Calls.{idOf, containAnswer, normaliseReply, mergeReply, projectReply}

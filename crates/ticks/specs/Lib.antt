@@ -1,7 +1,6 @@
 -- What a knowledge means: known ticks, tables, normal form, the operations on knowledge, and the calls on bytes.
-pub mod Known
+pub mod Meaning
 pub mod Table
-pub mod Normal
 pub mod Written
 pub mod Operations
 pub mod Calls

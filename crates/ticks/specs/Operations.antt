@@ -5,10 +5,8 @@ use mathlib.Core.Bool.{Bool, true, false}
 use mathlib.Core.List.{List, [], _∷_, _++_}
 use lib.Dec.{eqb, ltb}
 use lib.ListN.{length}
-use Rattle.layout.specs.Rules.{Limits}
-use Rattle.layout.specs.Knowledge.{Range, Knowledge}
-use Rattle.layout.specs.Lawful.{bounds}
-use Rattle.ticks.specs.Known.{known}
+use Rattle.layout.specs.Knowledge.{Limits, Range, Knowledge, bounds}
+use Rattle.ticks.specs.Meaning.{known}
 use Rattle.ticks.specs.Table.{inside, within, sorted}
 use Rattle.ticks.specs.Written.{range, normalOf}
 

@@ -1,5 +1,5 @@
 -- `fields::closing_fields` meets its contract. The fields are read one after the other, in the order of the definition's list.
-use Rattle.layout.specs.Fields.{closing}
+use Rattle.layout.specs.Knowledge.{closing}
 use Rattle.fields.proofs.Run.{runs}
 use borrow.Author.Needs.{needs}
 use Rattle.fields.proofs.closing_fields.Statement.{statement}

@@ -1,5 +1,5 @@
 -- `fields::fields_before_ranges` meets its contract. The fields are read one after the other, in the order of the definition's list.
-use Rattle.layout.specs.Fields.{beforeRanges}
+use Rattle.layout.specs.Knowledge.{beforeRanges}
 use Rattle.fields.proofs.Run.{runs}
 use borrow.Author.Needs.{needs}
 use Rattle.fields.proofs.fields_before_ranges.Statement.{statement}

@@ -1,5 +1,5 @@
 -- `fields::opening_fields` meets its contract. The fields are read one after the other, in the order of the definition's list.
-use Rattle.layout.specs.Fields.{opening}
+use Rattle.layout.specs.Knowledge.{opening}
 use Rattle.fields.proofs.Run.{runs}
 use borrow.Author.Needs.{needs}
 use Rattle.fields.proofs.opening_fields.Statement.{statement}

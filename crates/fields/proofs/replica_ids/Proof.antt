@@ -6,7 +6,7 @@ use lib.ListN.{length}
 use native.Mathlib.Omega.{arith}
 use mathlib.Core.Path.{_≡_}
 use Prim.Native.Nat.{_+_, _-_, _*_, _≤_}
-use Rattle.layout.specs.Rules.{basic}
+use Rattle.layout.specs.Knowledge.{basic}
 use Rattle.layout.specs.Read.{repeat, replicaId}
 use borrow.Author.Needs.{needs}
 use Rattle.fields.proofs.Repeat.{repeats}

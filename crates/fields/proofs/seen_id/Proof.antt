@@ -3,7 +3,7 @@ use Rattle.fields.proofs.seen_id.Statement.{statement}
 use native.Mathlib.Omega.{arith}
 use mathlib.Core.Path.{_≡_}
 use Prim.Native.Nat.{_+_, _-_, _*_, _≤_}
-use Rattle.codec.specs.Number.{words2}
+use Rattle.codec.specs.Words.{words2}
 use Rattle.layout.specs.Read.{among}
 use Rattle.fields.proofs.Among.{amongs}
 use Rattle.fields.proofs.seen_id.Tie as tie

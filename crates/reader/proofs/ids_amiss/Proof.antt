@@ -1,5 +1,5 @@
 -- `reader::ids_amiss` meets its contract. The loop's invariant: the whole answer is the answer from here on.
-use Rattle.layout.specs.Rules.{basic}
+use Rattle.layout.specs.Knowledge.{basic}
 use Rattle.layout.specs.Read.{repeat, replicaId}
 use mathlib.Core.Path.{_≡_}
 use Rattle.reader.proofs.Quick.{ids-more, ids-all}

@@ -1,16 +1,72 @@
--- Which stores and batches are valid, on their values: document 01's lists "A valid store: …" and "A valid batch: …".
-use Prim.Native.Nat.{ℕ, _≤_, _<_, _^_}
-use mathlib.Core.Path.{_≡_}
-use mathlib.Core.Logic.{_⊎_}
-use lib.ListN.{length}
-use Rattle.layout.specs.Rules.{Rules, largestTick}
-use Rattle.layout.specs.Knowledge.{Knowledge}
-use Rattle.layout.specs.Lawful.{All, Rising, Lawful}
-use Rattle.ticks.specs.Known.{highest, known}
-use Rattle.ticks.specs.Normal.{Normal}
-use Rattle.replication.specs.Store.{Store}
-use Rattle.replication.specs.Batch.{Batch}
-use Rattle.replication.specs.Record.{Rec, items}
+-- Records, stores and batches: values, bytes, and which are valid. Document 01, "Records, store, batch".
+use Rattle.codec.specs.Prelude.{ℕ, _^_, _≤_, _<_, _≡_, _⊎_, List, [], _∷_, _++_, length}
+use Rattle.codec.specs.Number.{put}
+use Rattle.layout.specs.Knowledge.{Rules, largestTick, Knowledge, encode, All, Rising, Lawful}
+use Rattle.ticks.specs.Meaning.{highest, known, Normal}
+use Rattle.ticks.specs.Operations.{emptyKnowledge}
+
+-- "House format: one byte of kind, then a body whose length the kind fixes."
+pub record Rec : Type 0 where
+  pub kind : ℕ
+  pub item : ℕ
+  -- the change version: (item, change replica, change tick)
+  pub changeReplica : ℕ
+  pub changeTick : ℕ
+  -- the create version
+  pub createReplica : ℕ
+  pub createTick : ℕ
+  pub tag : ℕ
+
+-- a record's bytes in front of t
+unfoldable pub putRec : Rec → List ℕ → List ℕ
+putRec r t =
+    put 1 (r .kind)
+    (put 24 (r .item)
+    (put 16 (r .changeReplica) (put 8 (r .changeTick) (put 16 (r .createReplica) (put 8 (r .createTick) (put 16 (r .tag) t))))))
+
+unfoldable pub putRecs : List Rec → List ℕ → List ℕ
+putRecs [] t = t
+putRecs (r ∷ rs) t = putRec r (putRecs rs t)
+
+-- the item ids of records
+unfoldable pub items : List Rec → List ℕ
+items [] = []
+items (r ∷ rs) = r .item ∷ items rs
+
+-- "Kind 3 store, body 24: own replica id 16, knowledge length 4, record count 4; then knowledge, then records."
+pub record Store : Type 0 where
+  pub own : ℕ
+  pub knowledge : Knowledge
+  pub records : List Rec
+
+-- "New: own id, empty knowledge, no records"
+unfoldable pub newStore : ℕ → Store
+newStore p = record { own = p; knowledge = emptyKnowledge; records = [] }
+
+unfoldable pub encodeStore : Store → List ℕ
+encodeStore st =
+    put 1 3
+    (put 16 (st .own)
+    (put 4 (length (encode (st .knowledge)))
+    (put 4 (length (st .records)) (encode (st .knowledge) ++ putRecs (st .records) []))))
+
+-- "Kind 4 batch, body 60: first 24, last 24, needed length 4, learned length 4, record count 4; then needed knowledge,
+-- learned knowledge, records."
+pub record Batch : Type 0 where
+  pub first : ℕ
+  pub last : ℕ
+  pub needed : Knowledge
+  pub learned : Knowledge
+  pub records : List Rec
+
+unfoldable pub encodeBatch : Batch → List ℕ
+encodeBatch b =
+    put 1 4
+    (put 24 (b .first)
+    (put 24 (b .last)
+    (put 4 (length (encode (b .needed)))
+    (put 4 (length (encode (b .learned)))
+    (put 4 (length (b .records)) (encode (b .needed) ++ (encode (b .learned) ++ putRecs (b .records) [])))))))
 
 -- "Kind 1 live, kind 2 tombstone, body 88: item id 24, change replica 16, change tick 8, create replica 16, create tick
 -- 8, content tag 16 (zeros in a tombstone)"; "ticks 1 to 2^63 − 1, create tick at most change tick"
