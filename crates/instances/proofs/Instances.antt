@@ -9,14 +9,14 @@ use Rattle.layout.specs.Parse.{replicaMap, vectorCount, vectorList, rangeList, 
 use Rattle.layout.specs.Decode.{idsAt, elementsAt, vectorsAt, afterVectors, rangesAt, decode}
 use Rattle.layout.specs.Read.{repeat, number, same, fields, limit, empty, among, judged, replicaId, tick, element, firstVector, vector, index, range}
 use Rattle.ticks.specs.Calls.{idOf, readAs, ownFault, wrongLength, wrongPlace, wrongSpan, refusedOr, containFound, containAnswer, leadOf, leadAnswer, resultLines, mergeReply, projectReply}
-use Rattle.ticks.specs.Meaning.{highest, placeBy, tickAt, indexAt, vectorAt, known, contains, indices}
+use Rattle.ticks.specs.Meaning.{highest, placeBy, tickAt, indexAt, vectorAt, known, contains, indices, emptyKnowledge}
 use Rattle.ticks.specs.Written.{vectorFrom, spansFrom, spans, eqElement, grown, vectorsOf, rangesOf, numbered, written, normalOf, eqRange, eqKnowledge, isNormal}
-use Rattle.ticks.specs.Operations.{emptyKnowledge, normalise, larger, merge, knownInside, project, knownRaised, raise, lackingAt, orElse, lackingFrom, lacking, isNowhere, covers, coversFor, largestAt, largestFrom, largest, alikeFrom, ownAlike, tooManyReplicas, tooManyRanges}
+use Rattle.ticks.specs.Operations.{normalise, larger, merge, knownInside, project, knownRaised, raise, lackingAt, orElse, lackingFrom, lacking, isNowhere, covers, coversFor, largestAt, largestFrom, largest, alikeFrom, ownAlike, tooManyReplicas, tooManyRanges}
 use Rattle.ticks.specs.Table.{get, at, eqList, eqPair, insert, sorted, inside, within, sample, build, canonical, rowIds, stepIds, usedIds}
-use Rattle.replication.specs.Formats.{encodeBatch, putRec, putRecs, newStore, encodeStore}
+use Rattle.replication.specs.Formats.{encodeBatch, putRec, putRecs, newStore, encodeStore, find}
 use Rattle.replication.specs.OpenBatch.{batchWith, batchAfter, batchFrom, decodeBatch, inSpan, lacksChange, carried, validBatch, ifValidBatch, openBatch}
 use Rattle.replication.specs.Calls.{then, noStore, storeOr, noBatch, batchOr, uncovered, ownAhead, exhausted, tooManyRecords, storeLines, newReply, editLines, edited, editReply, makeLines, makes, makeReply, applyLines, applyReply}
-use Rattle.replication.specs.Operate.{find, replace, nextTick, changedRec, changed, selected, made, wins, winnerOf, joinFrom, join, applied}
+use Rattle.replication.specs.Operate.{replace, nextTick, changedRec, changed, selected, made, wins, winnerOf, joinFrom, join, applied}
 use Rattle.replication.specs.Queries.{placeOf, storeTable, batchTable, partAt, sideOf, orRefused, winnerPart, learnedPart}
 use Rattle.replication.specs.Reading.{recLength, recAt, whole, front, recsAt, tagKept, validRec, validRecs}
 use Rattle.replication.specs.OpenStore.{storeWith, storeFrom, decodeStore, versionsIn, validStore, ifValid, openStore}

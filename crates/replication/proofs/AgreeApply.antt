@@ -20,10 +20,10 @@ use Rattle.ticks.specs.Operations.{merge, covers}
 use Rattle.ticks.proofs.Operations.{known-merge}
 use Rattle.ticks.proofs.Algebra.{contains-exact}
 use Rattle.ticks.proofs.Search.{covers-exact}
-use Rattle.replication.specs.Formats.{Rec, Store, encodeStore, Batch}
+use Rattle.replication.specs.Formats.{Rec, Store, encodeStore, Batch, find}
 use Rattle.replication.specs.Reading.{both}
 use Rattle.replication.specs.OpenBatch.{inSpan, lacksChange}
-use Rattle.replication.specs.Operate.{find, join, applied}
+use Rattle.replication.specs.Operate.{join, applied}
 use Rattle.replication.specs.Machine.{Ticks, Remembered, State, holds, greatest, learns, withTicks, applies}
 use Rattle.replication.specs.Lists.{World, putAt, keepStore}
 use Rattle.replication.proofs.Best.{Mem, Contained, holds-contained, contained-holds, Apart, greatest-item, greatest-holds}

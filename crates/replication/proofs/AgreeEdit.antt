@@ -20,8 +20,8 @@ use Rattle.ticks.proofs.Unique.{normal-sound}
 use Rattle.ticks.proofs.Operations.{known-raise-own, known-raise-other}
 use Rattle.ticks.proofs.Largest.{largest-bounds, largest-attained}
 use Rattle.ticks.proofs.LawfulResults.{top-below, below-top}
-use Rattle.replication.specs.Formats.{Rec, Store, encodeStore, items}
-use Rattle.replication.specs.Operate.{find, replace, nextTick, changedRec, changed}
+use Rattle.replication.specs.Formats.{Rec, Store, encodeStore, items, find}
+use Rattle.replication.specs.Operate.{replace, nextTick, changedRec, changed}
 use Rattle.replication.specs.Machine.{Ticks, Remembered, State, holds, greatest, largestKnown, recordOf, withTicks, ownTick, changes}
 use Rattle.replication.specs.Lists.{World, putAt, keepStore}
 use Rattle.replication.proofs.Best.{Mem, mem-added, Contained, holds-contained, contained-holds, not-holds}

@@ -5,9 +5,9 @@ use mathlib.Core.Path.{_≡_, ap, _∙_}
 use mathlib.Core.Logic.{_⊎_}
 use mathlib.Core.Bool.{Bool, true}
 use Rattle.layout.specs.Knowledge.{Rules, largestTick, Knowledge, LawfulId, Lawful}
-use Rattle.ticks.specs.Meaning.{highest, known, Normal}
+use Rattle.ticks.specs.Meaning.{highest, known, Normal, emptyKnowledge}
 use Rattle.ticks.specs.Written.{isNormal, eqKnowledge}
-use Rattle.ticks.specs.Operations.{emptyKnowledge, normalise, merge, project, raise}
+use Rattle.ticks.specs.Operations.{normalise, merge, project, raise}
 use Rattle.ticks.proofs.Equality.{eqKnowledge-self}
 use Rattle.ticks.proofs.Unique.{normal-unique}
 use Rattle.ticks.proofs.Operations.{normal-normalise, normal-test, normal-merge, normal-project, normal-raise, normal-empty}

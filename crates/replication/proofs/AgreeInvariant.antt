@@ -18,11 +18,10 @@ use Rattle.ticks.proofs.Unique.{normal-sound}
 use Rattle.ticks.proofs.Algebra.{contains-exact}
 use Rattle.ticks.proofs.Largest.{alike-exact}
 use Rattle.ticks.proofs.LawfulResults.{top-below, below-top}
-use Rattle.replication.specs.Formats.{Rec, Store, encodeStore, Batch, encodeBatch, items}
+use Rattle.replication.specs.Formats.{Rec, Store, encodeStore, Batch, encodeBatch, items, find}
 use Rattle.replication.specs.Reading.{both}
 use Rattle.replication.specs.OpenStore.{versionsIn, openStore}
 use Rattle.replication.specs.OpenBatch.{inSpan, lacksChange, carried, openBatch}
-use Rattle.replication.specs.Operate.{find}
 use Rattle.replication.specs.Machine.{Ticks, Remembered, State, holds, greatest}
 use Rattle.replication.specs.Lists.{World}
 use Rattle.replication.proofs.Best.{Mem, Contained, holds-contained, greatest-top}

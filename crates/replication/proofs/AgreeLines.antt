@@ -18,9 +18,9 @@ use Rattle.ticks.specs.Meaning.{highest}
 use Rattle.ticks.specs.Operations.{covers, coversFor, largest, tooManyReplicas, tooManyRanges}
 use Rattle.ticks.specs.Calls.{line, idOf, readAs, ownFault, wrongLength, wrongSpan, resultLines}
 use Rattle.ticks.proofs.ForCalls.{or-false, length-right, span-right, read-accepted, fault-refused, Within, within-lines}
-use Rattle.replication.specs.Formats.{Rec, Store, encodeStore, Batch, encodeBatch}
+use Rattle.replication.specs.Formats.{Rec, Store, encodeStore, Batch, encodeBatch, find}
 use Rattle.replication.specs.Reading.{live, tombstone}
-use Rattle.replication.specs.Operate.{find, changed, made, applied}
+use Rattle.replication.specs.Operate.{changed, made, applied}
 use Rattle.replication.specs.OpenStore.{openStore}
 use Rattle.replication.specs.OpenBatch.{openBatch}
 use Rattle.replication.specs.Calls.{then, noStore, storeOr, noBatch, batchOr, uncovered, ownAhead, gone, exhausted, tooManyRecords, storeLines, editLines, edited, editReply, deleteLines, deleted, deleteReply, makeLines, makes, makeReply, applyLines, applyReply}

@@ -21,9 +21,9 @@ use Rattle.ticks.specs.Meaning.{highest, known}
 use Rattle.ticks.specs.Operations.{covers, largest}
 use Rattle.ticks.specs.Calls.{line, idOf, ownFault, wrongLength, wrongSpan, resultLines}
 use Rattle.ticks.proofs.Search.{covers-exact}
-use Rattle.replication.specs.Formats.{Rec, Store, newStore, encodeStore, Batch, encodeBatch}
+use Rattle.replication.specs.Formats.{Rec, Store, newStore, encodeStore, Batch, encodeBatch, find}
 use Rattle.replication.specs.Reading.{live, tombstone}
-use Rattle.replication.specs.Operate.{find, changed, applied}
+use Rattle.replication.specs.Operate.{changed, applied}
 use Rattle.replication.specs.OpenStore.{openStore}
 use Rattle.replication.specs.OpenBatch.{openBatch}
 use Rattle.replication.specs.Calls.{then, noStore, storeOr, noBatch, batchOr, uncovered, ownAhead, gone, exhausted, tooManyRecords, storeLines, newReply, editLines, edited, editReply, deleteLines, deleted, deleteReply, makeLines, makes, makeReply, applyLines, applyReply}

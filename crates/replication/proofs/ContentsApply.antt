@@ -21,10 +21,11 @@ use Rattle.ticks.specs.Operations.{merge, coversFor}
 use Rattle.ticks.proofs.Operations.{known-merge, normal-merge}
 use Rattle.ticks.proofs.LawfulResults.{below-top, lawful-merge}
 use Rattle.ticks.proofs.ForCover.{covers-for-exact}
-use Rattle.replication.specs.Formats.{Rec, Store, encodeStore, Batch, LawfulRec, ContainedIn, LawfulStore, LawfulBatch}
+use Rattle.replication.specs.Formats.{Rec, Store, encodeStore, Batch, find}
+use Rattle.replication.specs.Valid.{LawfulRec, ContainedIn, LawfulStore, LawfulBatch}
 use Rattle.replication.specs.OpenStore.{openStore}
 use Rattle.replication.specs.OpenBatch.{openBatch}
-use Rattle.replication.specs.Operate.{find, winnerOf, join, applied}
+use Rattle.replication.specs.Operate.{winnerOf, join, applied}
 use Rattle.replication.specs.Calls.{ownAhead, applyReply}
 use Rattle.replication.proofs.Tables.{find-all, all-find}
 use Rattle.replication.proofs.TablesJoin.{winner-tick, winner-kept, winner-replica, winner-replica-kept, join-rising, all-join, joined, joined-right, joined-left, joined-both, find-join}

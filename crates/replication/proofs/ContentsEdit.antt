@@ -22,9 +22,10 @@ use Rattle.ticks.proofs.Operations.{known-raise-own, known-raise-other, normal-
 use Rattle.ticks.proofs.Largest.{largest-bounds, largest-attained}
 use Rattle.ticks.proofs.LawfulResults.{below-top, lawful-raise}
 use Rattle.ticks.proofs.ForCalls.{id-is}
-use Rattle.replication.specs.Formats.{Rec, Store, encodeStore, LawfulRec, ContainedIn, LawfulStore}
+use Rattle.replication.specs.Formats.{Rec, Store, encodeStore, find}
+use Rattle.replication.specs.Valid.{LawfulRec, ContainedIn, LawfulStore}
 use Rattle.replication.specs.OpenStore.{openStore}
-use Rattle.replication.specs.Operate.{find, replace, nextTick, changedRec, changed}
+use Rattle.replication.specs.Operate.{replace, nextTick, changedRec, changed}
 use Rattle.replication.specs.Calls.{editReply, deleteReply}
 use Rattle.replication.proofs.Tables.{find-item, find-all, all-find, all-replace, replace-rising, find-replace-same, find-replace-other}
 use Rattle.replication.proofs.AgreeLines.{Room, edit-met, delete-met}

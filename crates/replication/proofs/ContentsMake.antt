@@ -24,11 +24,12 @@ use Rattle.ticks.specs.Calls.{idOf}
 use Rattle.ticks.proofs.Operations.{known-normalise, normal-normalise, normal-project, known-project-inside, known-project-below, known-project-above}
 use Rattle.ticks.proofs.LawfulResults.{below-top, top-below, lawful-normalise, lawful-project}
 use Rattle.ticks.proofs.ForCalls.{id-is, Within}
-use Rattle.replication.specs.Formats.{Rec, Store, Batch, encodeBatch, LawfulRec, ContainedIn, LawfulStore, LawfulBatch}
+use Rattle.replication.specs.Formats.{Rec, Store, Batch, encodeBatch, find}
+use Rattle.replication.specs.Valid.{LawfulRec, ContainedIn, LawfulStore, LawfulBatch}
 use Rattle.replication.specs.Reading.{both}
 use Rattle.replication.specs.OpenStore.{openStore}
 use Rattle.replication.specs.OpenBatch.{inSpan, lacksChange, openBatch}
-use Rattle.replication.specs.Operate.{find, selected, made}
+use Rattle.replication.specs.Operate.{selected, made}
 use Rattle.replication.specs.Calls.{makeReply}
 use Rattle.replication.specs.Lists.{outcome}
 use Rattle.replication.proofs.Tables.{find-item, find-all, both-parts, both-holds, in-span}

@@ -22,7 +22,8 @@ use Rattle.ticks.proofs.Operations.{normal-test}
 use Rattle.ticks.proofs.Algebra.{contains-yes, contains-more, contains-exact, project-outside}
 use Rattle.ticks.proofs.Largest.{alike-exact}
 use Rattle.ticks.proofs.LawfulResults.{top-below, below-top}
-use Rattle.replication.specs.Formats.{Rec, Store, encodeStore, Batch, encodeBatch, LawfulRec, ContainedIn, LawfulStore, LawfulBatch}
+use Rattle.replication.specs.Formats.{Rec, Store, encodeStore, Batch, encodeBatch}
+use Rattle.replication.specs.Valid.{LawfulRec, ContainedIn, LawfulStore, LawfulBatch}
 use Rattle.replication.specs.Reading.{both}
 use Rattle.replication.specs.OpenStore.{versionsIn, openStore}
 use Rattle.replication.specs.OpenBatch.{inSpan, lacksChange, carried, openBatch}

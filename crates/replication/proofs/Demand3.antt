@@ -20,18 +20,17 @@ use Rattle.ticks.specs.Calls.{line, idOf, wrongLength}
 use Rattle.ticks.proofs.Answers.{length-exact}
 use Rattle.ticks.proofs.ForCalls.{id-is}
 use Rattle.ticks.proofs.ForCover.{covers-for-exact}
-use Rattle.replication.specs.Formats.{Rec, Store, newStore, encodeStore, Batch}
+use Rattle.replication.specs.Formats.{Rec, Store, newStore, encodeStore, Batch, find}
 use Rattle.codec.specs.Number.{put}
 use Rattle.codec.specs.Reply.{gives}
 use Rattle.codec.proofs.Numbers.{put-length, put-be}
 use Rattle.codec.proofs.Replies.{fault-later, fault-none}
 use Rattle.replication.specs.OpenStore.{openStore}
 use Rattle.replication.specs.OpenBatch.{inSpan, lacksChange, openBatch}
-use Rattle.replication.specs.Operate.{find}
 use Rattle.replication.specs.Calls.{newReply, applyReply, ownAhead}
 use Rattle.replication.specs.Lists.{Call, AllGiven, World, start, outcome, batchNumber, keepStore}
 use Rattle.replication.specs.Machine.{Ticks, Remembered, State, initial, greatest, applies}
-use Rattle.replication.specs.Promise.{ends, machine, Agrees, BatchAgrees, Twofold, Promise}
+use Rattle.replication.specs.Promise.{ends, machine, Agrees, Twofold, Promise, BatchAgrees}
 use Rattle.replication.proofs.Best.{holds-contained, greatest-top}
 use Rattle.replication.proofs.MachineGreatest.{greatest-equal}
 use Rattle.replication.proofs.MachineSteps.{numbered-mem, applies-commute, applies-twice}

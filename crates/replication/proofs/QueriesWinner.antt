@@ -25,11 +25,11 @@ use Rattle.ticks.specs.Calls.{line, idOf, wrongLength}
 use Rattle.ticks.proofs.Lists.{less, same, more, order}
 use Rattle.ticks.proofs.ForCalls.{id-is}
 use Rattle.ticks.proofs.Answers.{length-exact}
-use Rattle.replication.specs.Formats.{Rec, putRec, putRecs, Store, Batch}
+use Rattle.replication.specs.Formats.{Rec, putRec, putRecs, Store, Batch, find}
 use Rattle.replication.specs.Reading.{recAt, recLength}
 use Rattle.replication.specs.OpenStore.{openStore}
 use Rattle.replication.specs.OpenBatch.{openBatch}
-use Rattle.replication.specs.Operate.{find, wins}
+use Rattle.replication.specs.Operate.{wins}
 use Rattle.replication.specs.Calls.{noStore, storeOr, noBatch, batchOr}
 use Rattle.replication.specs.Queries.{Part, nothing, ofStore, ofBatch, partNumber, partSide, partAtPlace, partLength, placeOf, storeTable, batchTable, partAt, sideOf, orRefused, winnerPart, learnedPart}
 use Rattle.replication.proofs.PartBytes.{part-reads}

@@ -23,9 +23,9 @@ use Rattle.ticks.proofs.Operations.{normal-test, normal-raise, known-raise-own,
 use Rattle.ticks.proofs.Unique.{normal-sound}
 use Rattle.ticks.proofs.Largest.{alike-all}
 use Rattle.ticks.proofs.Counts.{distinct-count, replicas-are, raise-map, raise-replicas, raise-ranges, normalise-replicas, project-replicas}
-use Rattle.replication.specs.Formats.{Rec, Store, items}
+use Rattle.replication.specs.Formats.{Rec, Store, items, find}
 use Rattle.replication.specs.OpenStore.{versionsIn, openStore}
-use Rattle.replication.specs.Operate.{find, replace, nextTick, changedRec, changed, made}
+use Rattle.replication.specs.Operate.{replace, nextTick, changedRec, changed, made}
 use Rattle.replication.specs.Calls.{editReply, deleteReply, makeReply}
 use Rattle.replication.proofs.Tables.{find-here, find-there, replace-nil, replace-after, replace-before, replace-length-found, valid-recs}
 use Rattle.replication.proofs.TablesSelected.{selected-length}

@@ -17,9 +17,9 @@ use Rattle.layout.specs.Permitted.{Permitted}
 use Rattle.ticks.specs.Meaning.{Among}
 use Rattle.ticks.specs.Calls.{line, wrongLength}
 use Rattle.ticks.proofs.ForCalls.{id-is}
-use Rattle.replication.specs.Formats.{Store, encodeStore}
+use Rattle.replication.specs.Formats.{Store, encodeStore, find}
 use Rattle.replication.specs.OpenStore.{openStore}
-use Rattle.replication.specs.Operate.{find, changed}
+use Rattle.replication.specs.Operate.{changed}
 use Rattle.replication.specs.Calls.{noStore, storeOr, gone, exhausted, storeLines, editLines, edited, editReply, deleteLines, deleted, deleteReply}
 use Rattle.replication.proofs.RefusalsTable.{Rule, rule, Told, told-cons, At, only, refused-at, refused-among, refused-never, given-none, refuses-same}
 use Rattle.replication.proofs.RefusalsTests.{Gone, Present, means-19, Exhausted, Unexhausted, means-20, means-length, means-lengths, rule11, rule12, rule13, told-store, opened-lawful}

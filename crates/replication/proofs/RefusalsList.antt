@@ -26,10 +26,9 @@ use Rattle.ticks.specs.Operations.{largest}
 use Rattle.ticks.proofs.ForCalls.{id-is}
 use Rattle.ticks.proofs.Largest.{largest-bounds}
 use Rattle.ticks.proofs.Meaning.{lawful-largest}
-use Rattle.replication.specs.Formats.{Store, Batch}
+use Rattle.replication.specs.Formats.{Store, Batch, find}
 use Rattle.replication.specs.OpenStore.{openStore}
 use Rattle.replication.specs.OpenBatch.{openBatch}
-use Rattle.replication.specs.Operate.{find}
 use Rattle.replication.specs.Calls.{exhausted, editReply, deleteReply, makeReply, applyReply}
 use Rattle.replication.specs.Lists.{Call, AllGiven, World, outcome, batchNumber}
 use Rattle.replication.specs.Machine.{Remembered, State, value, numbered, greatest, largestKnown}

@@ -6,7 +6,7 @@ use mathlib.Core.List.{List, [], _∷_}
 use lib.ListN.{length}
 use Rattle.codec.specs.Number.{beAt}
 use Rattle.codec.specs.Reply.{gives, refuses, firstFault}
-use Rattle.ticks.specs.Operations.{emptyKnowledge}
+use Rattle.ticks.specs.Meaning.{emptyKnowledge}
 use Rattle.ticks.specs.Calls.{line, wrongLength}
 use Rattle.ticks.proofs.ForCalls.{id-is}
 use Rattle.replication.specs.Formats.{newStore, encodeStore}

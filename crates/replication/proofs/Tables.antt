@@ -14,10 +14,10 @@ use lib.ListN.{length}
 use borrow.Author.Tests.{lt-ltb, le-ltb, le-leb, leb-true, eq-eqb, ne-eqb, eqb-true, eqb-false}
 use Rattle.layout.specs.Knowledge.{largestTick, All, Rising}
 use Rattle.ticks.proofs.Lists.{less, same, more, order}
-use Rattle.replication.specs.Formats.{Rec, items}
+use Rattle.replication.specs.Formats.{Rec, items, find}
 use Rattle.replication.specs.Reading.{both, tagKept, validRec, validRecs}
 use Rattle.replication.specs.OpenBatch.{inSpan}
-use Rattle.replication.specs.Operate.{find, replace}
+use Rattle.replication.specs.Operate.{replace}
 
 -- ---- rising item ids
 

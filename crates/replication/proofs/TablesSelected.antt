@@ -9,10 +9,10 @@ use mathlib.Core.Option.{Option, none, some}
 use native.Mathlib.Omega.{arith}
 use lib.ListN.{length}
 use Rattle.layout.specs.Knowledge.{All, Rising, Knowledge}
-use Rattle.replication.specs.Formats.{Rec, items}
+use Rattle.replication.specs.Formats.{Rec, items, find}
 use Rattle.replication.specs.Reading.{both}
 use Rattle.replication.specs.OpenBatch.{inSpan, lacksChange}
-use Rattle.replication.specs.Operate.{find, selected}
+use Rattle.replication.specs.Operate.{selected}
 use Rattle.replication.proofs.Tables.{rising-cons, rising-low, rising-rest, rising-down, find-nil, find-here, find-there, here, there, finds, find-below}
 
 -- of what is found, what a make carries

@@ -10,12 +10,12 @@ use lib.ListN.{length}
 use Rattle.codec.specs.Reply.{Reply, gives, Line, firstFault}
 use Rattle.layout.specs.Knowledge.{Limits, Rules, largestTick, Knowledge}
 use Rattle.layout.specs.Parse.{parse}
-use Rattle.ticks.specs.Meaning.{highest}
-use Rattle.ticks.specs.Operations.{emptyKnowledge, covers, coversFor, largest}
+use Rattle.ticks.specs.Meaning.{highest, emptyKnowledge}
+use Rattle.ticks.specs.Operations.{covers, coversFor, largest}
 use Rattle.ticks.specs.Calls.{line, idOf, readAs, ownFault, wrongLength, wrongSpan, resultLines}
-use Rattle.replication.specs.Formats.{Rec, Store, newStore, encodeStore, Batch, encodeBatch}
+use Rattle.replication.specs.Formats.{Rec, Store, newStore, encodeStore, Batch, encodeBatch, find}
 use Rattle.replication.specs.Reading.{live, tombstone}
-use Rattle.replication.specs.Operate.{find, changed, made, applied}
+use Rattle.replication.specs.Operate.{changed, made, applied}
 use Rattle.replication.specs.OpenStore.{openStore}
 use Rattle.replication.specs.OpenBatch.{openBatch}
 

@@ -1,5 +1,6 @@
 -- Records, stores, batches and every call on them as definitions; the plain history machine; lists of calls.
 pub mod Formats
+pub mod Valid
 pub mod Reading
 pub mod OpenStore
 pub mod OpenBatch

@@ -6,14 +6,9 @@ use mathlib.Core.Option.{Option, none, some}
 use lib.Dec.{ltb, eqb}
 use Rattle.layout.specs.Knowledge.{Knowledge}
 use Rattle.ticks.specs.Operations.{normalise, merge, project, raise, largest}
-use Rattle.replication.specs.Formats.{Rec, Store, Batch}
+use Rattle.replication.specs.Formats.{Rec, find, Store, Batch}
 use Rattle.replication.specs.Reading.{both}
 use Rattle.replication.specs.OpenBatch.{inSpan, lacksChange}
-
--- the record of an item in a table
-unfoldable pub find : ℕ → List Rec → Option Rec
-find i [] = none
-find i (r ∷ rs) = elim (eqb (r .item) i) [ true ↦ some r | false ↦ find i rs ]
 
 -- the table with a record in its place, instead of the one of the same item
 unfoldable pub replace : Rec → List Rec → List Rec

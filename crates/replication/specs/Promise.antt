@@ -9,10 +9,9 @@ use Rattle.codec.specs.Number.{put}
 use Rattle.codec.specs.Reply.{gives}
 use Rattle.layout.specs.Knowledge.{Rules, Rising}
 use Rattle.ticks.specs.Meaning.{highest, known}
-use Rattle.replication.specs.Formats.{Rec, items, Store, Batch}
+use Rattle.replication.specs.Formats.{Rec, items, Store, Batch, find}
 use Rattle.replication.specs.OpenStore.{openStore}
 use Rattle.replication.specs.OpenBatch.{openBatch}
-use Rattle.replication.specs.Operate.{find}
 use Rattle.replication.specs.Calls.{newReply, applyReply, ownAhead}
 use Rattle.replication.specs.Lists.{Call, World, start, run, trace, outcome, batchNumber}
 use Rattle.replication.specs.Machine.{Remembered, State, initial, history, greatest, numbered}

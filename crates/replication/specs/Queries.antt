@@ -11,11 +11,11 @@ use Rattle.layout.specs.Knowledge.{Rules, Knowledge}
 use Rattle.layout.specs.Parse.{parse}
 use Rattle.ticks.specs.Meaning.{contains}
 use Rattle.ticks.specs.Calls.{line, idOf, readAs, ownFault, wrongLength}
-use Rattle.replication.specs.Formats.{Rec, Store, Batch}
+use Rattle.replication.specs.Formats.{Rec, Store, Batch, find}
 use Rattle.replication.specs.Reading.{whole, recAt, recLength}
 use Rattle.replication.specs.OpenStore.{openStore}
 use Rattle.replication.specs.OpenBatch.{openBatch}
-use Rattle.replication.specs.Operate.{find, wins}
+use Rattle.replication.specs.Operate.{wins}
 use Rattle.replication.specs.Calls.{noStore, storeOr, noBatch, batchOr}
 
 -- a part of the bytes given: whose they are, where the part begins and how long it is; or the refusal's number

@@ -8,8 +8,8 @@ use native.Mathlib.Omega.{arith}
 use lib.Dec.{leb}
 use borrow.Author.Tests.{le-leb, lt-leb}
 use Rattle.layout.specs.Knowledge.{Knowledge}
-use Rattle.ticks.specs.Meaning.{highest, known, contains, Normal}
-use Rattle.ticks.specs.Operations.{emptyKnowledge, normalise, merge, project}
+use Rattle.ticks.specs.Meaning.{highest, known, contains, Normal, emptyKnowledge}
+use Rattle.ticks.specs.Operations.{normalise, merge, project}
 use Rattle.ticks.specs.Demand2.{SameVersions}
 use Rattle.ticks.proofs.Lists.{less, same, more, order, in-span, below-span, above-span, inside?}
 use Rattle.ticks.proofs.Equality.{clash}

@@ -9,8 +9,8 @@ use native.Mathlib.Omega.{arith}
 use lib.Dec.{eqb}
 use lib.ListN.{length, getD}
 use Rattle.layout.specs.Knowledge.{Rules, largestTick, Element, Range, Knowledge, All, Rising, keys, bounds, LawfulId, LawfulElement, LawfulVector, LawfulRange, Lawful}
-use Rattle.ticks.specs.Meaning.{highest, placeBy, tickAt, vectorAt, indexAt, known, Among, indices, Sound, FirstAtZero, ElementsInOrder, Normal}
-use Rattle.ticks.specs.Operations.{emptyKnowledge, normalise, merge, project, raise, tooManyReplicas, tooManyRanges}
+use Rattle.ticks.specs.Meaning.{highest, placeBy, tickAt, vectorAt, indexAt, known, Among, indices, Sound, FirstAtZero, ElementsInOrder, Normal, emptyKnowledge}
+use Rattle.ticks.specs.Operations.{normalise, merge, project, raise, tooManyReplicas, tooManyRanges}
 use Rattle.ticks.proofs.Lists.{among?, all-among, among-all, among-cases, rising-distinct, rising-above, in-span, below-span, above-span, inside?}
 use Rattle.ticks.proofs.Equality.{eqb-exact, exact?}
 use Rattle.ticks.proofs.Canonical.{highest-suc}

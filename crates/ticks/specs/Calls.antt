@@ -11,8 +11,8 @@ use Rattle.codec.specs.Number.{beAt}
 use Rattle.codec.specs.Reply.{Reply, gives, refuses, Line, firstFault}
 use Rattle.layout.specs.Knowledge.{Rules, Knowledge, encode}
 use Rattle.layout.specs.Parse.{Parsed, accepted, refused, parse}
-use Rattle.ticks.specs.Meaning.{known, contains}
-use Rattle.ticks.specs.Operations.{emptyKnowledge, normalise, merge, project, covers, tooManyReplicas, tooManyRanges}
+use Rattle.ticks.specs.Meaning.{known, contains, emptyKnowledge}
+use Rattle.ticks.specs.Operations.{normalise, merge, project, covers, tooManyReplicas, tooManyRanges}
 use Rattle.ticks.specs.declared.Contain.{Contain}
 use Rattle.ticks.specs.declared.Contain.the-variants as C
 use Rattle.ticks.specs.declared.Lead.{Lead}

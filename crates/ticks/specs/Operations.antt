@@ -10,10 +10,6 @@ use Rattle.ticks.specs.Meaning.{known}
 use Rattle.ticks.specs.Table.{inside, within, sorted}
 use Rattle.ticks.specs.Written.{range, normalOf}
 
--- "Empty knowledge has r = 0, v = 1, g = 1."
-unfoldable pub emptyKnowledge : Knowledge
-emptyKnowledge = record { replicas = []; vectors = [] ∷ []; ranges = range 0 0 ∷ [] }
-
 unfoldable pub normalise : Knowledge → Knowledge
 normalise k = normalOf (bounds (k .ranges)) (k .replicas) (known k)
 
