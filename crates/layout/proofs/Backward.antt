@@ -24,6 +24,7 @@ use Rattle.layout.specs.Read.{_▷_, repeat, number, fields, limit, repl
 use Rattle.layout.specs.Parse.{_▶_, replicaMap, vectorCount, vectorList, rangeList, ended, checked}
 use Rattle.layout.proofs.BackwardSteps.{then-inv, Counted, fields-inv, count-inv}
 use Rattle.layout.proofs.BackwardRefused.{refused-within}
+use Rattle.layout.proofs.Parts.{whole as whole-lawful}
 use Rattle.layout.proofs.BackwardParts.{Ids, ids-inv, VectorList, vector-list-inv, Ranges, ranges-inv}
 
 -- the knowledge that bytes stand for, with r replicas, v vectors, e elements and g ranges
@@ -129,7 +130,7 @@ module _ (R : Rules) (s : List ℕ) (bs : Bytes s) where
             (ranges .bytes ∙ ap (λ t. putFields beforeRanges (put 4 g (putRanges (ranges .values) t)))
             (last ∙ ap (putFields closing) (ap (λ n. drop n s) whole ∙ drop-length s))))));
         lawful =
-            record {
+            whole-lawful R k (record {
               replicas = rw (ids .count) (ids .high);
               ids = ids .are .lawful;
               distinct = ids .are .distinct;
@@ -141,7 +142,7 @@ module _ (R : Rules) (s : List ℕ) (bs : Bytes s) where
               ranges = rw (ranges .count) (ranges .high);
               spans = rw (vectors .count) (ranges .are .lawful);
               rising = ranges .are .rising;
-            };
+            });
         rs = ids .count;
         vs = vectors .count;
         es = sym (vectors .are .last ∙ zero-add (elements ([] ∷ vectors .rest)));

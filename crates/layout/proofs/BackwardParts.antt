@@ -15,7 +15,8 @@ use borrow.Author.Tests.{leb-true, ltb-true, eqb-true, eqb-false}
 use Rattle.codec.specs.Number.{Bytes, beAt, put}
 use Rattle.layout.specs.declared.Got.{Got}
 use Rattle.layout.specs.declared.Got.the-variants.{Num, Fault}
-use Rattle.layout.specs.Knowledge.{Rules, largestTick, Element, Range, beforeElements, putFields, putIds, putElements, putVectors, putRanges, All, Distinct, Rising, keys, bounds, LawfulId, LawfulElement, LawfulVector, LawfulRange}
+use Rattle.layout.specs.Knowledge.{Rules, largestTick, Element, Range, beforeElements, putFields, putIds, putElements, putVectors, putRanges, All, Distinct, Rising, keys, bounds}
+use Rattle.layout.proofs.Parts.{LawfulId, LawfulElement, LawfulVector, LawfulRange, all-map}
 use Rattle.layout.specs.Answer.{elements}
 use Rattle.layout.specs.Read.{_▷_, repeat, number, fields, limit, empty, among, judged, replicaId, tick, element, firstVector, vector, index, range}
 use Rattle.layout.specs.Parse.{vectorList}
@@ -41,11 +42,6 @@ module _ {A : Type 0} (f : ℕ → ℕ → Got) (T : ℕ → ℕ → List A → 
       let rest = repeat-inv n y c z b v in
       let first = more x at y c z b (rest .values) u (rest .are) in
       record { values = first .0 ∷ rest .values; count = ap suc (rest .count); are = first .1 }
-
--- a property of each element gives another
-pub all-map : {A : Type 0} (P Q : A → Type 0) → ((a : A) → P a → Q a) → (l : List A) → All P l → All Q l
-all-map P Q f [] h = tt
-all-map P Q f (a ∷ l) h = (f a (h .0), all-map P Q f l (h .1))
 
 -- x is none of the first k numbers
 abbrev pub Apart : List ℕ → ℕ → ℕ → ℕ → ℕ → ℕ → Type 0

@@ -11,7 +11,8 @@ use Rattle.codec.proofs.Numbers.{put-bytes}
 use Rattle.layout.specs.declared.Got.the-variants.{Num}
 use Rattle.layout.specs.declared.Checked.{Checked}
 use Rattle.layout.specs.declared.Checked.the-variants.{Accepted}
-use Rattle.layout.specs.Knowledge.{Rules, Element, Range, Knowledge, Field, opening, beforeVectors, beforeElements, beforeRanges, closing, putFields, putIds, putElements, putVectors, putRanges, encode, All, Distinct, Rising, bounds, Lawful, LawfulId, LawfulVector, LawfulRange}
+use Rattle.layout.specs.Knowledge.{Rules, Element, Range, Knowledge, Field, opening, beforeVectors, beforeElements, beforeRanges, closing, putFields, putIds, putElements, putVectors, putRanges, encode, All, Distinct, Rising, bounds, Lawful}
+use Rattle.layout.proofs.Parts.{LawfulId, LawfulVector, LawfulRange, Parts, parts}
 use Rattle.layout.specs.Permitted.{Permitted, mostVectors, mostCount}
 use Rattle.layout.specs.Answer.{elements}
 use Rattle.layout.specs.Read.{_▷_, fields}
@@ -171,7 +172,8 @@ encode-length k = end-over (encode k) _ (at-end k) ∙ omega arith
 pub forward : (R : Rules) (k : Knowledge) → Permitted (R .limits) → Lawful R k →
     checked R (encode k) ≡ Accepted (length (k .replicas)) (length (k .vectors)) (elements (k .vectors)) (length (k .ranges))
 unfolding checked
-forward R k p l =
+forward R k p lawful =
+    let l : Parts R k = parts R k lawful in
     let r = length (k .replicas) in
     let v = length (k .vectors) in
     let e = elements (k .vectors) in
@@ -192,7 +194,8 @@ unfolding decode
 decode-of s r v a g e f h i = rw (e, f, h, i)
 
 pub decoded : (R : Rules) (k : Knowledge) → Permitted (R .limits) → Lawful R k → decode (encode k) ≡ k
-decoded R k p l =
+decoded R k p lawful =
+    let l : Parts R k = parts R k lawful in
     let r = length (k .replicas) in
     let v = length (k .vectors) in
     let e = elements (k .vectors) in

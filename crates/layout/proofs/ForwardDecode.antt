@@ -6,7 +6,8 @@ use mathlib.Core.List.{List, [], _∷_}
 use native.Mathlib.Omega.{arith}
 use lib.ListN.{length}
 use Rattle.codec.specs.Number.{beAt, put}
-use Rattle.layout.specs.Knowledge.{Rules, Element, Range, beforeElements, putFields, putIds, putElements, putVectors, putRanges, All, LawfulId, LawfulElement, LawfulVector, LawfulRange}
+use Rattle.layout.specs.Knowledge.{Rules, Element, Range, beforeElements, putFields, putIds, putElements, putVectors, putRanges, All}
+use Rattle.layout.proofs.Parts.{LawfulId, LawfulElement, LawfulVector, LawfulRange}
 use Rattle.layout.specs.Answer.{elements}
 use Rattle.layout.specs.Decode.{idsAt, elementsAt, vectorsAt, afterVectors, rangesAt}
 use Rattle.layout.proofs.Chain.{Stands, moved, over, reads, fields-over}

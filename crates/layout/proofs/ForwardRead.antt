@@ -9,7 +9,8 @@ use lib.ListN.{length}
 use borrow.Author.Tests.{lt-ltb, le-leb}
 use Rattle.codec.specs.Number.{beAt, put}
 use Rattle.layout.specs.declared.Got.the-variants.{Num}
-use Rattle.layout.specs.Knowledge.{Rules, largestTick, Element, Range, beforeElements, putFields, putIds, putElements, putVectors, putRanges, All, Distinct, Rising, keys, bounds, LawfulId, LawfulElement, LawfulVector, LawfulRange}
+use Rattle.layout.specs.Knowledge.{Rules, largestTick, Element, Range, beforeElements, putFields, putIds, putElements, putVectors, putRanges, All, Distinct, Rising, keys, bounds}
+use Rattle.layout.proofs.Parts.{LawfulId, LawfulElement, LawfulVector, LawfulRange}
 use Rattle.layout.specs.Answer.{elements}
 use Rattle.layout.specs.Read.{_▷_, repeat, number, fields, empty, judged, replicaId, tick, element, firstVector, vector, index, range}
 use Rattle.layout.proofs.Chain.{Stands, moved, over, reads, number-reads, limit-holds, fields-over, fields-read}

@@ -6,7 +6,8 @@ use mathlib.Core.List.{List, [], _∷_}
 use native.Mathlib.Nat.{mul-suc, mul-le-mul}
 use native.Mathlib.Omega.{arith}
 use lib.ListN.{length, getD}
-use Rattle.layout.specs.Knowledge.{Rules, Element, Knowledge, encode, All, Lawful, LawfulVector}
+use Rattle.layout.specs.Knowledge.{Rules, Element, Knowledge, encode, All, Lawful}
+use Rattle.layout.proofs.Parts.{LawfulVector, Parts, parts}
 use Rattle.layout.specs.Permitted.{longest}
 use Rattle.layout.specs.Answer.{elements}
 use Rattle.layout.proofs.Forward.{encode-length}
@@ -26,7 +27,8 @@ elements-later r (es ∷ vs) f l =
 
 pub lawful-length : (R : Rules) (k : Knowledge) → Lawful R k → length (encode k) ≤ longest (R .limits)
 unfolding longest
-lawful-length R k l =
+lawful-length R k lawful =
+    let l : Parts R k = parts R k lawful in
     omega (
       arith,
       encode-length k,

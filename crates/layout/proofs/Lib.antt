@@ -1,5 +1,6 @@
 -- The laws of the layout: bytes are accepted exactly where they are the encoding of a lawful knowledge.
 pub mod Chain
+pub mod Parts
 pub mod ForwardRead
 pub mod ForwardDecode
 pub mod Forward

@@ -19,8 +19,7 @@ pub record Rules : Type 0 where
 abbrev pub basic : Rules
 basic = record { limits = record { replicas = 16; ranges = 64; records = 256 }; judge = λ id. 0 }
 
--- 2^63 − 1
-abbrev pub largestTick : ℕ
+abbrev pub largestTick : ℕ  -- 2^63 − 1
 largestTick = 9223372036854775807
 
 -- "a replica key and a clock vector index are both four-byte numbers, and one never stands for the other": two types
@@ -38,8 +37,7 @@ pub record Knowledge : Type 0 where
   pub vectors : List (List Element)
   pub ranges : List Range
 
--- a fixed field: its size and its value
-pub record Field : Type 0 where
+pub record Field : Type 0 where  -- a fixed field: its size and its value
   pub size : ℕ
   pub value : ℕ
 
@@ -54,40 +52,32 @@ opening = field 4 5 ∷ field 4 0 ∷ field 4 1 ∷ field 4 0 ∷ field 4 5 ∷ 
 unfoldable pub beforeVectors : List Field
 beforeVectors = field 4 24 ∷ field 1 0 ∷ field 2 16 ∷ field 1 0 ∷ field 2 24 ∷ field 1 0 ∷ field 2 1 ∷ field 4 21 ∷ []
 
--- of each clock vector "1 (4)"; its element count follows
-unfoldable pub beforeElements : List Field
+unfoldable pub beforeElements : List Field  -- of each clock vector "1 (4)"; its element count follows
 beforeElements = field 4 1 ∷ []
 
--- "23 (4), 1 (4), 22 (4)"; the count g follows
-unfoldable pub beforeRanges : List Field
+unfoldable pub beforeRanges : List Field  -- "23 (4), 1 (4), 22 (4)"; the count g follows
 beforeRanges = field 4 23 ∷ field 4 1 ∷ field 4 22 ∷ []
 
--- "0 (4), 25 (4), 1 (1), 0 (4)"
-unfoldable pub closing : List Field
+unfoldable pub closing : List Field  -- "0 (4), 25 (4), 1 (1), 0 (4)"
 closing = field 4 0 ∷ field 4 25 ∷ field 1 1 ∷ field 4 0 ∷ []
 
--- bytes in front of t: fixed fields
-unfoldable pub putFields : List Field → List ℕ → List ℕ
+unfoldable pub putFields : List Field → List ℕ → List ℕ  -- fixed fields, in front of t
 putFields [] t = t
 putFields (f ∷ fs) t = put (f .size) (f .value) (putFields fs t)
 
--- replica ids of 16
-unfoldable pub putIds : List ℕ → List ℕ → List ℕ
+unfoldable pub putIds : List ℕ → List ℕ → List ℕ  -- replica ids of 16
 putIds [] t = t
 putIds (id ∷ ids) t = put 16 id (putIds ids t)
 
--- elements of replica key (4) and tick (8)
-unfoldable pub putElements : List Element → List ℕ → List ℕ
+unfoldable pub putElements : List Element → List ℕ → List ℕ  -- elements of replica key (4) and tick (8)
 putElements [] t = t
 putElements (x ∷ xs) t = put 4 (x .key .0) (put 8 (x .tick) (putElements xs t))
 
--- clock vectors: 1 (4), element count (4), elements
-unfoldable pub putVectors : List (List Element) → List ℕ → List ℕ
+unfoldable pub putVectors : List (List Element) → List ℕ → List ℕ  -- clock vectors: 1 (4), element count (4), elements
 putVectors [] t = t
 putVectors (es ∷ vs) t = putFields beforeElements (put 4 (length es) (putElements es (putVectors vs t)))
 
--- ranges: item id (24), clock vector index (4)
-unfoldable pub putRanges : List Range → List ℕ → List ℕ
+unfoldable pub putRanges : List Range → List ℕ → List ℕ  -- ranges: item id (24), clock vector index (4)
 putRanges [] t = t
 putRanges (x ∷ xs) t = put 24 (x .bound) (put 4 (x .index .0) (putRanges xs t))
 
@@ -98,18 +88,15 @@ encode k =
     (putFields beforeRanges (put 4 (length (k .ranges)) (putRanges (k .ranges)
     (putFields closing [])))))))))
 
--- each element of a list has the property
-abbrev pub All : {A : Type 0} → (A → Type 0) → List A → Type 0
+abbrev pub All : {A : Type 0} → (A → Type 0) → List A → Type 0  -- each element of a list has the property
 All P [] = Unit {0}
 All P (x ∷ xs) = P x × All P xs
 
--- no two numbers of the list are equal
-abbrev pub Distinct : List ℕ → Type 0
+abbrev pub Distinct : List ℕ → Type 0  -- no two numbers of the list are equal
 Distinct [] = Unit {0}
 Distinct (x ∷ xs) = All (λ y. x ≡ y → ⊥) xs × Distinct xs
 
--- the numbers rise strictly, from lo on
-abbrev pub Rising : ℕ → List ℕ → Type 0
+abbrev pub Rising : ℕ → List ℕ → Type 0  -- the numbers rise strictly, from lo on
 Rising lo [] = Unit {0}
 Rising lo (x ∷ xs) = (lo ≤ x) × Rising (suc x) xs
 
@@ -121,37 +108,22 @@ unfoldable pub bounds : List Range → List ℕ
 bounds [] = []
 bounds (x ∷ xs) = x .bound ∷ bounds xs
 
--- a replica id of 16 bytes that is acceptable
-pub record LawfulId (R : Rules) (id : ℕ) : Type 0 where
-  pub size : id < 256 ^ 16
-  pub acceptable : R .judge id ≡ 0
-
--- keys count from 0 and are below r; ticks are at most the largest
-pub record LawfulElement (r : ℕ) (x : Element) : Type 0 where
-  pub key : x .key .0 < r
-  pub tick : x .tick ≤ largestTick
-
--- at most r elements, with no key twice; their order is free
-pub record LawfulVector (r : ℕ) (es : List Element) : Type 0 where
-  pub count : length es ≤ r
-  pub elements : All (LawfulElement r) es
-  pub distinct : Distinct (keys es)
-
--- an item id of 24 bytes; indices count from 0 and are below v
-pub record LawfulRange (v : ℕ) (x : Range) : Type 0 where
-  pub size : x .bound < 256 ^ 24
-  pub index : x .index .0 < v
-
--- no replica id twice; the first vector empty; each bound above the one before
+-- "r 0 to 16, v 1 to 65, g 1 to 64", replica ids not seen before, the first vector empty, in a vector at most r elements, no key
+-- repeated, in free order; "keys and indices count from 0"; bounds above the one before
 pub record Lawful (R : Rules) (k : Knowledge) : Type 0 where
   pub replicas : length (k .replicas) ≤ R .limits .replicas
-  pub ids : All (LawfulId R) (k .replicas)
+  pub ids : All (λ id. id < 256 ^ 16) (k .replicas)
+  pub acceptable : All (λ id. R .judge id ≡ 0) (k .replicas)
   pub distinct : Distinct (k .replicas)
   pub someVector : 1 ≤ length (k .vectors)
   pub vectors : length (k .vectors) ≤ R .limits .ranges + 1
   pub first : getD (k .vectors) 0 [] ≡ []
-  pub clocks : All (LawfulVector (length (k .replicas))) (k .vectors)
+  pub counts : All (λ es. length es ≤ length (k .replicas)) (k .vectors)
+  pub keysBelow : All (All (λ x. x .key .0 < length (k .replicas))) (k .vectors)
+  pub keysOnce : All (λ es. Distinct (keys es)) (k .vectors)
+  pub ticks : All (All (λ x. x .tick ≤ largestTick)) (k .vectors)
   pub someRange : 1 ≤ length (k .ranges)
   pub ranges : length (k .ranges) ≤ R .limits .ranges
-  pub spans : All (LawfulRange (length (k .vectors))) (k .ranges)
+  pub items : All (λ x. x .bound < 256 ^ 24) (k .ranges)
+  pub indices : All (λ x. x .index .0 < length (k .vectors)) (k .ranges)
   pub rising : Rising 0 (bounds (k .ranges))

@@ -4,7 +4,8 @@ use Prim.Native.Nat.{ℕ, _≤_, _<_}
 use mathlib.Core.Path.{_≡_, ap, _∙_}
 use mathlib.Core.Logic.{_⊎_}
 use mathlib.Core.Bool.{Bool, true}
-use Rattle.layout.specs.Knowledge.{Rules, largestTick, Knowledge, LawfulId, Lawful}
+use Rattle.layout.specs.Knowledge.{Rules, largestTick, Knowledge, Lawful}
+use Rattle.layout.proofs.Parts.{LawfulId}
 use Rattle.ticks.specs.Meaning.{highest, known, Normal, emptyKnowledge}
 use Rattle.ticks.specs.Written.{isNormal, eqKnowledge}
 use Rattle.ticks.specs.Operations.{normalise, merge, project, raise}

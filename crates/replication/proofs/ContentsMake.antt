@@ -16,7 +16,7 @@ use Rattle.codec.specs.Reply.{Reply, gives}
 use Rattle.layout.specs.Knowledge.{Rules, Knowledge, All, Lawful}
 use Rattle.layout.specs.Permitted.{Permitted}
 use Rattle.layout.specs.Parse.{accepted, parse}
-use Rattle.layout.proofs.BackwardParts.{all-map}
+use Rattle.layout.proofs.Parts.{all-map}
 use Rattle.layout.proofs.Exact.{exact}
 use Rattle.ticks.specs.Meaning.{highest, known}
 use Rattle.ticks.specs.Operations.{normalise, project}

@@ -13,7 +13,7 @@ use borrow.Author.Tests.{leb-true, leb-false}
 use Rattle.codec.specs.Number.{Bytes}
 use Rattle.layout.specs.Knowledge.{Rules, Knowledge, All}
 use Rattle.layout.specs.Permitted.{Permitted}
-use Rattle.layout.proofs.BackwardParts.{all-map}
+use Rattle.layout.proofs.Parts.{all-map}
 use Rattle.ticks.specs.Meaning.{highest, known, contains}
 use Rattle.ticks.specs.Operations.{project}
 use Rattle.ticks.proofs.Equality.{eqKnowledge-sound}

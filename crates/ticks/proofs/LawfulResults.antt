@@ -8,7 +8,8 @@ use mathlib.Core.List.{List, [], _∷_, _++_}
 use native.Mathlib.Omega.{arith}
 use lib.Dec.{eqb}
 use lib.ListN.{length, getD}
-use Rattle.layout.specs.Knowledge.{Rules, largestTick, Element, Range, Knowledge, All, Rising, keys, bounds, LawfulId, LawfulElement, LawfulVector, LawfulRange, Lawful}
+use Rattle.layout.specs.Knowledge.{Rules, largestTick, Element, Range, Knowledge, All, Rising, keys, bounds, Lawful}
+use Rattle.layout.proofs.Parts.{LawfulId, LawfulElement, LawfulVector, LawfulRange, parts, whole}
 use Rattle.ticks.specs.Meaning.{highest, placeBy, tickAt, vectorAt, indexAt, known, Among, indices, Sound, FirstAtZero, ElementsInOrder, Normal, emptyKnowledge}
 use Rattle.ticks.specs.Operations.{normalise, merge, project, raise, tooManyReplicas, tooManyRanges}
 use Rattle.ticks.proofs.Lists.{among?, all-among, among-all, among-cases, rising-distinct, rising-above, in-span, below-span, above-span, inside?}
@@ -58,10 +59,10 @@ lawful-items v (x ∷ xs) a = (below-top (x .bound) (a .0 .size), lawful-items v
 pub lawful-sound : (R : Rules) (k : Knowledge) → Lawful R k → Sound k
 lawful-sound R k l = record {
   distinct = l .distinct;
-  keys = lawful-keys (length (k .replicas)) (k .vectors) (l .clocks);
-  indices = lawful-indices (length (k .vectors)) (k .ranges) (l .spans);
+  keys = lawful-keys (length (k .replicas)) (k .vectors) (parts R k l .clocks);
+  indices = lawful-indices (length (k .vectors)) (k .ranges) (parts R k l .spans);
   rising = l .rising;
-  items = lawful-items (length (k .vectors)) (k .ranges) (l .spans);
+  items = lawful-items (length (k .vectors)) (k .ranges) (parts R k l .spans);
 }
 
 -- and their known ticks are at most the largest tick
@@ -87,7 +88,7 @@ lawful-ticks R k i p l =
           omega (
             arith,
             known-in k i p m,
-            vectors-most (length (k .replicas)) (k .vectors) (indexAt (length (k .vectors)) (k .ranges) i) (placeBy eqb p (k .replicas)) (l .clocks),
+            vectors-most (length (k .replicas)) (k .vectors) (indexAt (length (k .vectors)) (k .ranges) i) (placeBy eqb p (k .replicas)) (parts R k l .clocks),
           )
       | inr n ↦ omega (arith, known-out k i p n)
     ]
@@ -204,7 +205,7 @@ pub lawful-normal : (R : Rules) (k : Knowledge) → Normal k
 lawful-normal R k n ids ticks few short =
     let r : length (k .replicas) ≤ R .limits .replicas = replicas-fit (R .limits) k .0 few in
     let g : length (k .ranges) ≤ R .limits .ranges = ranges-fit (R .limits) k .0 short in
-    record {
+    whole R k (record {
       replicas = r;
       ids = among-all (LawfulId R) (k .replicas) ids;
       distinct = n .over .sound .distinct;
@@ -216,12 +217,12 @@ lawful-normal R k n ids ticks few short =
       ranges = g;
       spans = lawful-ranges (length (k .vectors)) (k .ranges) (n .over .sound .indices) (n .over .sound .items);
       rising = n .over .sound .rising;
-    }
+    })
 
 -- The results of the operations
 
 pub lawful-id : (R : Rules) (k : Knowledge) (p : ℕ) → Lawful R k → Among p (k .replicas) → LawfulId R p
-lawful-id R k p l m = all-among (LawfulId R) (k .replicas) (l .ids) p m
+lawful-id R k p l m = all-among (LawfulId R) (k .replicas) (parts R k l .ids) p m
 
 from-known : (R : Rules) (k : Knowledge) (ids : List ℕ) → Normal k → ((i p : ℕ) → i ≤ highest → 1 ≤ known k i p → Among p ids)
     → ((p : ℕ) → Among p ids → LawfulId R p) → (p : ℕ) → Among p (k .replicas) → LawfulId R p
@@ -272,7 +273,7 @@ lawful-raise R q t k l a h few short =
 -- empty knowledge is lawful where one range is allowed
 pub lawful-empty : (R : Rules) → 1 ≤ R .limits .ranges → Lawful R emptyKnowledge
 unfolding emptyKnowledge bounds keys
-lawful-empty R h = record {
+lawful-empty R h = whole R emptyKnowledge (record {
   replicas = omega arith;
   ids = tt;
   distinct = tt;
@@ -284,4 +285,4 @@ lawful-empty R h = record {
   ranges = h;
   spans = (record { size = top-below 0 (omega arith); index = omega arith }, tt);
   rising = (omega arith, tt);
-}
+})

@@ -6,7 +6,8 @@ use mathlib.Core.Logic.{_⊎_, inl, inr, ⊎-elim}
 use mathlib.Core.List.{List, [], _∷_}
 use native.Mathlib.Omega.{arith}
 use lib.ListN.{length, getD, List·getD-eq-default}
-use Rattle.layout.specs.Knowledge.{Rules, largestTick, Element, Range, Knowledge, All, Distinct, Rising, keys, bounds, LawfulVector, Lawful}
+use Rattle.layout.specs.Knowledge.{Rules, largestTick, Element, Range, Knowledge, All, Distinct, Rising, keys, bounds, Lawful}
+use Rattle.layout.proofs.Parts.{LawfulVector, parts}
 use Rattle.ticks.specs.Meaning.{place, tickAt, indexAt, vectorAt, known, Among, Sound}
 use Rattle.ticks.specs.Operations.{largest}
 use Rattle.ticks.proofs.Lists.{less, same, more, order, among?, all-among, rising-above}
@@ -102,7 +103,7 @@ module _ (R : Rules) (k : Knowledge) (l : Lawful R k) where
   known-element i x e g m h =
       key-known k i (e .key .0) (lawful-sound R k l) h
       ∙ ap (λ v. tickAt v (e .key .0)) (vectorAt-greatest k i x (lawful-sound R k l) g)
-      ∙ tick-element (getD (k .vectors) (x .index .0) []) e (lawful-distinct (length (k .replicas)) (k .vectors) (x .index .0) (l .clocks)) m
+      ∙ tick-element (getD (k .vectors) (x .index .0) []) e (lawful-distinct (length (k .replicas)) (k .vectors) (x .index .0) (parts R k l .clocks)) m
 
   -- "0 if any is missing": the range
   pub known-no-range : (i p : ℕ) → ((y : Range) → In y (k .ranges) → i < y .bound) → known k i p ≡ 0
