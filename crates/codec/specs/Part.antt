@@ -1,10 +1,6 @@
 -- Writing into a lent buffer: a number at a place, and a part of another slice. What has no room is not
 -- written at all.
-use Prim.Native.Nat.{ℕ, _+_}
-use mathlib.Core.Bool.{Bool, true, false}
-use mathlib.Core.List.{List, [], _++_}
-use lib.Dec.{leb}
-use lib.ListN.{length, take, drop}
+use Rattle.codec.specs.Prelude.{ℕ, _+_, Bool, true, false, List, [], _++_, leb, length, take, drop}
 use Rattle.codec.specs.Number.{put}
 
 -- the buffer d with the bytes vs from a place on, or d itself where they do not all fit

@@ -1,10 +1,6 @@
 -- The answer of a call that writes. Document 01: "Only the number returns; buffers are unaltered" on a refusal;
 -- demand 1: "a success writes the stated bytes from the front and none after them."
-use Prim.Native.Nat.{ℕ}
-use mathlib.Core.Bool.{Bool, true, false}
-use mathlib.Core.List.{List, [], _∷_, _++_}
-use lib.Dec.{leb}
-use lib.ListN.{length, drop}
+use Rattle.codec.specs.Prelude.{ℕ, Bool, true, false, List, [], _∷_, _++_, leb, length, drop}
 use Rattle.codec.specs.declared.Answer.{Answer}
 use Rattle.codec.specs.declared.Answer.the-variants.{Written, Refused}
 

@@ -1,9 +1,5 @@
 -- Comparing bytes, and ids as words of 64 bits.
-use Prim.Native.Nat.{ℕ, zero, suc, _+_, _*_, _^_}
-use mathlib.Core.Bool.{Bool, true, false}
-use mathlib.Core.List.{List}
-use lib.Dec.{eqb, ltb}
-use lib.ListN.{getD}
+use Rattle.codec.specs.Prelude.{ℕ, zero, suc, _+_, _*_, _^_, Bool, true, false, List, eqb, ltb, getD}
 
 -- n bytes of s from a on, compared with those of t from b on, byte by byte from the front: are they below
 unfoldable pub before : ℕ → List ℕ → ℕ → List ℕ → ℕ → Bool

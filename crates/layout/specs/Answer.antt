@@ -1,8 +1,6 @@
 -- The answer of the check as document 01 gives it: the refusal's number, 0 where nothing is refused, and the sizes
 -- r, v, e and g. On a refusal only the number returns: where the sizes are put, nothing changes.
-use Prim.Native.Nat.{ℕ, _+_}
-use mathlib.Core.List.{List, [], _∷_}
-use lib.ListN.{length}
+use Rattle.codec.specs.Prelude.{ℕ, _+_, List, [], _∷_, length}
 use lib.Seq.{sets}
 use Rattle.layout.specs.Knowledge.{Element}
 use Rattle.layout.specs.declared.Checked.{Checked}

@@ -1,7 +1,6 @@
 -- The value in accepted bytes, by the places of its fields. There is nothing to believe here: the law `exact` says that this is
 -- the one knowledge whose encoding the bytes are.
-use Prim.Native.Nat.{ℕ, zero, suc, _+_, _*_}
-use mathlib.Core.List.{List, [], _∷_}
+use Rattle.codec.specs.Prelude.{ℕ, zero, suc, _+_, _*_, List, [], _∷_}
 use Rattle.codec.specs.Number.{beAt}
 use Rattle.layout.specs.Knowledge.{Element, Range, Knowledge}
 

@@ -1,10 +1,6 @@
 -- The reading of a whole knowledge: document 01's table "Knowledge, left to right, first faulty field", then
 -- "Knowledge, end". `checked` decides and counts; `parse` also gives the value that the accepted bytes stand for.
-use Prim.Native.Nat.{ℕ, _+_, _-_}
-use mathlib.Core.Bool.{true, false}
-use mathlib.Core.List.{List}
-use lib.Dec.{eqb}
-use lib.ListN.{length}
+use Rattle.codec.specs.Prelude.{ℕ, _+_, _-_, true, false, List, eqb, length}
 use Rattle.layout.specs.declared.Got.{Got}
 use Rattle.layout.specs.declared.Got.the-variants.{Num, Fault}
 use Rattle.layout.specs.declared.Checked.{Checked}

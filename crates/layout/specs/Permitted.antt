@@ -1,5 +1,5 @@
 -- The limits that the laws hold for. There is nothing to believe here: document 01's limits are permitted (`base-permitted`).
-use Prim.Native.Nat.{ℕ, _+_, _*_, _≤_}
+use Rattle.codec.specs.Prelude.{ℕ, _+_, _*_, _≤_}
 use Rattle.layout.specs.Knowledge.{Limits, Rules, basic}
 
 abbrev pub base : Limits

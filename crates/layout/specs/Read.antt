@@ -1,11 +1,7 @@
 -- Reading one part of the bytes after the other, left to right. Each definition takes the number read before and the
 -- place, and gives the next number with the place after it, or the fault. The numbers are those of document 01's
 -- table "Where a fault is caught".
-use Prim.Native.Nat.{ℕ, zero, suc, _+_}
-use mathlib.Core.Bool.{Bool, true, false}
-use mathlib.Core.List.{List, [], _∷_}
-use lib.Dec.{leb, ltb, eqb}
-use lib.ListN.{length}
+use Rattle.codec.specs.Prelude.{ℕ, zero, suc, _+_, Bool, true, false, List, [], _∷_, eqb, ltb, leb, length}
 use Rattle.codec.specs.Number.{beAt}
 use Rattle.layout.specs.declared.Got.{Got}
 use Rattle.layout.specs.declared.Got.the-variants.{Num, Fault}

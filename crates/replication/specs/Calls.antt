@@ -1,12 +1,7 @@
 -- The calls that write, on bytes. Each is a table of refusals in document 01's order, "Inputs are checked as given: …
 -- store before batch or knowledge, then 17; then 18, 19, 20; then the result (for make: needed before learned)", and
 -- the bytes where no line holds. 14, the output buffer shorter than the result, is looked for last, by `answer`.
-use Prim.Native.Nat.{ℕ}
-use mathlib.Core.Bool.{Bool, true, false, not, _||_}
-use mathlib.Core.List.{List, [], _∷_}
-use mathlib.Core.Option.{Option, none, some}
-use lib.Dec.{leb, ltb, eqb}
-use lib.ListN.{length}
+use Rattle.codec.specs.Prelude.{ℕ, Bool, true, false, not, _||_, List, [], _∷_, Option, none, some, eqb, ltb, leb, length}
 use Rattle.codec.specs.Reply.{Reply, gives, Line, firstFault}
 use Rattle.layout.specs.Knowledge.{Limits, Rules, largestTick, Knowledge}
 use Rattle.layout.specs.Parse.{parse}

@@ -1,11 +1,6 @@
 -- The value of a valid batch, from its bytes. There is nothing to believe here: the law `batch-exact` says that the bytes of a
 -- batch are read as its value exactly where the batch meets document 01's list (specs/Valid.antt).
-use Prim.Native.Nat.{ℕ, suc, _+_}
-use mathlib.Core.Bool.{Bool, true, false, not}
-use mathlib.Core.List.{List}
-use mathlib.Core.Option.{Option, none, some}
-use lib.Dec.{leb, eqb}
-use lib.ListN.{length, take, drop}
+use Rattle.codec.specs.Prelude.{ℕ, suc, _+_, Bool, true, false, not, List, Option, none, some, eqb, leb, length, take, drop}
 use Rattle.codec.specs.Number.{beAt}
 use Rattle.layout.specs.Knowledge.{Limits, Rules, Knowledge}
 use Rattle.layout.specs.Parse.{Parsed, accepted, refused, parse}

@@ -1,11 +1,6 @@
 -- The value of a valid store, from its bytes. There is nothing to believe here: the law `store-exact` says that the bytes of a
 -- store are read as its value exactly where the store meets document 01's list (specs/Valid.antt).
-use Prim.Native.Nat.{ℕ, _+_}
-use mathlib.Core.Bool.{Bool, true, false}
-use mathlib.Core.List.{List}
-use mathlib.Core.Option.{Option, none, some}
-use lib.Dec.{leb, eqb}
-use lib.ListN.{length, take, drop}
+use Rattle.codec.specs.Prelude.{ℕ, _+_, Bool, true, false, List, Option, none, some, eqb, leb, length, take, drop}
 use Rattle.codec.specs.Number.{beAt}
 use Rattle.layout.specs.Knowledge.{Limits, Rules, Knowledge}
 use Rattle.layout.specs.Parse.{Parsed, accepted, refused, parse}

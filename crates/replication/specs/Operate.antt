@@ -1,9 +1,5 @@
 -- The operations on values of stores and batches. Document 01, "New", "Edit or delete", "Make", "Apply".
-use Prim.Native.Nat.{ℕ, zero, suc, _+_}
-use mathlib.Core.Bool.{Bool, true, false}
-use mathlib.Core.List.{List, [], _∷_}
-use mathlib.Core.Option.{Option, none, some}
-use lib.Dec.{ltb, eqb}
+use Rattle.codec.specs.Prelude.{ℕ, zero, suc, _+_, Bool, true, false, List, [], _∷_, Option, none, some, eqb, ltb}
 use Rattle.layout.specs.Knowledge.{Knowledge}
 use Rattle.ticks.specs.Operations.{normalise, merge, project, raise, largest}
 use Rattle.replication.specs.Formats.{Rec, find, Store, Batch}

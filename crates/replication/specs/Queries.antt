@@ -1,10 +1,5 @@
 -- The calls that write nothing: winner, learned, what a walker has still to give, and coverage.
-use Prim.Native.Nat.{ℕ, zero, suc, _+_, _*_, _/_}
-use mathlib.Core.Bool.{Bool, true, false}
-use mathlib.Core.List.{List, [], _∷_}
-use mathlib.Core.Option.{Option, none, some}
-use lib.Dec.{eqb}
-use lib.ListN.{length}
+use Rattle.codec.specs.Prelude.{ℕ, zero, suc, _+_, _*_, _/_, Bool, true, false, List, [], _∷_, Option, none, some, eqb, length}
 use Rattle.codec.specs.Number.{beAt}
 use Rattle.codec.specs.Reply.{Reply, gives, refuses, firstFault}
 use Rattle.layout.specs.Knowledge.{Rules, Knowledge}

@@ -1,11 +1,6 @@
 -- Records read from bytes, and the tests on them that stores and batches share. There is nothing to believe here: the laws
 -- `store-exact` and `batch-exact` say in plain relations which bytes are read, and as what.
-use Prim.Native.Nat.{ℕ, zero, suc, _+_}
-use mathlib.Core.Bool.{Bool, true, false}
-use mathlib.Core.List.{List, [], _∷_}
-use mathlib.Core.Option.{Option, none, some}
-use lib.Dec.{leb, eqb}
-use lib.ListN.{length}
+use Rattle.codec.specs.Prelude.{ℕ, zero, suc, _+_, Bool, true, false, List, [], _∷_, Option, none, some, eqb, leb, length}
 use Rattle.codec.specs.Number.{beAt}
 use Rattle.layout.specs.Knowledge.{largestTick}
 use Rattle.replication.specs.Formats.{Rec}

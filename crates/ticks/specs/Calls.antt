@@ -1,12 +1,8 @@
 -- The calls on bytes: contain, lead, cover, normalise, merge and project. Each is the table of document 01, "Where a
 -- fault is caught", line by line in its order ("first knowledge, then second", then 17, then the result's 11 and
 -- 12; 14 is looked for last, by the codec's `answer`), and else what the operation gives.
-use Prim.Native.Nat.{ℕ}
-use mathlib.Core.Bool.{Bool, true, false, not, _||_}
-use mathlib.Core.List.{List, [], _∷_}
-use lib.Dec.{eqb, ltb}
+use Rattle.codec.specs.Prelude.{ℕ, Bool, true, false, not, _||_, List, [], _∷_, eqb, ltb, length}
 use lib.IntN.{ℤ, pos, _-ℤ_}
-use lib.ListN.{length}
 use Rattle.codec.specs.Number.{beAt}
 use Rattle.codec.specs.Reply.{Reply, gives, refuses, Line, firstFault}
 use Rattle.layout.specs.Knowledge.{Rules, Knowledge, encode}

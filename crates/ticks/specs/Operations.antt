@@ -1,10 +1,6 @@
 -- Document 01, "Operations on knowledge", on values. Each result is the normal form of its ticks; an operation says
 -- what the ticks are, at which items they may change and for which replicas they may be above 0.
-use Prim.Native.Nat.{ℕ, suc, max}
-use mathlib.Core.Bool.{Bool, true, false}
-use mathlib.Core.List.{List, [], _∷_, _++_}
-use lib.Dec.{eqb, ltb}
-use lib.ListN.{length}
+use Rattle.codec.specs.Prelude.{ℕ, suc, max, Bool, true, false, List, [], _∷_, _++_, eqb, ltb, length}
 use Rattle.layout.specs.Knowledge.{Limits, Range, Knowledge, bounds}
 use Rattle.ticks.specs.Meaning.{known}
 use Rattle.ticks.specs.Table.{inside, within, sorted}
