@@ -13,9 +13,9 @@ use native.Mathlib.Omega.{arith}
 use lib.ListN.{length}
 use Rattle.codec.specs.Reply.{Reply, gives, refuses, Line, firstFault}
 use Rattle.layout.specs.Knowledge.{Rules}
-use Rattle.ticks.specs.Meaning.{Among}
 use Rattle.ticks.specs.Operations.{merge}
 use Rattle.ticks.specs.Calls.{line}
+use Rattle.ticks.proofs.Lists.{Among}
 use Rattle.replication.specs.Formats.{Store, encodeStore, Batch}
 use Rattle.replication.specs.OpenStore.{openStore}
 use Rattle.replication.specs.OpenBatch.{openBatch}

@@ -16,9 +16,9 @@ use Rattle.layout.specs.Knowledge.{Rules, Knowledge, All, Rising, Lawful}
 use Rattle.layout.specs.Permitted.{Permitted}
 use Rattle.layout.specs.Parse.{accepted, parse}
 use Rattle.layout.proofs.Exact.{exact}
-use Rattle.ticks.specs.Meaning.{highest, known, Among, Normal}
+use Rattle.ticks.specs.Meaning.{highest, known, Normal}
 use Rattle.ticks.specs.Operations.{raise, normalise, largest}
-use Rattle.ticks.proofs.Lists.{less, same, more, order}
+use Rattle.ticks.proofs.Lists.{Among, less, same, more, order}
 use Rattle.ticks.proofs.Operations.{normal-test, normal-raise, known-raise-own, known-raise-other}
 use Rattle.ticks.proofs.Unique.{normal-sound}
 use Rattle.ticks.proofs.Largest.{alike-all}

@@ -14,8 +14,8 @@ use Rattle.codec.specs.Number.{beAt, Bytes}
 use Rattle.codec.specs.Reply.{Reply, gives, refuses, Line, firstFault}
 use Rattle.layout.specs.Knowledge.{Rules, Lawful}
 use Rattle.layout.specs.Permitted.{Permitted}
-use Rattle.ticks.specs.Meaning.{Among}
 use Rattle.ticks.specs.Calls.{line, wrongLength}
+use Rattle.ticks.proofs.Lists.{Among}
 use Rattle.ticks.proofs.ForCalls.{id-is}
 use Rattle.replication.specs.Formats.{Store, encodeStore, find}
 use Rattle.replication.specs.OpenStore.{openStore}

@@ -17,9 +17,9 @@ use Rattle.layout.specs.Permitted.{Permitted}
 use Rattle.layout.specs.Parse.{Parsed, accepted, refused, parse}
 use Rattle.layout.proofs.Exact.{refused-exact}
 use Rattle.layout.proofs.BackwardRefused.{refused-within}
-use Rattle.ticks.specs.Meaning.{Among}
 use Rattle.ticks.specs.Operations.{normalise, project}
 use Rattle.ticks.specs.Calls.{line, idOf, readAs, ownFault, wrongSpan, resultLines}
+use Rattle.ticks.proofs.Lists.{Among}
 use Rattle.ticks.proofs.ForCalls.{id-is, read-accepted}
 use Rattle.ticks.proofs.Replies.{read-fault, read-fine}
 use Rattle.replication.specs.Formats.{Store, Batch, encodeBatch}

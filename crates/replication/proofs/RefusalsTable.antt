@@ -12,7 +12,7 @@ use lib.Dec.{eqb}
 use borrow.Author.Tests.{eqb-true, eqb-false, not-true}
 use Rattle.codec.specs.Reply.{Reply, gives, refuses, Line, firstFault}
 use Rattle.codec.proofs.Replies.{First, None, fault-exact, fault-gives, fault-none}
-use Rattle.ticks.specs.Meaning.{Among}
+use Rattle.ticks.proofs.Lists.{Among}
 use Rattle.replication.specs.Reading.{both}
 use Rattle.replication.specs.Calls.{then}
 use Rattle.replication.proofs.Tables.{both-parts}

@@ -17,9 +17,10 @@ use Rattle.codec.specs.Reply.{Reply, gives, refuses, firstFault}
 use Rattle.codec.proofs.Replies.{fault-exact, fault-gives, fault-none}
 use Rattle.layout.specs.Knowledge.{Rules, largestTick, Knowledge, Lawful, encode}
 use Rattle.layout.specs.Permitted.{Permitted}
-use Rattle.ticks.specs.Meaning.{highest, known, Among}
+use Rattle.ticks.specs.Meaning.{highest, known}
 use Rattle.ticks.specs.Operations.{covers, coversFor, largest, tooManyReplicas, tooManyRanges}
 use Rattle.ticks.specs.Calls.{line, wrongLength, wrongSpan, resultLines}
+use Rattle.ticks.proofs.Lists.{Among}
 use Rattle.ticks.proofs.Answers.{length-exact, span-exact}
 use Rattle.ticks.proofs.Replies.{ResultSays, over-replicas, over-ranges, result-given, result-says}
 use Rattle.ticks.proofs.Operations.{in-map}

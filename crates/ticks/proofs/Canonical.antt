@@ -6,9 +6,9 @@ use mathlib.Core.Logic.{_⊎_, inl, inr, ⊎-elim}
 use mathlib.Core.List.{List, [], _∷_}
 use native.Mathlib.Omega.{arith}
 use Rattle.layout.specs.Knowledge.{All, Rising}
-use Rattle.ticks.specs.Meaning.{highest, Among}
+use Rattle.ticks.specs.Meaning.{highest}
 use Rattle.ticks.specs.Table.{Row, Table, get, at, eqRow, sorted, within, sample, build, canonical}
-use Rattle.ticks.proofs.Lists.{less, same, more, order, among-all, sorted-in, sorted-only, sorted-rising, within-in, within-only, rising-above}
+use Rattle.ticks.proofs.Lists.{Among, less, same, more, order, among-all, sorted-in, sorted-only, sorted-rising, within-in, within-only, rising-above}
 use Rattle.ticks.proofs.Equality.{exact?, exact-yes, exact-no, eqRow-exact}
 use Rattle.ticks.proofs.Steps.{Changing, at-nil, at-lt, at-ge, changing-weaken, before-steps, steps-unique, Steady, steady-flat}
 use Rattle.ticks.proofs.Rows.{RisingRow, row-unique, get-sample, sample-row}

@@ -10,10 +10,10 @@ use lib.Dec.{eqb}
 use lib.ListN.{length, getD, length-append}
 use borrow.Author.Tests.{eq-eqb, ne-eqb, le-ltb, ltb-false}
 use Rattle.layout.specs.Knowledge.{Limits, Element, Range, Knowledge, Distinct, bounds}
-use Rattle.ticks.specs.Meaning.{highest, tickAt, vectorAt, known, Among, FirstAtZero, NormalOver, Normal}
+use Rattle.ticks.specs.Meaning.{highest, tickAt, vectorAt, known, NormalOver, Normal}
 use Rattle.ticks.specs.Table.{at}
 use Rattle.ticks.specs.Operations.{normalise, merge, project, raise, tooManyReplicas, tooManyRanges}
-use Rattle.ticks.proofs.Lists.{less, same, more, order, among?, all-among, among-left, among-right, rising-distinct, rising-above, in-span, below-span, above-span, inside?}
+use Rattle.ticks.proofs.Lists.{Among, less, same, more, order, among?, all-among, among-left, among-right, rising-distinct, rising-above, in-span, below-span, above-span, inside?}
 use Rattle.ticks.proofs.Equality.{eqb-exact, exact?}
 use Rattle.ticks.proofs.Steps.{stepBounds, Changing, at-lt, at-ge, at-here}
 use Rattle.ticks.proofs.Vectors.{vector-unique, tick-none}
@@ -148,7 +148,7 @@ own-bounds vs (x ∷ xs) = ap (λ bs. x .bound ∷ bs) (own-bounds vs xs)
 -- at two items with the same ticks stands the same vector
 pub vector-same : (k : Knowledge) (i j : ℕ) → NormalOver (k .replicas) k → ((p : ℕ) → known k i p ≡ known k j p) → vectorAt k i ≡ vectorAt k j
 vector-same k i j o f =
-    vector-unique (vectorAt k i) (vectorAt k j) (vectorAt-in-order k i (o .elements)) (vectorAt-in-order k j (o .elements))
+    vector-unique (vectorAt k i) (vectorAt k j) (vectorAt-in-order (k .replicas) k i o) (vectorAt-in-order (k .replicas) k j o)
     (λ key.
     elim (order key (length (k .replicas))) [
       | less h ↦ sym (key-known k i key (o .sound) h) ∙ f (getD (k .replicas) key 0) ∙ key-known k j key (o .sound) h
@@ -187,9 +187,9 @@ bounds-are k i n = (
   (λ h. ⊎-elim (λ m. m) (λ o. absurd (h (λ p. known-steady k i p o))) (among? (suc i) (bounds (k .ranges)))),
 )
 
-first-bound : (xs : List Range) → FirstAtZero xs → Among 0 (bounds xs)
+first-bound : (xs : List Range) → getD (bounds xs) 0 1 ≡ 0 → Among 0 (bounds xs)
 unfolding bounds
-first-bound [] z = z
+first-bound [] z = omega arith
 first-bound (x ∷ xs) z = inl (sym z)
 
 pub zero-bound : (k : Knowledge) → Normal k → Among 0 (bounds (k .ranges))

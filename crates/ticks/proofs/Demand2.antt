@@ -1,42 +1,41 @@
 -- Demand 2 holds. The layout is exact; containment is read off the known ticks; normal forms are known by their ticks, so by
 -- their versions; a result within the limits is lawful, so its bytes read back; and merge's known tick is the larger.
 use Prim.Native.Nat.{ℕ, _≤_}
-use mathlib.Core.Path.{_≡_, refl, sym, _∙_, ap, subst}
+use mathlib.Core.Path.{_≡_, refl, sym, _∙_, ap}
 use mathlib.Core.Logic.{_↔_}
 use mathlib.Core.Bool.{Bool, true, false}
 use mathlib.Core.List.{List}
 use native.Mathlib.Omega.{arith}
 use lib.ListN.{length}
-use Rattle.codec.specs.Number.{Bytes}
+use Rattle.codec.specs.Number.{Bytes, beAt}
 use Rattle.codec.specs.Reply.{Reply, gives, refuses}
 use Rattle.layout.specs.Knowledge.{Rules, basic, Knowledge, Lawful, encode}
 use Rattle.layout.specs.Permitted.{Permitted}
 use Rattle.layout.specs.Parse.{Parsed, accepted, refused, parse}
 use Rattle.layout.proofs.Exact.{exact, read-back, base-permitted}
 use Rattle.ticks.specs.Meaning.{known, contains, Normal}
-use Rattle.ticks.specs.Operations.{normalise, merge, project, tooManyReplicas, tooManyRanges}
+use Rattle.ticks.specs.Operations.{normalise, merge, tooManyReplicas, tooManyRanges}
 use Rattle.ticks.specs.declared.Contain.{Contain}
 use Rattle.ticks.specs.declared.Contain.the-variants as C
-use Rattle.ticks.specs.Calls.{idOf, wrongPlace, containFound, normaliseReply}
-use Rattle.ticks.specs.Demand2.{SameVersions, Normalised, Merged, Projected, Demand2}
+use Rattle.ticks.specs.Calls.{idOf, wrongPlace, containFound}
+use Rattle.ticks.specs.Demand2.{SameVersions, Written, Normalised, Merged, Demand2}
 use Rattle.ticks.proofs.Equality.{clash}
-use Rattle.ticks.proofs.Operations.{normal-normalise, normalise-normal, normal-merge, normal-project, known-project}
+use Rattle.ticks.proofs.Operations.{normal-normalise, normal-merge}
 use Rattle.ticks.proofs.Algebra.{contains-exact, versions-unique, contains-normalise, contains-merge}
-use Rattle.ticks.proofs.Counts.{replicas-fit, ranges-fit}
-use Rattle.ticks.proofs.LawfulResults.{lawful-normalise, lawful-merge, lawful-project}
-use Rattle.ticks.proofs.Replies.{read-lawful, ResultSays, over-replicas, over-ranges, result-given, NormaliseSays, normalise-own, normalise-result, normalise-says, MergeSays, merge-first, merge-second, merge-result, merge-says, ProjectSays, project-own, project-17, project-result, project-says}
+use Rattle.ticks.proofs.LawfulResults.{lawful-normalise, lawful-merge}
+use Rattle.ticks.proofs.Replies.{read-lawful, ResultSays, over-replicas, over-ranges, result-given, NormaliseSays, normalise-own, normalise-result, normalise-says, MergeSays, merge-first, merge-second, merge-result, merge-says}
 use Rattle.ticks.proofs.Answers.{ContainSays, contain-own, contain-17, contain-found, contain-says, place-exact}
 
-gave : (n : ℕ) (bs : List ℕ) {A : Type 0} → refuses n ≡ gives bs → A
+pub gave : (n : ℕ) (bs : List ℕ) {A : Type 0} → refuses n ≡ gives bs → A
 gave n bs e = let z : _≡_ {A = ℕ} 0 1 = cc in absurd (omega arith)
 
 gave-same : (xs ys : List ℕ) → gives xs ≡ gives ys → xs ≡ ys
 gave-same xs ys e = cc
 
-accepted-same : (a b : Knowledge) (p : Parsed) → p ≡ accepted a → p ≡ accepted b → a ≡ b
+pub accepted-same : (a b : Knowledge) (p : Parsed) → p ≡ accepted a → p ≡ accepted b → a ≡ b
 accepted-same a b p e f = cc
 
-not-refused : (k : Knowledge) (n : ℕ) (p : Parsed) {A : Type 0} → p ≡ accepted k → p ≡ refused n → A
+pub not-refused : (k : Knowledge) (n : ℕ) (p : Parsed) {A : Type 0} → p ≡ accepted k → p ≡ refused n → A
 not-refused k n p e f = let z : _≡_ {A = ℕ} 0 1 = cc in absurd (omega arith)
 
 found-contained : (x : Bool) → (containFound x ≡ C.Contained) ↔ (x ≡ true)
@@ -45,25 +44,24 @@ found-contained true = ((λ e. refl), (λ e. refl))
 found-contained false = ((λ e. let z : _≡_ {A = ℕ} 0 1 = cc in absurd (omega arith)), (λ e. clash false e refl))
 
 -- a result that was given
-record Given (R : Rules) (k : Knowledge) (bs : List ℕ) : Type 0 where
-  few : tooManyReplicas (R .limits) k ≡ false
-  short : tooManyRanges (R .limits) k ≡ false
-  bytes : bs ≡ encode k
+pub record Given (R : Rules) (k : Knowledge) (bs : List ℕ) : Type 0 where
+  pub few : tooManyReplicas (R .limits) k ≡ false
+  pub short : tooManyRanges (R .limits) k ≡ false
+  pub bytes : bs ≡ encode k
 
-given-result : (R : Rules) (k : Knowledge) (bs : List ℕ) {r : Reply} → ResultSays R k r → r ≡ gives bs → Given R k bs
+pub given-result : (R : Rules) (k : Knowledge) (bs : List ℕ) {r : Reply} → ResultSays R k r → r ≡ gives bs → Given R k bs
 given-result R k bs (over-replicas e) q = gave 11 bs q
 given-result R k bs (over-ranges e f) q = gave 12 bs q
 given-result R k bs (result-given e f) q = record { few = e; short = f; bytes = sym (gave-same (encode k) bs q) }
 
--- a lawful knowledge's own bytes are given
-given-own : (R : Rules) (k : Knowledge) {r : Reply} → Lawful R k → ResultSays R k r → r ≡ gives (encode k)
-given-own R k l (over-replicas e) = clash (tooManyReplicas (R .limits) k) e (replicas-fit (R .limits) k .1 (l .replicas))
-given-own R k l (over-ranges e f) = clash (tooManyRanges (R .limits) k) f (ranges-fit (R .limits) k .1 (l .ranges))
-given-own R k l (result-given e f) = refl
-
 module _ (R : Rules) (permitted : Permitted (R .limits)) where
+  -- a lawful normal form that was given reads back
+  pub given-written : (k : Knowledge) (bs : List ℕ) → Given R k bs → Lawful R k → Normal k → Written R bs k
+  given-written k bs g l n = record { bytes = g .bytes; back = ap (parse R) (g .bytes) ∙ read-back R permitted k l; normal = n }
+
   versions-of : (s item replica : List ℕ) (t : ℕ) (k : Knowledge) → parse R s ≡ accepted k → length item ≡ 24 → length replica ≡ 16
-      → {x : Contain} → ContainSays R s item replica t x → (x ≡ C.Contained) ↔ ((1 ≤ t) × (t ≤ known k (idOf 24 item) (idOf 16 replica)))
+      → {x : Contain} → ContainSays R s item replica t x → (x ≡ C.Contained) ↔ ((1 ≤ t) × (t ≤ known k (beAt item 24 0) (beAt replica 16 0)))
+  unfolding idOf
   versions-of s item replica t k e f g (contain-own n h) = not-refused k n (parse R s) e h
   versions-of s item replica t k e f g (contain-17 a h w) = clash (wrongPlace item replica) w (place-exact item replica .1 (f, g))
   versions-of s item replica t k e f g (contain-found a h w) =
@@ -80,11 +78,9 @@ module _ (R : Rules) (permitted : Permitted (R .limits)) where
       let g : Given R (normalise k) bs = given-result R (normalise k) bs w q in
       record {
         given = k;
-        written = normalise k;
-        first = h;
-        back = ap (parse R) (g .bytes) ∙ read-back R permitted (normalise k) (lawful-normalise R k (read-lawful R s k permitted b h) (g .short));
-        bytes = g .bytes;
-        normal = normal-normalise k;
+        result = normalise k;
+        read = h;
+        written = given-written (normalise k) bs g (lawful-normalise R k (read-lawful R s k permitted b h) (g .short)) (normal-normalise k);
         versions = contains-normalise k;
       }
 
@@ -96,34 +92,13 @@ module _ (R : Rules) (permitted : Permitted (R .limits)) where
       record {
         one = x;
         other = y;
-        written = merge x y;
+        result = merge x y;
         first = h;
         second = f;
-        back =
-            ap (parse R) (g .bytes)
-            ∙ read-back R permitted (merge x y)
-            (lawful-merge R x y (read-lawful R s x permitted b h) (read-lawful R t y permitted c f) (g .few) (g .short));
-        bytes = g .bytes;
-        normal = normal-merge x y;
+        written =
+            given-written (merge x y) bs g
+            (lawful-merge R x y (read-lawful R s x permitted b h) (read-lawful R t y permitted c f) (g .few) (g .short)) (normal-merge x y);
         versions = λ i p v l. contains-merge x y i p v l;
-      }
-
-  projected-of : (s first last bs : List ℕ) → Bytes s → {r : Reply} → ProjectSays R s first last r → r ≡ gives bs → Projected R s first last bs
-  projected-of s first last bs b (project-own n h) q = gave n bs q
-  projected-of s first last bs b (project-17 k h w) q = gave 17 bs q
-  projected-of s first last bs b (project-result k r h f w) q =
-      let k′ = project (idOf 24 first) (idOf 24 last) k in
-      let g : Given R k′ bs = given-result R k′ bs w q in
-      record {
-        given = k;
-        written = k′;
-        read = h;
-        back =
-            ap (parse R) (g .bytes)
-            ∙ read-back R permitted k′ (lawful-project R (idOf 24 first) (idOf 24 last) k (read-lawful R s k permitted b h) (g .short));
-        bytes = g .bytes;
-        normal = normal-project (idOf 24 first) (idOf 24 last) k;
-        ticks = λ i p l. known-project (idOf 24 first) (idOf 24 last) k i p l;
       }
 
   equal-of : (s t : List ℕ) (a b : Knowledge) → Bytes s → Bytes t → parse R s ≡ accepted a → parse R t ≡ accepted b → Normal a → Normal b
@@ -133,30 +108,13 @@ module _ (R : Rules) (permitted : Permitted (R .limits)) where
     (λ q. versions-unique a b n m .1 (accepted-same a b (parse R t) (ap (parse R) (sym q) ∙ e) f)),
   )
 
-  written-anew : (s : List ℕ) (k : Knowledge) → Bytes s → parse R s ≡ accepted k → Normal k → {r : Reply} → NormaliseSays R s r → r ≡ gives s
-  written-anew s k b e n (normalise-own m h) = not-refused k m (parse R s) e h
-  written-anew s k b e n (normalise-result a r h w) =
-      let same : normalise a ≡ k = ap normalise (accepted-same a k (parse R s) h e) ∙ normalise-normal k n in
-      given-own R k (read-lawful R s k permitted b e) (subst (λ l. ResultSays R l r) same w)
-      ∙ ap gives (sym (exact R permitted s k b .0 e .0))
-
-  test-of : (s : List ℕ) (k : Knowledge) → Bytes s → parse R s ≡ accepted k → Normal k ↔ (normaliseReply R s ≡ gives s)
-  test-of s k b e = (
-    (λ n. written-anew s k b e n (normalise-says R s)),
-    (λ q.
-        let w : Normalised R s s = normalised-of s s b (normalise-says R s) q in
-        subst Normal (accepted-same (w .written) k (parse R s) (w .back) e) (w .normal)),
-  )
-
   pub demand2 : Demand2 R
   demand2 = record {
     layout = λ s k b. exact R permitted s k b;
     versions = λ s item replica t k e f g. versions-of s item replica t k e f g (contain-says R s item replica t);
     equal = equal-of;
-    test = test-of;
     normalised = λ s bs b q. normalised-of s bs b (normalise-says R s) q;
     merged = λ s t bs b c q. merged-of s t bs b c (merge-says R s t) q;
-    projected = λ s first last bs b q. projected-of s first last bs b (project-says R s first last) q;
   }
 
 -- with document 01's limits

@@ -8,8 +8,8 @@ use native.Mathlib.Omega.{arith}
 use lib.Dec.{eqb}
 use lib.ListN.{length}
 use Rattle.layout.specs.Knowledge.{All}
-use Rattle.ticks.specs.Meaning.{place, Among}
-use Rattle.ticks.proofs.Lists.{less, same, more, order}
+use Rattle.ticks.specs.Meaning.{place}
+use Rattle.ticks.proofs.Lists.{Among, less, same, more, order}
 use Rattle.ticks.proofs.Equality.{eqb-exact, exact?, place-same, place-other}
 
 abbrev pub FirstUse : ℕ → List ℕ → ℕ → Type 0

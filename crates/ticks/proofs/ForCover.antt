@@ -9,10 +9,10 @@ use native.Mathlib.Omega.{arith}
 use lib.Dec.{ltb}
 use borrow.Author.Tests.{lt-ltb, le-ltb, ltb-true, ltb-false}
 use Rattle.layout.specs.Knowledge.{Knowledge, bounds}
-use Rattle.ticks.specs.Meaning.{known, Among}
+use Rattle.ticks.specs.Meaning.{known}
 use Rattle.ticks.specs.Table.{sorted, within}
 use Rattle.ticks.specs.Operations.{Place, nowhere, here, lackingAt, orElse, lackingFrom, isNowhere, coversFor}
-use Rattle.ticks.proofs.Lists.{sorted-only, within-only}
+use Rattle.ticks.proofs.Lists.{Among, sorted-only, within-only}
 use Rattle.ticks.proofs.Equality.{clash}
 use Rattle.ticks.proofs.Search.{stops, stop-for}
 

@@ -10,9 +10,9 @@ use lib.Dec.{eqb}
 use lib.ListN.{length, getD, List·getD-eq-default}
 use borrow.Author.Tests.{eq-eqb, ne-eqb}
 use Rattle.layout.specs.Knowledge.{Range, Knowledge, bounds}
-use Rattle.ticks.specs.Meaning.{highest, placeBy, tickAt, indexAt, vectorAt, known, Among, Sound}
+use Rattle.ticks.specs.Meaning.{highest, placeBy, tickAt, indexAt, vectorAt, known, Sound}
 use Rattle.ticks.specs.Operations.{largestAt, largestFrom, largest, alikeFrom, ownAlike}
-use Rattle.ticks.proofs.Lists.{less, same, more, order, among?, all-among}
+use Rattle.ticks.proofs.Lists.{Among, less, same, more, order, among?, all-among}
 use Rattle.ticks.proofs.Equality.{clash, eqb-exact, exact?}
 use Rattle.ticks.proofs.Steps.{steady-from}
 use Rattle.ticks.proofs.Vectors.{tick-nil}

@@ -10,16 +10,17 @@ use lib.Dec.{eqb}
 use lib.ListN.{length, getD}
 use Rattle.layout.specs.Knowledge.{Rules, largestTick, Element, Range, Knowledge, All, Rising, keys, bounds, Lawful}
 use Rattle.layout.proofs.Parts.{LawfulId, LawfulElement, LawfulVector, LawfulRange, parts, whole}
-use Rattle.ticks.specs.Meaning.{highest, placeBy, tickAt, vectorAt, indexAt, known, Among, indices, Sound, FirstAtZero, ElementsInOrder, Normal, emptyKnowledge}
+use Rattle.ticks.specs.Meaning.{highest, placeBy, tickAt, vectorAt, indexAt, known, indices, Sound, Normal, emptyKnowledge}
 use Rattle.ticks.specs.Operations.{normalise, merge, project, raise, tooManyReplicas, tooManyRanges}
-use Rattle.ticks.proofs.Lists.{among?, all-among, among-all, among-cases, rising-distinct, rising-above, in-span, below-span, above-span, inside?}
+use Rattle.ticks.proofs.Lists.{Among, among?, all-among, among-all, among-cases, rising-distinct, rising-above, in-span, below-span, above-span, inside?}
 use Rattle.ticks.proofs.Equality.{eqb-exact, exact?}
 use Rattle.ticks.proofs.Canonical.{highest-suc}
-use Rattle.ticks.proofs.Vectors.{tick-nil, tick-same, tick-other}
+use Rattle.ticks.proofs.Vectors.{keys-length, tick-nil, tick-same, tick-other}
+use Rattle.ticks.proofs.Numbering.{indices-length}
 use Rattle.ticks.proofs.FirstUse.{met-count}
 use Rattle.ticks.proofs.Written.{known-in, known-out}
-use Rattle.ticks.proofs.Rebuilt.{order-first}
-use Rattle.ticks.proofs.Unique.{all-get, key-known, index-bound, replica-known}
+use Rattle.ticks.proofs.Rebuilt.{used-index, order-first}
+use Rattle.ticks.proofs.Unique.{all-get, get-in-order, key-known, index-bound, replica-known}
 use Rattle.ticks.proofs.Operations.{known-normalise, normal-normalise, known-merge, normal-merge, known-project-inside, known-project-below, known-project-above, normal-project, known-raise-own, known-raise-other, normal-raise}
 use Rattle.ticks.proofs.Counts.{normalise-map, merge-map, project-map, raise-map, replicas-fit, ranges-fit, normalise-never-11, project-never-11}
 
@@ -122,22 +123,18 @@ keys-below r (x ∷ xs) key a (inr m) = keys-below r xs key (a .1) m
 nothing-below : (m : ℕ) (es : List Element) → es ≡ [] → All (λ x. x .tick ≤ m) es
 nothing-below m es e = subst (All (λ x. x .tick ≤ m)) (sym e) tt
 
-nothing-in-order : ElementsInOrder []
-unfolding keys
-nothing-in-order = record { rising = tt; ticks = tt }
-
 pub normal-ticks : (k : Knowledge) (m : ℕ) → Normal k → ((i p : ℕ) → i ≤ highest → known k i p ≤ m) → All (All (λ x. x .tick ≤ m)) (k .vectors)
 unfolding vectorAt
 normal-ticks k m n f = all-by-get (All (λ x. x .tick ≤ m)) [] (k .vectors) each
   where
     each : (y : ℕ) → y < length (k .vectors) → All (λ x. x .tick ≤ m) (getD (k .vectors) y [])
-    each zero h = nothing-below m (getD (k .vectors) 0 []) (n .over .vectors .emptyFirst)
+    each zero h = nothing-below m (getD (k .vectors) 0 []) (n .over .emptyFirst)
     each (suc y) h =
-        let w = index-bound 0 (length (k .vectors)) (k .ranges) (suc y) (n .over .sound .rising) (n .over .vectors .used (suc y) (omega arith) h) in
+        let w = index-bound 0 (length (k .vectors)) (k .ranges) (suc y) (n .over .sound .rising) (used-index (k .replicas) k (suc y) (n .over) (omega arith) h) in
         let e : vectorAt k (w .0) ≡ getD (k .vectors) (suc y) [] = ap (λ z. getD (k .vectors) z []) (w .1 .1) in
         let b : w .0 ≤ highest = all-among (λ b. b ≤ highest) (bounds (k .ranges)) (n .over .sound .items) (w .0) (w .1 .0) in
         elements-most m 0 (getD (k .vectors) (suc y) [])
-        (all-get ElementsInOrder [] (k .vectors) (suc y) (n .over .elements) nothing-in-order .rising)
+        (get-in-order (k .replicas) k (suc y) (n .over) .rising)
         (λ key o.
         let l : key < length (k .replicas) =
         keys-below (length (k .replicas)) (getD (k .vectors) (suc y) []) key
@@ -155,22 +152,17 @@ unfolding keys
 keys-all r [] a = tt
 keys-all r (x ∷ xs) a = (a .0, keys-all r xs (a .1))
 
-keys-length : (es : List Element) → length (keys es) ≡ length es
-unfolding keys
-keys-length [] = refl
-keys-length (x ∷ xs) = ap suc (keys-length xs)
-
 lawful-elements : (r : ℕ) (es : List Element) → All (λ x. x .key .0 < r) es → All (λ x. x .tick ≤ largestTick) es → All (LawfulElement r) es
 lawful-elements r [] a b = tt
 lawful-elements r (x ∷ xs) a b = (record { key = a .0; tick = b .0 }, lawful-elements r xs (a .1) (b .1))
 
-lawful-vectors : (r : ℕ) (vs : List (List Element)) → All (All (λ x. x .key .0 < r)) vs → All ElementsInOrder vs → All (All (λ x. x .tick ≤ largestTick)) vs → All (LawfulVector r) vs
+lawful-vectors : (r : ℕ) (vs : List (List Element)) → All (All (λ x. x .key .0 < r)) vs → All (λ es. Rising 0 (keys es)) vs → All (All (λ x. x .tick ≤ largestTick)) vs → All (LawfulVector r) vs
 lawful-vectors r [] a o b = tt
 lawful-vectors r (es ∷ vs) a o b = (
   record {
-    count = omega (arith, keys-length es, rising-count 0 r (keys es) (o .0 .rising) (keys-all r es (a .0)) (omega arith));
+    count = omega (arith, keys-length es, rising-count 0 r (keys es) (o .0) (keys-all r es (a .0)) (omega arith));
     elements = lawful-elements r es (a .0) (b .0);
-    distinct = rising-distinct 0 (keys es) (o .0 .rising);
+    distinct = rising-distinct 0 (keys es) (o .0);
   },
   lawful-vectors r vs (a .1) (o .1) (b .1),
 )
@@ -180,13 +172,9 @@ unfolding bounds
 lawful-ranges v [] a b = tt
 lawful-ranges v (x ∷ xs) a b = (record { size = top-below (x .bound) (b .0); index = a .0 }, lawful-ranges v xs (a .1) (b .1))
 
-indices-length : (xs : List Range) → length (indices xs) ≡ length xs
-unfolding indices
-indices-length [] = refl
-indices-length (x ∷ xs) = ap suc (indices-length xs)
-
-some-range : (xs : List Range) → FirstAtZero xs → 1 ≤ length xs
-some-range [] z = absurd z
+some-range : (xs : List Range) → getD (bounds xs) 0 1 ≡ 0 → 1 ≤ length xs
+unfolding bounds
+some-range [] z = absurd (omega arith)
 some-range (x ∷ xs) z = omega arith
 
 -- a normal form has at most one vector more than ranges
@@ -195,7 +183,7 @@ normal-vectors k n =
     omega (
       arith,
       indices-length (k .ranges),
-      met-count 1 (indices (k .ranges)) (length (k .vectors)) (order-first (k .vectors) (k .ranges) (n .over .vectors) (n .over .sound .indices)),
+      met-count 1 (indices (k .ranges)) (length (k .vectors)) (order-first (k .replicas) k (n .over)),
     )
 
 pub lawful-normal : (R : Rules) (k : Knowledge) → Normal k
@@ -209,9 +197,9 @@ lawful-normal R k n ids ticks few short =
       replicas = r;
       ids = among-all (LawfulId R) (k .replicas) ids;
       distinct = n .over .sound .distinct;
-      someVector = n .over .vectors .someVector;
+      someVector = n .over .someVector;
       vectors = omega (arith, normal-vectors k n);
-      first = n .over .vectors .emptyFirst;
+      first = n .over .emptyFirst;
       clocks = lawful-vectors (length (k .replicas)) (k .vectors) (n .over .sound .keys) (n .over .elements) (normal-ticks k largestTick n ticks);
       someRange = some-range (k .ranges) (n .over .firstRange);
       ranges = g;

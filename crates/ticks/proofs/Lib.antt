@@ -23,4 +23,5 @@ pub mod ForCover
 pub mod Replies
 pub mod Answers
 pub mod Demand2
+pub mod Results
 pub mod Meaning

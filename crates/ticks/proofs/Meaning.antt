@@ -8,9 +8,9 @@ use native.Mathlib.Omega.{arith}
 use lib.ListN.{length, getD, List·getD-eq-default}
 use Rattle.layout.specs.Knowledge.{Rules, largestTick, Element, Range, Knowledge, All, Distinct, Rising, keys, bounds, Lawful}
 use Rattle.layout.proofs.Parts.{LawfulVector, parts}
-use Rattle.ticks.specs.Meaning.{place, tickAt, indexAt, vectorAt, known, Among, Sound}
+use Rattle.ticks.specs.Meaning.{place, tickAt, indexAt, vectorAt, known, Sound}
 use Rattle.ticks.specs.Operations.{largest}
-use Rattle.ticks.proofs.Lists.{less, same, more, order, among?, all-among, rising-above}
+use Rattle.ticks.proofs.Lists.{Among, less, same, more, order, among?, all-among, rising-above}
 use Rattle.ticks.proofs.Vectors.{tick-nil, tick-same, tick-other, key-tick}
 use Rattle.ticks.proofs.Numbering.{index-nil, index-lt, index-ge}
 use Rattle.ticks.proofs.Written.{known-in, known-out}

@@ -8,10 +8,10 @@ use native.Mathlib.Omega.{arith}
 use lib.Dec.{eqb}
 use lib.ListN.{length}
 use Rattle.layout.specs.Knowledge.{All, Distinct, Rising, keys}
-use Rattle.ticks.specs.Meaning.{highest, place, tickAt, vectorAt, known, Among, NormalOver}
+use Rattle.ticks.specs.Meaning.{highest, place, tickAt, vectorAt, known, NormalOver}
 use Rattle.ticks.specs.Table.{Row, Table, get, at, sorted, rowIds, stepIds, usedIds}
 use Rattle.ticks.specs.Written.{vectorFrom, spansFrom, spans, numbered, written}
-use Rattle.ticks.proofs.Lists.{less, same, more, order, among?, sorted-in, sorted-rising}
+use Rattle.ticks.proofs.Lists.{Among, less, same, more, order, among?, sorted-in, sorted-rising}
 use Rattle.ticks.proofs.Equality.{eqb-exact, exact?, place-found}
 use Rattle.ticks.proofs.Steps.{Changing, at-nil, at-lt, at-ge}
 use Rattle.ticks.proofs.Rows.{RisingRow, row-unique, get-nil, get-same, get-other}

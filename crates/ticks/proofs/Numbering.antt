@@ -1,6 +1,6 @@
 -- Numbering the vectors of ranges by first use: each range's index leads to its own vector, the vectors are distinct and
 -- in order of first use, and the knowledge's vector at an item is that of the ranges there.
-use Prim.Native.Nat.{ℕ, suc, _≤_, _<_, max}
+use Prim.Native.Nat.{ℕ, zero, suc, _≤_, _<_, max}
 use mathlib.Core.Path.{_≡_, refl, sym, _∙_, ap, ap₂}
 use mathlib.Core.List.{List, [], _∷_, _++_}
 use native.Mathlib.Omega.{arith}
@@ -8,7 +8,7 @@ use lib.ListN.{length, getD, length-append, List·getD-append}
 use lib.Seq.{getD-append-seam}
 use borrow.Author.Tests.{lt-ltb, le-ltb}
 use Rattle.layout.specs.Knowledge.{Element, Range, All, bounds}
-use Rattle.ticks.specs.Meaning.{indexAt, indices, DifferAfter}
+use Rattle.ticks.specs.Meaning.{indexAt, indices}
 use Rattle.ticks.specs.Table.{at}
 use Rattle.ticks.specs.Written.{range, eqVector, numberOf, grown, vectorsOf, rangesOf}
 use Rattle.ticks.proofs.Lists.{less, same, more, order}
@@ -197,13 +197,27 @@ ranges-at vs seen (x ∷ s) none i e =
         ∙ ih ∙ ap (λ v. at v s i) (ap (λ us. getD us (numberOf (x .1) seen) []) (sym e) ∙ vectors-number seen x s)
         ∙ sym (at-ge (getD vs none []) x s i k)
 
+pub indices-length : (xs : List Range) → length (indices xs) ≡ length xs
+unfolding indices
+indices-length [] = refl
+indices-length (x ∷ xs) = ap suc (indices-length xs)
+
+-- after a range with vector y, neighbouring ranges differ in vector
+abbrev pub Differ : List (List Element) → ℕ → List Range → Type 0
+Differ vs y xs = (n : ℕ) → n < length xs → getD vs (getD (y ∷ indices xs) n 0) [] ≡ getD vs (getD (indices xs) n 0) [] → ⊥
+
+differ-cons : (vs : List (List Element)) (y : ℕ) (x : Range) (xs : List Range) → (getD vs y [] ≡ getD vs (x .index .0) [] → ⊥)
+    → Differ vs (x .index .0) xs → Differ vs y (x ∷ xs)
+unfolding indices
+differ-cons vs y x xs f d zero h = f
+differ-cons vs y x xs f d (suc n) h = d n (omega arith)
+
 -- neighbours differ in vector where the steps change
-pub ranges-differ : (hi lo : ℕ) (vs seen : List (List Element)) (v : List Element) (s : List (ℕ × List Element)) → vectorsOf seen s ≡ vs
-    → Changing hi lo v s → DifferAfter vs v (rangesOf seen s)
-ranges-differ hi lo vs seen v [] e c = rw ranges-nil tt
-ranges-differ hi lo vs seen v (x ∷ s) e c =
+pub ranges-differ : (hi lo : ℕ) (vs seen : List (List Element)) (v : List Element) (y : ℕ) (s : List (ℕ × List Element)) → vectorsOf seen s ≡ vs
+    → getD vs y [] ≡ v → Changing hi lo v s → Differ vs y (rangesOf seen s)
+ranges-differ hi lo vs seen v y [] e p c = rw ranges-nil (λ n h f. omega arith)
+ranges-differ hi lo vs seen v y (x ∷ s) e p c =
     let q : getD vs (numberOf (x .1) seen) [] ≡ x .1 = ap (λ us. getD us (numberOf (x .1) seen) []) (sym e) ∙ vectors-number seen x s in
-    rw ranges-cons (
-      (λ f. c .1 .1 .0 (sym q ∙ f)),
-      rw q (ranges-differ hi (suc (x .0)) vs (grown seen (x .1)) (x .1) s (sym (vectors-cons seen x s) ∙ e) (c .1 .1 .1)),
-    )
+    rw ranges-cons
+    (differ-cons vs y (range (x .0) (numberOf (x .1) seen)) (rangesOf (grown seen (x .1)) s) (λ f. c .1 .1 .0 (sym q ∙ sym f ∙ p))
+    (ranges-differ hi (suc (x .0)) vs (grown seen (x .1)) (x .1) (numberOf (x .1) seen) s (sym (vectors-cons seen x s) ∙ e) q (c .1 .1 .1)))

@@ -10,11 +10,11 @@ use lib.Dec.{eqb}
 use lib.ListN.{length, getD}
 use borrow.Author.Tests.{eq-eqb, ne-eqb}
 use Rattle.layout.specs.Knowledge.{Range, Knowledge, bounds}
-use Rattle.ticks.specs.Meaning.{highest, placeBy, tickAt, indexAt, vectorAt, known, Among, Normal, emptyKnowledge}
+use Rattle.ticks.specs.Meaning.{highest, placeBy, tickAt, indexAt, vectorAt, known, Normal, emptyKnowledge}
 use Rattle.ticks.specs.Table.{get, eqList, eqPair, insert, sorted, inside, within, sample, build, canonical, rowIds, stepIds, usedIds}
 use Rattle.ticks.specs.Written.{vectorFrom, spansFrom, spans, eqElement, grown, vectorsOf, rangesOf, numbered, written, normalOf, eqKnowledge, isNormal}
 use Rattle.ticks.specs.Operations.{normalise, larger, merge, knownInside, project, knownRaised, raise}
-use Rattle.ticks.proofs.Lists.{less, same, more, order, among?, among-left, among-right, inside-true, inside-below, inside-above, in-span, below-span, above-span, inside?}
+use Rattle.ticks.proofs.Lists.{Among, less, same, more, order, among?, among-left, among-right, inside-true, inside-below, inside-above, in-span, below-span, above-span, inside?}
 use Rattle.ticks.proofs.Equality.{eqb-exact, exact?, eqKnowledge-sound, eqKnowledge-self}
 use Rattle.ticks.proofs.Canonical.{SteadyTicks}
 use Rattle.ticks.proofs.Numbering.{index-nil, index-lt, index-ge}

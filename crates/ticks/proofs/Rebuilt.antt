@@ -6,14 +6,15 @@ use native.Mathlib.Omega.{arith}
 use lib.ListN.{length, getD, take, List·getD-eq-default}
 use lib.Seq.{length-take-le, getD-take, take-suc, take-all}
 use Rattle.layout.specs.Knowledge.{Element, Range, Knowledge, All, Rising, bounds}
-use Rattle.ticks.specs.Meaning.{highest, indexAt, vectorAt, indices, FirstAtZero, DifferAfter, NeighboursDiffer, VectorsInOrder, NormalOver}
+use Rattle.ticks.specs.Meaning.{highest, indexAt, vectorAt, indices, NormalOver}
 use Rattle.ticks.specs.Table.{at}
 use Rattle.ticks.specs.Written.{range, eqVector, numberOf, grown, vectorsOf, rangesOf, numbered}
-use Rattle.ticks.proofs.Lists.{less, same, more, order}
+use Rattle.ticks.proofs.Lists.{Among, less, same, more, order}
 use Rattle.ticks.proofs.Equality.{eqVector-exact, place-found, place-first}
 use Rattle.ticks.proofs.Steps.{Changing, at-nil, at-lt, at-ge}
-use Rattle.ticks.proofs.Numbering.{Apart, number-le, grown-old, grown-new, vectors-nil, vectors-cons, ranges-nil, ranges-cons, index-nil, index-lt, index-ge}
+use Rattle.ticks.proofs.Numbering.{Apart, number-le, grown-old, grown-new, vectors-nil, vectors-cons, ranges-nil, ranges-cons, index-nil, index-lt, index-ge, indices-length, Differ}
 use Rattle.ticks.proofs.FirstUse.{FirstUse, met-most, first-use}
+use Rattle.ticks.proofs.Written.{place-among}
 
 -- the ranges, each with its bound and its vector
 unfoldable pub ownSpans : List (List Element) → List Range → List (ℕ × List Element)
@@ -87,15 +88,20 @@ unfolding indices
 all-indices-of v [] a = tt
 all-indices-of v (x ∷ xs) a = (a .0, all-indices-of v xs (a .1))
 
-pub order-apart : (vs : List (List Element)) (xs : List Range) → VectorsInOrder vs xs → Apart vs
-order-apart vs xs o = record { apart = apart }
+pub order-apart : (ids : List ℕ) (k : Knowledge) → NormalOver ids k → Apart (k .vectors)
+order-apart ids k o = record { apart = apart }
   where
-    apart : (y z : ℕ) → y < z → z < length vs → getD vs y [] ≡ getD vs z [] → ⊥
-    apart zero z h k e = o .notEmpty z h k (sym e ∙ o .emptyFirst)
-    apart (suc y) z h k e = o .distinct (suc y) z (omega arith) h k e
+    apart : (y z : ℕ) → y < z → z < length (k .vectors) → getD (k .vectors) y [] ≡ getD (k .vectors) z [] → ⊥
+    apart zero z h l e = o .notEmpty z h l (sym e ∙ o .emptyFirst)
+    apart (suc y) z h l e = o .distinct (suc y) z (omega arith) h l e
 
-pub order-first : (vs : List (List Element)) (xs : List Range) → VectorsInOrder vs xs → All (λ x. x .index .0 < length vs) xs → FirstUse 1 (indices xs) (length vs)
-order-first vs xs o b = first-use 1 (indices xs) (length vs) (o .someVector) (all-indices-of (length vs) xs b) (o .used) (o .firstUse)
+pub used-index : (ids : List ℕ) (k : Knowledge) (y : ℕ) → NormalOver ids k → 1 ≤ y → y < length (k .vectors) → Among y (indices (k .ranges))
+used-index ids k y o h l = place-among y (indices (k .ranges)) (omega (arith, indices-length (k .ranges), o .used y h l))
+
+pub order-first : (ids : List ℕ) (k : Knowledge) → NormalOver ids k → FirstUse 1 (indices (k .ranges)) (length (k .vectors))
+order-first ids k o =
+    first-use 1 (indices (k .ranges)) (length (k .vectors)) (o .someVector) (all-indices-of (length (k .vectors)) (k .ranges) (o .sound .indices))
+    (λ y h l. used-index ids k y o h l) (o .firstUse)
 
 take-one : (vs : List (List Element)) → 1 ≤ length vs → getD vs 0 [] ≡ [] → take 1 vs ≡ [] ∷ []
 take-one [] h e = absurd (omega arith)
@@ -107,9 +113,9 @@ unfolding numbered
 rebuilt ids k o =
     let vs = k .vectors in
     let xs = k .ranges in
-    let a : Apart vs = order-apart vs xs (o .vectors) in
-    let f : FirstUse 1 (indices xs) (length vs) = order-first vs xs (o .vectors) (o .sound .indices) in
-    let e : [] ∷ [] ≡ take 1 vs = sym (take-one vs (o .vectors .someVector) (o .vectors .emptyFirst)) in
+    let a : Apart vs = order-apart ids k o in
+    let f : FirstUse 1 (indices xs) (length vs) = order-first ids k o in
+    let e : [] ∷ [] ≡ take 1 vs = sym (take-one vs (o .someVector) (o .emptyFirst)) in
     let p : vectorsOf ([] ∷ []) (ownSpans vs xs) ≡ vs = ap (λ s. vectorsOf s (ownSpans vs xs)) e ∙ rebuilt-vectors vs a 1 xs f in
     let q : rangesOf ([] ∷ []) (ownSpans vs xs) ≡ xs = ap (λ s. rangesOf s (ownSpans vs xs)) e ∙ rebuilt-ranges vs a 1 xs f in
     λ i. record { replicas = sym (o .replicas) i; vectors = p i; ranges = q i }
@@ -140,12 +146,20 @@ own-vectorAt k i =
     ap (λ v. at v (ownSpans (k .vectors) (k .ranges)) i) (sym (List·getD-eq-default (k .vectors) [] (omega arith)))
     ∙ own-at (k .vectors) (k .ranges) (length (k .vectors)) i
 
-own-changing : (lo : ℕ) (vs : List (List Element)) (v : List Element) (xs : List Range) → Rising lo (bounds xs) → All (λ b. b ≤ highest) (bounds xs)
-    → DifferAfter vs v xs → Changing highest lo v (ownSpans vs xs)
-unfolding ownSpans bounds
-own-changing lo vs v [] r a d = tt
-own-changing lo vs v (x ∷ xs) r a d =
-    (r .0, (a .0, (d .0, own-changing (suc (x .bound)) vs (getD vs (x .index .0) []) xs (r .1) (a .1) (d .1))))
+own-changing : (lo : ℕ) (vs : List (List Element)) (y : ℕ) (xs : List Range) → Rising lo (bounds xs) → All (λ b. b ≤ highest) (bounds xs)
+    → Differ vs y xs → Changing highest lo (getD vs y []) (ownSpans vs xs)
+unfolding ownSpans bounds indices
+own-changing lo vs y [] r a d = tt
+own-changing lo vs y (x ∷ xs) r a d = (
+  r .0,
+  (
+    a .0,
+    (
+      (λ e. d 0 (omega arith) (sym e)),
+      own-changing (suc (x .bound)) vs (x .index .0) xs (r .1) (a .1) (λ n h. d (suc n) (omega arith)),
+    ),
+  ),
+)
 
 -- steps with one at 0, and changes after it
 pub record FromZero (ss : List (ℕ × List Element)) : Type 0 where
@@ -154,15 +168,16 @@ pub record FromZero (ss : List (ℕ × List Element)) : Type 0 where
   pub is : ss ≡ (0, value) ∷ rest
   pub changing : Changing highest 1 value rest
 
-from-zero : (vs : List (List Element)) (xs : List Range) → FirstAtZero xs → Rising 0 (bounds xs) → All (λ b. b ≤ highest) (bounds xs)
-    → NeighboursDiffer vs xs → FromZero (ownSpans vs xs)
-unfolding ownSpans bounds
-from-zero vs [] z r a d = absurd z
+from-zero : (vs : List (List Element)) (xs : List Range) → getD (bounds xs) 0 1 ≡ 0 → Rising 0 (bounds xs) → All (λ b. b ≤ highest) (bounds xs)
+    → ((n : ℕ) → suc n < length xs → getD vs (getD (indices xs) n 0) [] ≡ getD vs (getD (indices xs) (suc n) 0) [] → ⊥)
+    → FromZero (ownSpans vs xs)
+unfolding ownSpans bounds indices
+from-zero vs [] z r a d = absurd (omega arith)
 from-zero vs (x ∷ xs) z r a d = record {
   value = getD vs (x .index .0) [];
   rest = ownSpans vs xs;
   is = ap (λ b. (b, getD vs (x .index .0) []) ∷ ownSpans vs xs) z;
-  changing = own-changing 1 vs (getD vs (x .index .0) []) xs (rw z at (r .1)) (a .1) d;
+  changing = own-changing 1 vs (x .index .0) xs (rw z at (r .1)) (a .1) (λ n h. d n (omega arith));
 }
 
 pub normal-from-zero : (ids : List ℕ) (k : Knowledge) → NormalOver ids k → FromZero (ownSpans (k .vectors) (k .ranges))

@@ -8,8 +8,7 @@ use lib.Dec.{eqb}
 use borrow.Author.Tests.{eq-eqb, ne-eqb}
 use Rattle.layout.specs.Knowledge.{Rising}
 use Rattle.ticks.specs.Table.{Row, get, sample}
-use Rattle.ticks.specs.Meaning.{Among}
-use Rattle.ticks.proofs.Lists.{less, same, more, order}
+use Rattle.ticks.proofs.Lists.{Among, less, same, more, order}
 use Rattle.ticks.proofs.Equality.{eqb-exact, exact?}
 
 -- ids rising from lo on, ticks 1 or more

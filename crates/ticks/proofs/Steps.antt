@@ -7,8 +7,7 @@ use mathlib.Core.List.{List, [], _∷_}
 use native.Mathlib.Omega.{arith}
 use borrow.Author.Tests.{lt-ltb, le-ltb}
 use Rattle.ticks.specs.Table.{at}
-use Rattle.ticks.specs.Meaning.{Among}
-use Rattle.ticks.proofs.Lists.{less, same, more, order, among?}
+use Rattle.ticks.proofs.Lists.{Among, less, same, more, order, among?}
 
 -- the bounds of steps
 unfoldable pub stepBounds : {A : Type 0} → List (ℕ × A) → List ℕ

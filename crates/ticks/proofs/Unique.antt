@@ -8,17 +8,17 @@ use native.Mathlib.Omega.{arith}
 use lib.Dec.{eqb}
 use lib.ListN.{length, getD}
 use Rattle.layout.specs.Knowledge.{Element, Range, Knowledge, All, Distinct, Rising, keys, bounds}
-use Rattle.ticks.specs.Meaning.{highest, place, tickAt, indexAt, vectorAt, known, Among, indices, Sound, ElementsInOrder, NormalOver, Normal}
+use Rattle.ticks.specs.Meaning.{highest, place, tickAt, indexAt, vectorAt, known, indices, Sound, NormalOver, Normal}
 use Rattle.ticks.specs.Table.{at}
 use Rattle.ticks.specs.Written.{numbered}
-use Rattle.ticks.proofs.Lists.{less, same, more, order, among?, all-among, rising-above, rising-unique}
+use Rattle.ticks.proofs.Lists.{Among, less, same, more, order, among?, all-among, rising-above, rising-unique}
 use Rattle.ticks.proofs.Equality.{eqb-exact, place-first, place-found}
 use Rattle.ticks.proofs.Steps.{Changing, at-ge, before-steps, steps-unique}
-use Rattle.ticks.proofs.Vectors.{vector-unique, tick-none, tick-key}
+use Rattle.ticks.proofs.Vectors.{ElementsInOrder, vector-unique, tick-none, tick-key}
 use Rattle.ticks.proofs.Numbering.{index-nil, index-lt, index-ge}
 use Rattle.ticks.proofs.Written.{among-place, among-get, known-in, known-out}
 use Rattle.ticks.proofs.Used.{used-get}
-use Rattle.ticks.proofs.Rebuilt.{ownSpans, rebuilt, own-vectorAt, FromZero, normal-from-zero}
+use Rattle.ticks.proofs.Rebuilt.{ownSpans, used-index, rebuilt, own-vectorAt, FromZero, normal-from-zero}
 
 -- Sound knowledges
 
@@ -50,13 +50,17 @@ all-get P d [] n a p = p
 all-get P d (x ∷ xs) zero a p = a .0
 all-get P d (x ∷ xs) (suc n) a p = all-get P d xs n (a .1) p
 
-nothing-in-order : ElementsInOrder []
+-- the vectors of a knowledge that meets the conditions, by their places
+pub get-in-order : (ids : List ℕ) (k : Knowledge) (y : ℕ) → NormalOver ids k → ElementsInOrder (getD (k .vectors) y [])
 unfolding keys
-nothing-in-order = record { rising = tt; ticks = tt }
+get-in-order ids k y o = record {
+  rising = all-get (λ es. Rising 0 (keys es)) [] (k .vectors) y (o .elements) tt;
+  ticks = all-get (All (λ x. 1 ≤ x .tick)) [] (k .vectors) y (o .ticks) tt;
+}
 
-pub vectorAt-in-order : (k : Knowledge) (i : ℕ) → All ElementsInOrder (k .vectors) → ElementsInOrder (vectorAt k i)
+pub vectorAt-in-order : (ids : List ℕ) (k : Knowledge) (i : ℕ) → NormalOver ids k → ElementsInOrder (vectorAt k i)
 unfolding vectorAt
-vectorAt-in-order k i a = all-get ElementsInOrder [] (k .vectors) (indexAt (length (k .vectors)) (k .ranges) i) a nothing-in-order
+vectorAt-in-order ids k i o = get-in-order ids k (indexAt (length (k .vectors)) (k .ranges) i) o
 
 pub vectorAt-keys : (k : Knowledge) (i : ℕ) → Sound k → All (λ x. x .key .0 < length (k .replicas)) (vectorAt k i)
 unfolding vectorAt
@@ -100,14 +104,13 @@ replica-known k p n m =
     let some : 1 ≤ u .0 =
     elim (order (u .0) 0) [
       | less h ↦ absurd (omega arith)
-      | same h ↦ absurd (no-key key (getD (k .vectors) (u .0) []) (ap (λ y. getD (k .vectors) y []) h ∙ o .vectors .emptyFirst) (u .1 .1))
+      | same h ↦ absurd (no-key key (getD (k .vectors) (u .0) []) (ap (λ y. getD (k .vectors) y []) h ∙ o .emptyFirst) (u .1 .1))
       | more h ↦ h
     ] in
-    let w = index-bound 0 (length (k .vectors)) (k .ranges) (u .0) (o .sound .rising) (o .vectors .used (u .0) some (u .1 .0)) in
+    let w = index-bound 0 (length (k .vectors)) (k .ranges) (u .0) (o .sound .rising) (used-index (k .replicas) k (u .0) o some (u .1 .0)) in
     let e : vectorAt k (w .0) ≡ getD (k .vectors) (u .0) [] = ap (λ y. getD (k .vectors) y []) (w .1 .1) in
     let t : 1 ≤ tickAt (getD (k .vectors) (u .0) []) key =
-    tick-key (getD (k .vectors) (u .0) []) key
-    (all-get ElementsInOrder [] (k .vectors) (u .0) (o .elements) nothing-in-order .ticks) (u .1 .1) in (
+    tick-key (getD (k .vectors) (u .0) []) key (get-in-order (k .replicas) k (u .0) o .ticks) (u .1 .1) in (
       w .0,
       (
         all-among (λ b. b ≤ highest) (bounds (k .ranges)) (o .sound .items) (w .0) (w .1 .0),
@@ -134,7 +137,7 @@ same-map a b n m f =
 pub same-vector : (a b : Knowledge) → NormalOver (a .replicas) a → NormalOver (a .replicas) b → SameTicks a b → (i : ℕ) → i ≤ highest → vectorAt a i ≡ vectorAt b i
 same-vector a b o q f i h =
     let e : b .replicas ≡ a .replicas = q .replicas in
-    vector-unique (vectorAt a i) (vectorAt b i) (vectorAt-in-order a i (o .elements)) (vectorAt-in-order b i (q .elements))
+    vector-unique (vectorAt a i) (vectorAt b i) (vectorAt-in-order (a .replicas) a i o) (vectorAt-in-order (a .replicas) b i q)
     (λ key.
     elim (order key (length (a .replicas))) [
       | less k ↦ found e key k

@@ -4,37 +4,47 @@ use mathlib.Core.Path.{_≡_, _∙_, ap}
 use mathlib.Core.Logic.{_⊎_, inl, inr, ⊎-elim}
 use mathlib.Core.List.{List, [], _∷_}
 use native.Mathlib.Omega.{arith}
+use lib.Dec.{eqb}
 use lib.ListN.{length, getD}
-use Rattle.layout.specs.Knowledge.{Element, keys}
-use Rattle.ticks.specs.Meaning.{highest, tickAt, known, Among, Normal, UsedIn}
+use Rattle.layout.specs.Knowledge.{Element, All, keys}
+use Rattle.ticks.specs.Meaning.{highest, place, tickAt, known, Normal}
 use Rattle.ticks.specs.Table.{Row, Table, get, canonical, rowIds, stepIds, usedIds}
 use Rattle.ticks.specs.Written.{vectorFrom, spansFrom, spans, numberOf, grown, vectorsOf, numbered, written, normalOf}
-use Rattle.ticks.proofs.Lists.{sorted-only, rising-distinct}
+use Rattle.ticks.proofs.Lists.{less, same, more, order, Among, sorted-only, rising-distinct}
+use Rattle.ticks.proofs.Equality.{eqb-exact, place-le}
 use Rattle.ticks.proofs.Canonical.{RisingRows, CanonicalTable, canonical-table, canonical-ticks, SteadyTicks}
-use Rattle.ticks.proofs.Vectors.{vector-tick, key-tick}
+use Rattle.ticks.proofs.Vectors.{keys-length, vector-tick, key-tick}
 use Rattle.ticks.proofs.Numbering.{grown-length, vectors-cons, vectors-length, vectors-number}
-use Rattle.ticks.proofs.Written.{among-get}
+use Rattle.ticks.proofs.Written.{among-place, place-among, among-get}
 use Rattle.ticks.proofs.NormalForm.{spans-cons, row-ids-only, normal-written, known-written, used-over, used-rising}
 
-pub used-at : (key n : ℕ) (vs : List (List Element)) → n < length vs → Among key (keys (getD vs n [])) → UsedIn key vs
-used-at key n [] h m = absurd (omega arith)
-used-at key zero (v ∷ vs) h m = inl m
-used-at key (suc n) (v ∷ vs) h m = inr (used-at key n vs (omega arith) m)
+-- every vector is without the key
+abbrev pub Unused : ℕ → List (List Element) → Type 0
+Unused key vs = All (λ es. place key (keys es) ≡ length es) vs
+
+pub used-at : (key n : ℕ) (vs : List (List Element)) → n < length vs → Among key (keys (getD vs n [])) → Unused key vs → ⊥
+used-at key n [] h m a = omega arith
+used-at key zero (v ∷ vs) h m a = omega (arith, keys-length v, among-place key (keys v) m, a .0)
+used-at key (suc n) (v ∷ vs) h m a = used-at key n vs (omega arith) m (a .1)
 
 -- the vector that uses a key, by its place
-pub used-get : (key : ℕ) (vs : List (List Element)) → UsedIn key vs → (n : ℕ) × ((n < length vs) × Among key (keys (getD vs n [])))
-used-get key [] u = absurd u
-used-get key (v ∷ vs) (inl m) = (0, (omega arith, m))
-used-get key (v ∷ vs) (inr u) =
-    let w = used-get key vs u in
-    (suc (w .0), (omega (arith, w .1 .0), w .1 .1))
+pub used-get : (key : ℕ) (vs : List (List Element)) → (Unused key vs → ⊥) → (n : ℕ) × ((n < length vs) × Among key (keys (getD vs n [])))
+used-get key [] u = absurd (u tt)
+used-get key (v ∷ vs) u =
+    elim (order (place key (keys v)) (length v)) [
+      | less h ↦ (0, (omega arith, place-among key (keys v) (omega (arith, keys-length v))))
+      | same h ↦
+          let w = used-get key vs (λ a. u (h, a)) in
+          (suc (w .0), (omega (arith, w .1 .0), w .1 .1))
+      | more h ↦ absurd (omega (arith, keys-length v, place-le eqb eqb-exact key (keys v)))
+    ]
 
 -- some range's own vector uses the key
 abbrev UsedSpan : ℕ → List (ℕ × List Element) → Type 0
 UsedSpan key [] = ⊥
 UsedSpan key (e ∷ s) = Among key (keys (e .1)) ⊎ UsedSpan key s
 
-spans-used : (key : ℕ) (seen : List (List Element)) (s : List (ℕ × List Element)) → UsedSpan key s → UsedIn key (vectorsOf seen s)
+spans-used : (key : ℕ) (seen : List (List Element)) (s : List (ℕ × List Element)) → UsedSpan key s → Unused key (vectorsOf seen s) → ⊥
 spans-used key seen [] u = absurd u
 spans-used key seen (e ∷ s) (inl m) =
     used-at key (numberOf (e .1) seen) (vectorsOf seen (e ∷ s))

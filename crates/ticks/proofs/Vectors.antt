@@ -10,11 +10,22 @@ use lib.Dec.{eqb}
 use lib.ListN.{length, getD}
 use borrow.Author.Tests.{eq-eqb, ne-eqb}
 use Rattle.layout.specs.Knowledge.{Element, All, Rising, keys}
-use Rattle.ticks.specs.Meaning.{tickAt, Among, ElementsInOrder}
+use Rattle.ticks.specs.Meaning.{tickAt}
 use Rattle.ticks.specs.Table.{Row, get}
 use Rattle.ticks.specs.Written.{element, vectorFrom}
+use Rattle.ticks.proofs.Lists.{Among}
 use Rattle.ticks.proofs.Equality.{eqb-exact, exact?}
 use Rattle.ticks.proofs.Rows.{RisingRow, get-before, row-unique}
+
+-- elements by rising key, ticks 1 or more
+pub record ElementsInOrder (es : List Element) : Type 0 where
+  pub rising : Rising 0 (keys es)
+  pub ticks : All (λ x. 1 ≤ x .tick) es
+
+pub keys-length : (es : List Element) → length (keys es) ≡ length es
+unfolding keys
+keys-length [] = refl
+keys-length (x ∷ xs) = ap suc (keys-length xs)
 
 -- a vector as a row of keys and ticks
 unfoldable pub asRow : List Element → Row

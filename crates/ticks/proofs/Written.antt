@@ -8,14 +8,15 @@ use native.Mathlib.Omega.{arith}
 use lib.Dec.{eqb}
 use lib.ListN.{length, getD, List·getD-eq-default}
 use borrow.Author.Tests.{lt-ltb, le-ltb}
-use Rattle.layout.specs.Knowledge.{Element, Range, Knowledge, All, Distinct, Rising, keys}
-use Rattle.ticks.specs.Meaning.{highest, place, tickAt, vectorAt, known, Among, Sound, indices, VectorsInOrder, ElementsInOrder, NormalOver}
+use Rattle.layout.specs.Knowledge.{Element, Range, Knowledge, All, Distinct, Rising, keys, bounds}
+use Rattle.ticks.specs.Meaning.{highest, place, tickAt, vectorAt, known, Sound, indices, NormalOver}
 use Rattle.ticks.specs.Table.{at}
-use Rattle.ticks.specs.Written.{grown, vectorsOf, rangesOf, numbered}
-use Rattle.ticks.proofs.Lists.{less, same, more, order}
+use Rattle.ticks.specs.Written.{numberOf, grown, vectorsOf, rangesOf, numbered}
+use Rattle.ticks.proofs.Lists.{Among, less, same, more, order}
 use Rattle.ticks.proofs.Equality.{eqb-exact, exact?, place-same, place-other}
 use Rattle.ticks.proofs.Steps.{stepBounds, Changing}
-use Rattle.ticks.proofs.Numbering.{Apart, vectors-cons, vectors-length, vectors-keep, vectors-number, vectors-apart, vectors-all, ranges-cons, ranges-bounds, ranges-first, ranges-at, ranges-differ}
+use Rattle.ticks.proofs.Vectors.{ElementsInOrder}
+use Rattle.ticks.proofs.Numbering.{Apart, vectors-cons, vectors-length, vectors-keep, vectors-number, vectors-apart, vectors-all, ranges-cons, ranges-bounds, ranges-first, ranges-at, indices-length, ranges-differ}
 use Rattle.ticks.proofs.FirstUse.{FirstUse, first-below, first-used, first-order}
 
 -- Places in a replica map
@@ -87,17 +88,17 @@ pub record VectorOver (r : ℕ) (es : List Element) : Type 0 where
 start-apart : Apart ([] ∷ [])
 start-apart = record { apart = λ y z h k e. omega arith }
 
-nothing-in-order : ElementsInOrder []
-unfolding keys
-nothing-in-order = record { rising = tt; ticks = tt }
-
 over-keys : (r : ℕ) (s : List (ℕ × List Element)) → All (λ e. VectorOver r (e .1)) s → All (λ e. All (λ x. x .key .0 < r) (e .1)) s
 over-keys r [] a = tt
 over-keys r (e ∷ s) a = (a .0 .keys, over-keys r s (a .1))
 
-over-order : (r : ℕ) (s : List (ℕ × List Element)) → All (λ e. VectorOver r (e .1)) s → All (λ e. ElementsInOrder (e .1)) s
-over-order r [] a = tt
-over-order r (e ∷ s) a = (a .0 .order, over-order r s (a .1))
+over-rising : (r : ℕ) (s : List (ℕ × List Element)) → All (λ e. VectorOver r (e .1)) s → All (λ e. Rising 0 (keys (e .1))) s
+over-rising r [] a = tt
+over-rising r (e ∷ s) a = (a .0 .order .rising, over-rising r s (a .1))
+
+over-ticks : (r : ℕ) (s : List (ℕ × List Element)) → All (λ e. VectorOver r (e .1)) s → All (λ e. All (λ x. 1 ≤ x .tick) (e .1)) s
+over-ticks r [] a = tt
+over-ticks r (e ∷ s) a = (a .0 .order .ticks, over-ticks r s (a .1))
 
 module _ (ids : List ℕ) (distinct : Distinct ids) (w : List Element) (s : List (ℕ × List Element))
     (over : VectorOver (length ids) w) (overs : All (λ e. VectorOver (length ids) (e .1)) s) (changing : Changing highest 1 w s) where
@@ -113,31 +114,36 @@ module _ (ids : List ℕ) (distinct : Distinct ids) (w : List Element) (s : List
     items = rw ranges-bounds (omega arith, changing-top highest 1 w s changing);
   }
 
-  numbered-vectors : VectorsInOrder (vectorsOf ([] ∷ []) ((0, w) ∷ s)) (rangesOf ([] ∷ []) ((0, w) ∷ s))
-  numbered-vectors =
+  numbered-differ : (n : ℕ) → suc n < length (rangesOf ([] ∷ []) ((0, w) ∷ s))
+      → getD (vectorsOf ([] ∷ []) ((0, w) ∷ s)) (getD (indices (rangesOf ([] ∷ []) ((0, w) ∷ s))) n 0) []
+      ≡ getD (vectorsOf ([] ∷ []) ((0, w) ∷ s)) (getD (indices (rangesOf ([] ∷ []) ((0, w) ∷ s))) (suc n) 0) [] → ⊥
+  unfolding indices
+  numbered-differ =
+      rw (ranges-cons ([] ∷ []) (0, w) s)
+      (λ n h.
+      ranges-differ highest 1 (vectorsOf ([] ∷ []) ((0, w) ∷ s)) (grown ([] ∷ []) w) w (numberOf w ([] ∷ [])) s (sym (vectors-cons ([] ∷ []) (0, w) s))
+      (vectors-number ([] ∷ []) (0, w) s) changing n (omega arith))
+
+  pub normal-numbered : NormalOver ids (numbered ids ((0, w) ∷ s))
+  unfolding numbered keys bounds
+  normal-numbered =
       let vs = vectorsOf ([] ∷ []) ((0, w) ∷ s) in
-      let xs = indices (rangesOf ([] ∷ []) ((0, w) ∷ s)) in
+      let rs = rangesOf ([] ∷ []) ((0, w) ∷ s) in
+      let xs = indices rs in
       let first : FirstUse 1 xs (length vs) = ranges-first ([] ∷ []) ((0, w) ∷ s) in
       let e : getD vs 0 [] ≡ [] = vectors-keep ([] ∷ []) ((0, w) ∷ s) 0 (omega arith) in
       let a : Apart vs = vectors-apart ([] ∷ []) ((0, w) ∷ s) start-apart in
       record {
+        replicas = refl;
+        sound = numbered-sound;
+        firstRange = rw ranges-cons refl;
+        neighbours = numbered-differ;
         someVector = omega (arith, vectors-length ([] ∷ []) ((0, w) ∷ s));
         emptyFirst = e;
         firstUse = λ y z h k l. first-order 1 xs (length vs) y z first h k l;
         distinct = λ y z h k l q. a .apart y z k l q;
         notEmpty = λ y h k q. a .apart 0 y h k (e ∙ sym q);
-        used = λ y h k. first-used 1 xs (length vs) y first h k;
+        used = λ y h k. omega (arith, indices-length rs, among-place y xs (first-used 1 xs (length vs) y first h k));
+        elements = vectors-all (λ es. Rising 0 (keys es)) ([] ∷ []) ((0, w) ∷ s) (tt, tt) (over .order .rising, over-rising (length ids) s overs);
+        ticks = vectors-all (All (λ x. 1 ≤ x .tick)) ([] ∷ []) ((0, w) ∷ s) (tt, tt) (over .order .ticks, over-ticks (length ids) s overs);
       }
-
-  pub normal-numbered : NormalOver ids (numbered ids ((0, w) ∷ s))
-  unfolding numbered
-  normal-numbered = record {
-    replicas = refl;
-    sound = numbered-sound;
-    firstRange = rw ranges-cons refl;
-    neighbours =
-        rw (ranges-cons ([] ∷ []) (0, w) s, vectors-number ([] ∷ []) (0, w) s)
-        (ranges-differ highest 1 (vectorsOf ([] ∷ []) ((0, w) ∷ s)) (grown ([] ∷ []) w) w s (sym (vectors-cons ([] ∷ []) (0, w) s)) changing);
-    vectors = numbered-vectors;
-    elements = vectors-all ElementsInOrder ([] ∷ []) ((0, w) ∷ s) (nothing-in-order, tt) (over .order, over-order (length ids) s overs);
-  }

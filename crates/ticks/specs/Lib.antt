@@ -5,3 +5,4 @@ pub mod Written
 pub mod Operations
 pub mod Calls
 pub mod Demand2
+pub mod Results
