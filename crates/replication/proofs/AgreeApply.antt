@@ -25,7 +25,7 @@ use Rattle.replication.specs.Reading.{both}
 use Rattle.replication.specs.OpenBatch.{inSpan, lacksChange}
 use Rattle.replication.specs.Operate.{join, applied}
 use Rattle.replication.specs.Machine.{Ticks, Remembered, State, holds, greatest, learns, withTicks, applies}
-use Rattle.replication.specs.Lists.{World, putAt, keepStore}
+use Rattle.replication.specs.Lists.{World, putAt}
 use Rattle.replication.proofs.Best.{Mem, Contained, holds-contained, contained-holds, Apart, greatest-item, greatest-holds}
 use Rattle.replication.proofs.MachineGreatest.{greater, greatest-equal, greatest-larger, greatest-covered, greatest-nothing}
 use Rattle.replication.proofs.MachineSteps.{with-same, with-other, learns-below, learns-above, learns-inside}
@@ -35,7 +35,7 @@ use Rattle.replication.proofs.TablesJoin.{joined, joined-left, joined-r
 use Rattle.replication.proofs.TablesSelected.{kept, kept-none, kept-in, kept-out}
 use Rattle.replication.proofs.AgreeLines.{Room, ApplyMet}
 use Rattle.replication.proofs.AgreeForm.{merge-form}
-use Rattle.replication.proofs.AgreeInvariant.{StoreFollows, BatchFollows, Paired, Follows}
+use Rattle.replication.proofs.AgreeInvariant.{StoreFollows, BatchFollows, stored, Paired, Follows}
 use Rattle.replication.proofs.AgreeEdit.{put-same, put-other, same?, store-moved}
 
 -- ---- inside the span or not
@@ -164,8 +164,8 @@ module _ (R : Rules) (s t bs : List ℕ) (vs : List Rec) (k : Ticks) (p : ℕ) (
 -- ---- the whole step
 
 module _ (R : Rules) (w : World) (m : State) (f : Follows R w m) (who : ℕ) (small : who < 256 ^ 16) (t bs : List ℕ) (b : Remembered) (g : BatchFollows R t (m .versions) b) where
-  pub apply-follows : Good (applies who (some b) m) → ApplyMet R (f .stores who small .st) (g .b) bs → Follows R (keepStore who (some bs) w) (applies who (some b) m)
-  unfolding keepStore applies
+  pub apply-follows : Good (applies who (some b) m) → ApplyMet R (f .stores who small .st) (g .b) bs → Follows R (stored who bs w) (applies who (some b) m)
+  unfolding stored applies
   apply-follows good h =
       record {
         good = good;

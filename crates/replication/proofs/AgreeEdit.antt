@@ -23,7 +23,7 @@ use Rattle.ticks.proofs.LawfulResults.{top-below, below-top}
 use Rattle.replication.specs.Formats.{Rec, Store, encodeStore, items, find}
 use Rattle.replication.specs.Operate.{replace, nextTick, changedRec, changed}
 use Rattle.replication.specs.Machine.{Ticks, Remembered, State, holds, greatest, largestKnown, recordOf, withTicks, ownTick, changes}
-use Rattle.replication.specs.Lists.{World, putAt, keepStore}
+use Rattle.replication.specs.Lists.{World, putAt}
 use Rattle.replication.proofs.Best.{Mem, mem-added, Contained, holds-contained, contained-holds, not-holds}
 use Rattle.replication.proofs.MachineGreatest.{greatest-alike, holds-alike, greatest-equal, greatest-added-lacks, greatest-added-other, greatest-added-above}
 use Rattle.replication.proofs.Supremum.{largest-known-bounds, largest-known-is}
@@ -31,7 +31,7 @@ use Rattle.replication.proofs.Tables.{replace-rising, find-replace-same
 use Rattle.replication.proofs.TablesSelected.{kept}
 use Rattle.replication.proofs.AgreeLines.{Room}
 use Rattle.replication.proofs.AgreeForm.{Form, raise-form}
-use Rattle.replication.proofs.AgreeInvariant.{Proper, StoreFollows, BatchFollows, Paired, Follows}
+use Rattle.replication.proofs.AgreeInvariant.{Proper, StoreFollows, BatchFollows, stored, Paired, Follows}
 use Rattle.replication.proofs.MachineSteps.{own-same, own-other, with-same, with-other}
 use Rattle.replication.proofs.MachineLaws.{Good}
 
@@ -262,8 +262,8 @@ module _ (R : Rules) (accepts : (id : ℕ) → R .judge id ≡ 0) (w : World) (m
       let s = f .stores who small in
       ap (λ (n : ℕ). 1 + n) (sym (largest-same R (s .st .knowledge) (m .ticks who) (s .form) (s .ticks) (λ i q h. f .good .strangers who i q h)))
 
-  pub change-follows : (bs : List ℕ) → Good (changes kind who item tag m) → (kind ≡ 1) ⊎ (kind ≡ 2) → item ≤ highest → tag < 256 ^ 16 → (kind ≡ 2 → tag ≡ 0) → largest (f .stores who small .st .knowledge) < largestTick → Room R (changed kind item tag (f .stores who small .st)) → bs ≡ encodeStore (changed kind item tag (f .stores who small .st)) → Follows R (keepStore who (some bs) w) (changes kind who item tag m)
-  unfolding keepStore changes
+  pub change-follows : (bs : List ℕ) → Good (changes kind who item tag m) → (kind ≡ 1) ⊎ (kind ≡ 2) → item ≤ highest → tag < 256 ^ 16 → (kind ≡ 2 → tag ≡ 0) → largest (f .stores who small .st .knowledge) < largestTick → Room R (changed kind item tag (f .stores who small .st)) → bs ≡ encodeStore (changed kind item tag (f .stores who small .st)) → Follows R (stored who bs w) (changes kind who item tag m)
+  unfolding stored changes
   change-follows bs good kinds top16 tag16 bare below room bytes =
       record {
         good = good;

@@ -23,7 +23,7 @@ use Rattle.replication.specs.Reading.{both}
 use Rattle.replication.specs.OpenStore.{versionsIn, openStore}
 use Rattle.replication.specs.OpenBatch.{inSpan, lacksChange, carried, openBatch}
 use Rattle.replication.specs.Machine.{Ticks, Remembered, State, holds, greatest}
-use Rattle.replication.specs.Lists.{World}
+use Rattle.replication.specs.Lists.{World, putAt}
 use Rattle.replication.proofs.Best.{Mem, Contained, holds-contained, greatest-top}
 use Rattle.replication.proofs.Tables.{ValidRec, valid-recs, all-find, both-parts, both-holds, in-span}
 use Rattle.replication.proofs.TablesSelected.{kept, kept-none, kept-in, kept-out}
@@ -211,6 +211,10 @@ module _ (R : Rules) (permitted : Permitted (R .limits)) (s : List ℕ) (vs : Li
       ap (openBatch R) (f .bytes) ∙ batch-open R (f .b) permitted batch-fits (valid-batch (R .limits) (f .b) .1 batch-valid)
 
 -- ---- world and machine
+
+-- the world with other bytes of one store
+unfoldable pub stored : ℕ → List ℕ → World → World
+stored who bs w = record { stores = putAt who bs (w .stores); batches = w .batches }
 
 abbrev pub Paired : Rules → List Rec → List (List ℕ) → List Remembered → Type 0
 Paired R vs [] [] = Unit {0}

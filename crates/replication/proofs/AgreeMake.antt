@@ -23,7 +23,7 @@ use Rattle.ticks.proofs.ForCalls.{id-is, Within}
 use Rattle.replication.specs.Formats.{Rec, Store, Batch, encodeBatch, find}
 use Rattle.replication.specs.Operate.{selected, made}
 use Rattle.replication.specs.Machine.{Ticks, Remembered, State, value, greatest, acts}
-use Rattle.replication.specs.Lists.{Call, make, World, keepBatch}
+use Rattle.replication.specs.Lists.{Call, make, World, keep}
 use Rattle.replication.proofs.Supremum.{value-be}
 use Rattle.replication.proofs.TablesSelected.{kept, selected-rising, find-selected}
 use Rattle.replication.proofs.AgreeLines.{MakeMet}
@@ -68,8 +68,8 @@ module _ (R : Rules) (s bs : List ℕ) (vs : List Rec) (k : Ticks) (who : ℕ) (
       }
 
 module _ (R : Rules) (permitted : Permitted (R .limits)) (w : World) (m : State) (f : Follows R w m) (who : ℕ) (knowledge first last : List ℕ) (room : ℕ) (small : who < 256 ^ 16) (bytesK : Bytes knowledge) (bytesF : Bytes first) (bytesL : Bytes last) where
-  pub make-follows : (bs : List ℕ) → Good (acts m (make who knowledge first last room)) → MakeMet R (f .stores who small .st) knowledge first last bs → Follows R (keepBatch (some bs) w) (acts m (make who knowledge first last room))
-  unfolding keepBatch acts
+  pub make-follows : (bs : List ℕ) → Good (acts m (make who knowledge first last room)) → MakeMet R (f .stores who small .st) knowledge first last bs → Follows R (keep w (make who knowledge first last room) (some bs)) (acts m (make who knowledge first last room))
+  unfolding keep acts
   make-follows bs good h =
       record {
         good = good;

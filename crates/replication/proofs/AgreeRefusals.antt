@@ -33,7 +33,7 @@ use Rattle.replication.proofs.AgreeLines.{edit-reply, delete-reply, mak
 use Rattle.replication.proofs.AgreeInvariant.{StoreFollows, BatchFollows, Follows, opens}
 use Rattle.replication.proofs.AgreeEdit.{largest-same}
 use Rattle.replication.proofs.AgreeRun.{Numbered, batch-open-at}
-use Rattle.replication.proofs.Demand3.{never-ahead}
+use Rattle.replication.proofs.Demand3.{ahead-fails}
 
 -- ---- any bytes
 
@@ -181,7 +181,7 @@ module _ (R : Rules) (permitted : Permitted (R .limits)) (accepts : (id : ℕ) �
         let os = opens R permitted w m f p small in
         let ob = batch-open-at R permitted accepts w m f k s e x in
         let half : (uncovered st b || ownAhead st b) ≡ uncovered st b =
-        ap (λ (t : Bool). uncovered st b || t) (never-ahead R permitted accepts w m f p k s st b small e os ob) ∙ or-none (uncovered st b) in
+        ap (λ (t : Bool). uncovered st b || t) (ahead-fails R permitted accepts w m f p k s st b small e os ob) ∙ or-none (uncovered st b) in
         let ls = line 16 (noBatch (some b)) ∷ line 18 (uncovered st b || ownAhead st b) ∷ storeLines R result in
         let ms = line 18 (uncovered st b || ownAhead st b) ∷ storeLines R result in
         subst (λ (t : Bool). (applyReply R (w .stores p) s ≡ refuses n) ↔ First n (line 18 t ∷ storeLines R result)) half

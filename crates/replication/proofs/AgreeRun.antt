@@ -10,7 +10,7 @@ use native.Mathlib.Omega.{arith}
 use lib.ListN.{length}
 use Rattle.codec.specs.Number.{Bytes}
 use Rattle.codec.proofs.Numbers.{power-positive}
-use Rattle.layout.specs.Knowledge.{Rules}
+use Rattle.layout.specs.Knowledge.{Rules, All}
 use Rattle.layout.specs.Permitted.{Permitted}
 use Rattle.ticks.specs.Meaning.{highest}
 use Rattle.ticks.specs.Calls.{idOf}
@@ -21,8 +21,8 @@ use Rattle.replication.specs.Reading.{live, tombstone}
 use Rattle.replication.specs.OpenStore.{openStore}
 use Rattle.replication.specs.OpenBatch.{openBatch}
 use Rattle.replication.specs.Calls.{editReply, deleteReply, makeReply, applyReply}
-use Rattle.replication.specs.Lists.{Call, edit, delete, make, apply, Given, AllGiven, World, start, outcome, batchNumber, applyTo, writes, keepStore, keepBatch, step, run, isNone, Fed, trace}
-use Rattle.replication.specs.Machine.{Ticks, Remembered, State, initial, value, greatest, changes, numbered, applies, acts, fed, history}
+use Rattle.replication.specs.Lists.{Call, edit, delete, make, apply, Given, World, start, outcome, batchNumber, applyTo, writes, keep, run, Fed, trace}
+use Rattle.replication.specs.Machine.{Ticks, Remembered, State, initial, value, greatest, changes, numbered, applies, acts, history}
 use Rattle.replication.proofs.Best.{Mem, greatest-nil}
 use Rattle.replication.proofs.Tables.{find-nil, rising-nil}
 use Rattle.replication.proofs.MachineSteps.{numbered-mem}
@@ -30,7 +30,7 @@ use Rattle.replication.proofs.MachineLaws.{Good, good-initial, good-cha
 use Rattle.replication.proofs.MachineHistory.{good-acts, good-apply}
 use Rattle.replication.proofs.AgreeLines.{EditMet, edit-met, DeleteMet, delete-met, MakeMet, make-met, ApplyMet, apply-met}
 use Rattle.replication.proofs.AgreeForm.{empty-form}
-use Rattle.replication.proofs.AgreeInvariant.{StoreFollows, BatchFollows, batch-opens, Paired, Follows, grounds-batch, opens}
+use Rattle.replication.proofs.AgreeInvariant.{StoreFollows, BatchFollows, batch-opens, stored, Paired, Follows, grounds-batch, opens}
 use Rattle.replication.proofs.AgreeEdit.{change-follows}
 use Rattle.replication.proofs.AgreeMake.{id-value, id-below, make-follows}
 use Rattle.replication.proofs.AgreeApply.{apply-follows}
@@ -82,29 +82,36 @@ paired-number R vs (suc n) s (x ∷ ss) (m ∷ ms) p e =
 
 -- ---- one call
 
+-- was a call refused, and what the machine does with a call that it is fed
+unfoldable pub isNone : Option (List ℕ) → Bool
+isNone o = elim o [ none ↦ true | some bs ↦ false ]
+
+unfoldable pub fed : State → Fed → State
+fed m x = elim (x .refused) [ true ↦ m | false ↦ acts m (x .call) ]
+
 module _ (R : Rules) (permitted : Permitted (R .limits)) (accepts : (id : ℕ) → R .judge id ≡ 0) (w : World) (m : State) (f : Follows R w m) where
-  step-edit : (who : ℕ) (item tag : List ℕ) (room : ℕ) → Given (edit who item tag room) → (o : Option (List ℕ)) → outcome (editReply R (w .stores who) item tag) room ≡ o → Follows R (keepStore who o w) (fed m (record { call = edit who item tag room; refused = isNone o }))
-  unfolding isNone fed acts
-  step-edit who item tag room h none e = unfold keepStore in f
+  step-edit : (who : ℕ) (item tag : List ℕ) (room : ℕ) → Given (edit who item tag room) → (o : Option (List ℕ)) → outcome (editReply R (w .stores who) item tag) room ≡ o → Follows R (keep w (edit who item tag room) o) (fed m (record { call = edit who item tag room; refused = isNone o }))
+  unfolding keep stored isNone fed acts
+  step-edit who item tag room h none e = f
   step-edit who item tag room h (some bs) e =
       let d = edit-met R (w .stores who) item tag (f .stores who (h .0) .st) room bs (opens R permitted w m f who (h .0)) e in
-      subst (λ (i : ℕ). Follows R (keepStore who (some bs) w) (changes 1 who i (value 0 tag) m)) (id-value 24 item (d .item24))
-      (subst (λ (g : ℕ). Follows R (keepStore who (some bs) w) (changes 1 who (idOf 24 item) g m)) (id-value 16 tag (d .tag16))
+      subst (λ (i : ℕ). Follows R (stored who bs w) (changes 1 who i (value 0 tag) m)) (id-value 24 item (d .item24))
+      (subst (λ (g : ℕ). Follows R (stored who bs w) (changes 1 who (idOf 24 item) g m)) (id-value 16 tag (d .tag16))
       (change-follows R accepts w m f 1 who (idOf 24 item) (idOf 16 tag) (h .0) bs
       (good-changes 1 who (idOf 24 item) (idOf 16 tag) m (h .0) (f .good)) (inl refl) (below-top (idOf 24 item) (id-below 24 item (h .1 .0))) (id-below 16 tag (h .1 .1)) (λ x. absurd (omega arith)) (d .below) (d .room) (d .bytes)))
 
-  step-delete : (who : ℕ) (item : List ℕ) (room : ℕ) → Given (delete who item room) → (o : Option (List ℕ)) → outcome (deleteReply R (w .stores who) item) room ≡ o → Follows R (keepStore who o w) (fed m (record { call = delete who item room; refused = isNone o }))
-  unfolding isNone fed acts
-  step-delete who item room h none e = unfold keepStore in f
+  step-delete : (who : ℕ) (item : List ℕ) (room : ℕ) → Given (delete who item room) → (o : Option (List ℕ)) → outcome (deleteReply R (w .stores who) item) room ≡ o → Follows R (keep w (delete who item room) o) (fed m (record { call = delete who item room; refused = isNone o }))
+  unfolding keep stored isNone fed acts
+  step-delete who item room h none e = f
   step-delete who item room h (some bs) e =
       let d = delete-met R (w .stores who) item (f .stores who (h .0) .st) room bs (opens R permitted w m f who (h .0)) e in
-      subst (λ (i : ℕ). Follows R (keepStore who (some bs) w) (changes 2 who i 0 m)) (id-value 24 item (d .item24))
+      subst (λ (i : ℕ). Follows R (stored who bs w) (changes 2 who i 0 m)) (id-value 24 item (d .item24))
       (change-follows R accepts w m f 2 who (idOf 24 item) 0 (h .0) bs
       (good-changes 2 who (idOf 24 item) 0 m (h .0) (f .good)) (inr refl) (below-top (idOf 24 item) (id-below 24 item (h .1))) (power-positive 16) (λ x. refl) (d .below) (d .room) (d .bytes))
 
-  step-make : (who : ℕ) (knowledge first last : List ℕ) (room : ℕ) → Given (make who knowledge first last room) → (o : Option (List ℕ)) → outcome (makeReply R (w .stores who) knowledge first last) room ≡ o → Follows R (keepBatch o w) (fed m (record { call = make who knowledge first last room; refused = isNone o }))
-  unfolding isNone fed
-  step-make who knowledge first last room h none e = unfold keepBatch in f
+  step-make : (who : ℕ) (knowledge first last : List ℕ) (room : ℕ) → Given (make who knowledge first last room) → (o : Option (List ℕ)) → outcome (makeReply R (w .stores who) knowledge first last) room ≡ o → Follows R (keep w (make who knowledge first last room) o) (fed m (record { call = make who knowledge first last room; refused = isNone o }))
+  unfolding keep isNone fed
+  step-make who knowledge first last room h none e = f
   step-make who knowledge first last room h (some bs) e =
       make-follows R permitted w m f who knowledge first last room (h .0) (h .1 .0) (h .1 .1 .0) (h .1 .1 .1) bs
       (good-acts m (make who knowledge first last room) h (f .good))
@@ -116,25 +123,25 @@ module _ (R : Rules) (permitted : Permitted (R .limits)) (accepts : (id : ℕ) �
       batch-opens R permitted s (m .versions) (x .b) (x .follows) (grounds-batch m (f .good) (f .proper) (x .b) (numbered-mem n (m .batches) (x .b) (x .is)))
 
   -- an apply that wrote: the machine's apply
-  pub apply-step : (who n room : ℕ) (s bs : List ℕ) (small : who < 256 ^ 16) (e : batchNumber n (w .batches) ≡ some s) (x : Numbered R (m .versions) n s (m .batches)) → outcome (applyReply R (w .stores who) s) room ≡ some bs → Follows R (keepStore who (some bs) w) (applies who (some (x .b)) m)
+  pub apply-step : (who n room : ℕ) (s bs : List ℕ) (small : who < 256 ^ 16) (e : batchNumber n (w .batches) ≡ some s) (x : Numbered R (m .versions) n s (m .batches)) → outcome (applyReply R (w .stores who) s) room ≡ some bs → Follows R (stored who bs w) (applies who (some (x .b)) m)
   apply-step who n room s bs small e x o =
       apply-follows R w m f who small s bs (x .b) (x .follows)
       (good-apply who (x .b) m (numbered-mem n (m .batches) (x .b) (x .is)) (f .good))
       (apply-met R (w .stores who) s (f .stores who small .st) (x .follows .b) room bs (opens R permitted w m f who small) (batch-open-at n s e x) o)
 
-  step-apply : (who which room : ℕ) → who < 256 ^ 16 → (t : Option (List ℕ)) → batchNumber which (w .batches) ≡ t → (o : Option (List ℕ)) → applyTo R (w .stores who) t room ≡ o → Follows R (keepStore who o w) (fed m (record { call = apply who which room; refused = isNone o }))
-  unfolding isNone fed acts applyTo
-  step-apply who which room h t d none e = unfold keepStore in f
+  step-apply : (who which room : ℕ) → who < 256 ^ 16 → (t : Option (List ℕ)) → batchNumber which (w .batches) ≡ t → (o : Option (List ℕ)) → applyTo R (w .stores who) t room ≡ o → Follows R (keep w (apply who which room) o) (fed m (record { call = apply who which room; refused = isNone o }))
+  unfolding keep stored isNone fed acts applyTo
+  step-apply who which room h t d none e = f
   step-apply who which room h none d (some bs) e =
       let z : _≡_ {A = ℕ} 0 1 = cc in
       absurd (omega arith)
   step-apply who which room h (some s) d (some bs) e =
       let x = paired-number R (m .versions) which s (w .batches) (m .batches) (f .batches) d in
-      subst (λ (q : Option Remembered). Follows R (keepStore who (some bs) w) (applies who q m)) (sym (x .is))
+      subst (λ (q : Option Remembered). Follows R (stored who bs w) (applies who q m)) (sym (x .is))
       (apply-step who which room s bs h d x e)
 
-  pub step-follows : (c : Call) → Given c → Follows R (step R w c) (fed m (record { call = c; refused = isNone (writes R w c) }))
-  unfolding step writes
+  pub step-follows : (c : Call) → Given c → Follows R (keep w c (writes R w c)) (fed m (record { call = c; refused = isNone (writes R w c) }))
+  unfolding writes
   step-follows (edit who item tag room) h = step-edit who item tag room h (outcome (editReply R (w .stores who) item tag) room) refl
   step-follows (delete who item room) h = step-delete who item room h (outcome (deleteReply R (w .stores who) item) room) refl
   step-follows (make who knowledge first last room) h =
@@ -145,20 +152,20 @@ module _ (R : Rules) (permitted : Permitted (R .limits)) (accepts : (id : ℕ) �
 -- ---- lists of calls
 
 module _ (R : Rules) (permitted : Permitted (R .limits)) (accepts : (id : ℕ) → R .judge id ≡ 0) where
-  pub run-follows : (w : World) (m : State) (calls : List Call) → Follows R w m → AllGiven calls → Follows R (run R w calls) (history m (trace R w calls))
-  unfolding run trace history
+  pub run-follows : (w : World) (m : State) (calls : List Call) → Follows R w m → All Given calls → Follows R (run R w calls) (history m (trace R w calls))
+  unfolding run trace fed isNone history
   run-follows w m [] f h = f
   run-follows w m (c ∷ cs) f h =
-      run-follows (step R w c) (fed m (record { call = c; refused = isNone (writes R w c) })) cs (step-follows R permitted accepts w m f c (h .0)) (h .1)
+      run-follows (keep w c (writes R w c)) (fed m (record { call = c; refused = isNone (writes R w c) })) cs (step-follows R permitted accepts w m f c (h .0)) (h .1)
 
 -- one list after another
 pub run-append : (R : Rules) (w : World) (a b : List Call) → run R w (a ++ b) ≡ run R (run R w a) b
 unfolding run
 run-append R w [] b = refl
-run-append R w (c ∷ cs) b = run-append R (step R w c) cs b
+run-append R w (c ∷ cs) b = run-append R (keep w c (writes R w c)) cs b
 
 pub history-append : (R : Rules) (w : World) (m : State) (a b : List Call) → history m (trace R w (a ++ b)) ≡ history (history m (trace R w a)) (trace R (run R w a) b)
-unfolding run trace history
+unfolding run trace fed isNone history
 history-append R w m [] b = refl
 history-append R w m (c ∷ cs) b =
-    history-append R (step R w c) (fed m (record { call = c; refused = isNone (writes R w c) })) cs b
+    history-append R (keep w c (writes R w c)) (fed m (record { call = c; refused = isNone (writes R w c) })) cs b

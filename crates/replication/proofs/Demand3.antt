@@ -1,6 +1,7 @@
 -- Demand 3: for every list of calls, refused ones included, the stores begin as new returns them, stores and machine
--- agree at the end, every store is valid, every batch is valid and holds what the machine remembers of it, applying two batches in either order or one twice gives the same bytes, equal knowledge means equal tables,
--- and the second half of 18 is never met. Bytes and machine stay together along the list; a store's bytes are decided
+-- agree at the end, every store and batch is valid, applying two batches in either order or one twice gives the same
+-- bytes, equal knowledge means equal tables, and the second half of 18 is never met; and every batch holds what the
+-- machine remembers of it. Bytes and machine stay together along the list; a store's bytes are decided
 -- by its replica's ticks in the machine and the versions made, since normal forms with equal ticks are equal and the
 -- records follow from the ticks; and in the machine two applies commute and one twice is as one.
 use Prim.Native.Nat.{ℕ, _≤_, _<_, _^_}
@@ -12,7 +13,7 @@ use mathlib.Core.Option.{some}
 use native.Mathlib.Omega.{arith}
 use lib.Dec.{leb}
 use borrow.Author.Tests.{leb-true, leb-false}
-use Rattle.layout.specs.Knowledge.{Rules, basic, Knowledge}
+use Rattle.layout.specs.Knowledge.{Rules, basic, Knowledge, All}
 use Rattle.layout.specs.Permitted.{Permitted}
 use Rattle.layout.proofs.Exact.{base-permitted}
 use Rattle.ticks.specs.Meaning.{highest, known}
@@ -28,9 +29,10 @@ use Rattle.codec.proofs.Replies.{fault-later, fault-none}
 use Rattle.replication.specs.OpenStore.{openStore}
 use Rattle.replication.specs.OpenBatch.{inSpan, lacksChange, openBatch}
 use Rattle.replication.specs.Calls.{newReply, applyReply, ownAhead}
-use Rattle.replication.specs.Lists.{Call, AllGiven, World, start, outcome, batchNumber, keepStore}
+use Rattle.replication.specs.Lists.{Call, Given, World, start, outcome, batchNumber}
 use Rattle.replication.specs.Machine.{Ticks, Remembered, State, initial, greatest, applies}
-use Rattle.replication.specs.Promise.{ends, machine, Agrees, Twofold, Promise, BatchAgrees}
+use Rattle.replication.specs.Promise.{ends, machine, Agrees, Opens, Twofold, Promise}
+use Rattle.replication.specs.Batches.{BatchAgrees, Batches}
 use Rattle.replication.proofs.Best.{holds-contained, greatest-top}
 use Rattle.replication.proofs.MachineGreatest.{greatest-equal}
 use Rattle.replication.proofs.MachineSteps.{numbered-mem, applies-commute, applies-twice}
@@ -38,7 +40,7 @@ use Rattle.replication.proofs.Tables.{tables-equal, both-holds, in-span
 use Rattle.replication.proofs.TablesSelected.{kept, kept-in}
 use Rattle.replication.proofs.ContentsValid.{lacks-exact}
 use Rattle.replication.proofs.AgreeForm.{form-unique}
-use Rattle.replication.proofs.AgreeInvariant.{StoreFollows, store-bounded, BatchFollows, kept-some, Follows, grounds-store, own-alike, opens}
+use Rattle.replication.proofs.AgreeInvariant.{StoreFollows, store-bounded, BatchFollows, kept-some, stored, Follows, grounds-store, own-alike, opens}
 use Rattle.replication.proofs.AgreeEdit.{put-same, store-moved}
 use Rattle.replication.proofs.AgreeRun.{start-follows, Numbered, paired-number, batch-open-at, apply-step, run-follows}
 
@@ -109,6 +111,7 @@ module _ (R : Rules) (permitted : Permitted (R .limits)) (accepts : (id : ℕ) �
       let s = f .stores p small in
       record {
         store = s .st;
+        bytes = s .bytes;
         opens = opens R permitted w m f p small;
         own = s .own;
         ticks = λ i q h l. s .ticks i q h;
@@ -120,6 +123,11 @@ module _ (R : Rules) (permitted : Permitted (R .limits)) (accepts : (id : ℕ) �
 
   number : (n : ℕ) (s : List ℕ) → batchNumber n (w .batches) ≡ some s → Numbered R (m .versions) n s (m .batches)
   number n s e = paired-number R (m .versions) n s (w .batches) (m .batches) (f .batches) e
+
+  batches-open : (n : ℕ) (s : List ℕ) → batchNumber n (w .batches) ≡ some s → Opens R s
+  batches-open n s e =
+      let x = number n s e in
+      record { batch = x .follows .b; bytes = x .follows .bytes; opens = batch-open-at R permitted accepts w m f n s e x }
 
   pub batches-agree : (n : ℕ) (s : List ℕ) → batchNumber n (w .batches) ≡ some s → BatchAgrees R m n s
   batches-agree n s e =
@@ -178,23 +186,28 @@ module _ (R : Rules) (permitted : Permitted (R .limits)) (accepts : (id : ℕ) �
       go true a false b = omega (arith, x .follows .outside i q h (inr (leb-false i (x .follows .b .last) b)))
       go false a t b = omega (arith, x .follows .outside i q h (inl (leb-false (x .follows .b .first) i a)))
 
-  pub never-ahead : (p n : ℕ) (s : List ℕ) (st : Store) (b : Batch) → p < 256 ^ 16 → batchNumber n (w .batches) ≡ some s → openStore R (w .stores p) ≡ some st → openBatch R s ≡ some b → ownAhead st b ≡ false
-  unfolding ownAhead
-  never-ahead p n s st b small e os ob =
+  never-above : (p n i : ℕ) (s : List ℕ) (st : Store) (b : Batch) → p < 256 ^ 16 → i ≤ highest → batchNumber n (w .batches) ≡ some s → openStore R (w .stores p) ≡ some st → openBatch R s ≡ some b → known (b .learned) i (st .own) ≤ known (st .knowledge) i (st .own)
+  never-above p n i s st b small h e os ob =
       let x = number n s e in
       let f1 = f .stores p small in
       let es : f1 .st ≡ st = some-same (f1 .st) st (sym (opens R permitted w m f p small) ∙ os) in
       let eb : x .follows .b ≡ b = some-same (x .follows .b) b (sym (batch-open-at R permitted accepts w m f n s e x) ∙ ob) in
-      subst (λ (y : Store). ownAhead y b ≡ false) es
-      (subst (λ (y : Batch). ownAhead (f1 .st) y ≡ false) eb
-      (ap not (covers-for-exact (f1 .st .own ∷ []) (f1 .st .knowledge) (x .follows .b .learned) 0 highest .1 (record { known = λ i q l h a. own-behind p small n s x i q h (⊎-elim (λ (d : q ≡ f1 .st .own). d ∙ f1 .own) (λ z. absurd z) a) }))))
+      subst (λ (y : Store). known (b .learned) i (y .own) ≤ known (y .knowledge) i (y .own)) es
+      (subst (λ (y : Batch). known (y .learned) i (f1 .st .own) ≤ known (f1 .st .knowledge) i (f1 .st .own)) eb
+      (own-behind p small n s x i (f1 .st .own) h (f1 .own)))
+
+  -- so the test of 18's second half fails
+  pub ahead-fails : (p n : ℕ) (s : List ℕ) (st : Store) (b : Batch) → p < 256 ^ 16 → batchNumber n (w .batches) ≡ some s → openStore R (w .stores p) ≡ some st → openBatch R s ≡ some b → ownAhead st b ≡ false
+  unfolding ownAhead
+  ahead-fails p n s st b small e os ob =
+      ap not (covers-for-exact (st .own ∷ []) (st .knowledge) (b .learned) 0 highest .1 (record { known = λ i q l h a. ⊎-elim (λ (d : q ≡ st .own). subst (λ (y : ℕ). known (b .learned) i y ≤ known (st .knowledge) i y) (sym d) (never-above p n i s st b small h e os ob)) (λ z. absurd z) a }))
 
 -- ---- two applies
 
 module _ (R : Rules) (permitted : Permitted (R .limits)) (accepts : (id : ℕ) → R .judge id ≡ 0) where
   -- the store that an apply wrote, in a world with it and a machine that applied too
-  store-after : (w : World) (m : State) (p : ℕ) (bs : List ℕ) → p < 256 ^ 16 → Follows R (keepStore p (some bs) w) m → StoreFollows R bs (m .versions) (m .ticks p) p
-  unfolding keepStore
+  store-after : (w : World) (m : State) (p : ℕ) (bs : List ℕ) → p < 256 ^ 16 → Follows R (stored p bs w) m → StoreFollows R bs (m .versions) (m .ticks p) p
+  unfolding stored
   store-after w m p bs small f = subst (λ (s : List ℕ). StoreFollows R s (m .versions) (m .ticks p) p) (put-same p p bs (w .stores) refl) (f .stores p small)
 
   module _ (w : World) (m : State) (f : Follows R w m) (p : ℕ) (small : p < 256 ^ 16) where
@@ -203,12 +216,12 @@ module _ (R : Rules) (permitted : Permitted (R .limits)) (accepts : (id : ℕ) �
     unfolding applies
     number-after n s b bs x = x
 
-    kept-batches : (bs : List ℕ) → keepStore p (some bs) w .batches ≡ w .batches
-    unfolding keepStore
+    kept-batches : (bs : List ℕ) → stored p bs w .batches ≡ w .batches
+    unfolding stored
     kept-batches bs = refl
 
-    kept-store : (bs : List ℕ) → keepStore p (some bs) w .stores p ≡ bs
-    unfolding keepStore
+    kept-store : (bs : List ℕ) → stored p bs w .stores p ≡ bs
+    unfolding stored
     kept-store bs = put-same p p bs (w .stores) refl
 
     -- after two applies the bytes are of a store that follows the machine after both
@@ -216,8 +229,8 @@ module _ (R : Rules) (permitted : Permitted (R .limits)) (accepts : (id : ℕ) �
     unfolding applies
     after-two n1 n2 room1 room2 a b middle x u v ea eb first second =
         let g = apply-step R permitted accepts w m f p n1 room1 a middle small ea u first in
-        store-after (keepStore p (some middle) w) (applies p (some (v .b)) (applies p (some (u .b)) m)) p x small
-        (apply-step R permitted accepts (keepStore p (some middle) w) (applies p (some (u .b)) m) g p n2 room2 b x small
+        store-after (stored p middle w) (applies p (some (v .b)) (applies p (some (u .b)) m)) p x small
+        (apply-step R permitted accepts (stored p middle w) (applies p (some (u .b)) m) g p n2 room2 b x small
         (ap (λ (l : List (List ℕ)). batchNumber n2 l) (kept-batches middle) ∙ eb) v
         (ap (λ (s : List ℕ). outcome (applyReply R s b) room2) (kept-store middle) ∙ second))
 
@@ -244,12 +257,12 @@ module _ (R : Rules) (permitted : Permitted (R .limits)) (accepts : (id : ℕ) �
 
 -- ---- the theorem
 
-pub ends-follow : (R : Rules) → Permitted (R .limits) → ((id : ℕ) → R .judge id ≡ 0) → (calls : List Call) → AllGiven calls → Follows R (ends R calls) (machine R calls)
+pub ends-follow : (R : Rules) → Permitted (R .limits) → ((id : ℕ) → R .judge id ≡ 0) → (calls : List Call) → All Given calls → Follows R (ends R calls) (machine R calls)
 unfolding ends machine
 ends-follow R permitted accepts calls given =
     run-follows R permitted accepts start initial calls (start-follows R (permitted .someRange)) given
 
-pub demand3 : (R : Rules) → Permitted (R .limits) → ((id : ℕ) → R .judge id ≡ 0) → (calls : List Call) → AllGiven calls → Promise R calls
+pub demand3 : (R : Rules) → Permitted (R .limits) → ((id : ℕ) → R .judge id ≡ 0) → (calls : List Call) → All Given calls → Promise R calls
 demand3 R permitted accepts calls given =
     let w = ends R calls in
     let m = machine R calls in
@@ -257,13 +270,26 @@ demand3 R permitted accepts calls given =
     record {
       begins = begin;
       agrees = agree R permitted accepts w m f;
-      batches = batches-agree R permitted accepts w m f;
+      batches = batches-open R permitted accepts w m f;
       eitherOrder = λ p n1 n2 a b x y small ea eb t1 t2. either-order R permitted accepts w m f p small n1 n2 a b x y ea eb t1 t2;
       twice = λ p n room1 room2 a x y small ea first second. twice-once R permitted accepts w m f p small n room1 room2 a x y ea first second;
       equalTables = equal-tables R permitted accepts w m f;
-      never18 = never-ahead R permitted accepts w m f;
+      never18 = never-above R permitted accepts w m f;
     }
 
 -- document 01's limits
-pub demand3-basic : (calls : List Call) → AllGiven calls → Promise basic calls
+pub demand3-basic : (calls : List Call) → All Given calls → Promise basic calls
 demand3-basic calls given = demand3 basic base-permitted (λ id. refl) calls given
+
+-- the second half of 18, as apply tests it, never holds
+pub never-ahead : (R : Rules) → Permitted (R .limits) → ((id : ℕ) → R .judge id ≡ 0) → (calls : List Call) → All Given calls → (p n : ℕ) (s : List ℕ) (st : Store) (b : Batch) → p < 256 ^ 16 → batchNumber n (ends R calls .batches) ≡ some s → openStore R (ends R calls .stores p) ≡ some st → openBatch R s ≡ some b → ownAhead st b ≡ false
+never-ahead R permitted accepts calls given =
+    ahead-fails R permitted accepts (ends R calls) (machine R calls) (ends-follow R permitted accepts calls given)
+
+-- every batch is what the machine remembers of it
+pub demand3-batches : (R : Rules) → Permitted (R .limits) → ((id : ℕ) → R .judge id ≡ 0) → (calls : List Call) → All Given calls → Batches R calls
+demand3-batches R permitted accepts calls given =
+    record { agree = batches-agree R permitted accepts (ends R calls) (machine R calls) (ends-follow R permitted accepts calls given) }
+
+pub demand3-batches-basic : (calls : List Call) → All Given calls → Batches basic calls
+demand3-batches-basic calls given = demand3-batches basic base-permitted (λ id. refl) calls given

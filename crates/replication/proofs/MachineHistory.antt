@@ -13,8 +13,8 @@ use lib.Dec.{leb}
 use borrow.Author.Tests.{leb-true, leb-false}
 use Rattle.layout.specs.Knowledge.{Rules, All}
 use Rattle.replication.specs.Formats.{Rec}
-use Rattle.replication.specs.Lists.{Call, Given, AllGiven, edit, delete, make, apply, World, step, Fed, trace}
-use Rattle.replication.specs.Machine.{Ticks, Remembered, State, initial, value, numbered, applies, acts, fed, history}
+use Rattle.replication.specs.Lists.{Call, Given, edit, delete, make, apply, World, writes, keep, Fed, trace}
+use Rattle.replication.specs.Machine.{Ticks, Remembered, State, initial, value, numbered, applies, acts, history}
 use Rattle.replication.proofs.Best.{Mem, mem-added, Contained}
 use Rattle.replication.proofs.MachineSteps.{numbered-mem, takenBy, unchanged, raised, learned, applies-versions, applies-batches}
 use Rattle.replication.proofs.MachineLaws.{Good, good-initial, good-changes}
@@ -119,31 +119,28 @@ good-acts m (apply who which room) h g = go (numbered which (m .batches)) refl
     go none e = unfold applies in g
     go (some b) e = good-apply who b m (numbered-mem which (m .batches) b e) g
 
-pub fed-refused : (m : State) (x : Fed) → x .refused ≡ true → fed m x ≡ m
-unfolding fed
-fed-refused m x e = rw (e, fed)
+-- a refused call does nothing, another one acts
+pub history-refused : (m : State) (x : Fed) (xs : List Fed) → x .refused ≡ true → history m (x ∷ xs) ≡ history m xs
+unfolding history
+history-refused m x xs e = rw (e, history)
 
-pub fed-acts : (m : State) (x : Fed) → x .refused ≡ false → fed m x ≡ acts m (x .call)
-unfolding fed
-fed-acts m x e = rw (e, fed)
-
-pub good-fed : (m : State) (x : Fed) → Given (x .call) → Good m → Good (fed m x)
-good-fed m x h g = go (x .refused) refl
-  where
-    go : (t : Bool) → x .refused ≡ t → Good (fed m x)
-    go true e = rw (fed-refused m x e) g
-    go false e = rw (fed-acts m x e) (good-acts m (x .call) h g)
+pub history-acts : (m : State) (x : Fed) (xs : List Fed) → x .refused ≡ false → history m (x ∷ xs) ≡ history (acts m (x .call)) xs
+unfolding history
+history-acts m x xs e = rw (e, history)
 
 pub good-history : (m : State) (xs : List Fed) → All (λ x. Given (x .call)) xs → Good m → Good (history m xs)
-unfolding history
-good-history m [] h g = g
-good-history m (x ∷ xs) h g = good-history (fed m x) xs (h .1) (good-fed m x (h .0) g)
+good-history m [] h g = unfold history in g
+good-history m (x ∷ xs) h g = go (x .refused) refl (λ n. good-history n xs (h .1))
+  where
+    go : (t : Bool) → x .refused ≡ t → ((n : State) → Good n → Good (history n xs)) → Good (history m (x ∷ xs))
+    go true e next = rw (history-refused m x xs e) (next m g)
+    go false e next = rw (history-acts m x xs e) (next (acts m (x .call)) (good-acts m (x .call) (h .0) g))
 
 -- the histories that lists of calls feed
-pub trace-given : (R : Rules) (w : World) (calls : List Call) → AllGiven calls → All (λ x. Given (x .call)) (trace R w calls)
+pub trace-given : (R : Rules) (w : World) (calls : List Call) → All Given calls → All (λ x. Given (x .call)) (trace R w calls)
 unfolding trace
 trace-given R w [] h = tt
-trace-given R w (c ∷ cs) h = (h .0, trace-given R (step R w c) cs (h .1))
+trace-given R w (c ∷ cs) h = (h .0, trace-given R (keep w c (writes R w c)) cs (h .1))
 
-pub good-trace : (R : Rules) (w : World) (calls : List Call) → AllGiven calls → Good (history initial (trace R w calls))
+pub good-trace : (R : Rules) (w : World) (calls : List Call) → All Given calls → Good (history initial (trace R w calls))
 good-trace R w calls h = good-history initial (trace R w calls) (trace-given R w calls h) good-initial

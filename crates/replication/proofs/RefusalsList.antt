@@ -18,7 +18,7 @@ use Rattle.codec.specs.Number.{beAt, Bytes}
 use Rattle.codec.specs.Reply.{Reply, gives, refuses, answer, after}
 use Rattle.codec.specs.declared.Answer.the-variants.{Written, Refused}
 use Rattle.codec.proofs.Replies.{answer-fits, answer-short, after-front, after-refused}
-use Rattle.layout.specs.Knowledge.{Rules, largestTick, basic}
+use Rattle.layout.specs.Knowledge.{Rules, largestTick, basic, All}
 use Rattle.layout.specs.Permitted.{Permitted}
 use Rattle.layout.proofs.Exact.{base-permitted}
 use Rattle.ticks.specs.Meaning.{highest, known}
@@ -30,7 +30,7 @@ use Rattle.replication.specs.Formats.{Store, Batch, find}
 use Rattle.replication.specs.OpenStore.{openStore}
 use Rattle.replication.specs.OpenBatch.{openBatch}
 use Rattle.replication.specs.Calls.{exhausted, editReply, deleteReply, makeReply, applyReply}
-use Rattle.replication.specs.Lists.{Call, AllGiven, World, outcome, batchNumber}
+use Rattle.replication.specs.Lists.{Call, Given, World, outcome, batchNumber}
 use Rattle.replication.specs.Machine.{Remembered, State, value, numbered, greatest, largestKnown}
 use Rattle.replication.specs.Promise.{ends, machine}
 use Rattle.replication.proofs.StoreBytes.{store-bytes}
@@ -38,7 +38,7 @@ use Rattle.replication.proofs.AgreeInvariant.{Follows, opens}
 use Rattle.replication.proofs.AgreeEdit.{largest-same}
 use Rattle.replication.proofs.AgreeMake.{id-value}
 use Rattle.replication.proofs.AgreeRun.{paired-number, batch-open-at}
-use Rattle.replication.proofs.Demand3.{never-ahead, ends-follow}
+use Rattle.replication.proofs.Demand3.{ahead-fails, ends-follow}
 use Rattle.replication.proofs.RefusalsTests.{Lacks, Ahead, Behind, ahead-exact, behind-apart, Gone, Present, Exhausted, means-20}
 use Rattle.replication.proofs.RefusalsEdit.{edit-15, edit-20, delete-15, delete-19, delete-20}
 use Rattle.replication.proofs.RefusalsMake.{make-15}
@@ -208,7 +208,7 @@ module _ (R : Rules) (permitted : Permitted (R .limits)) (accepts : (id : ℕ) �
       let first : b .first ≡ span .first = ap (λ (y : Batch). y .first) (sym eb) ∙ (x .follows .first ∙ ap (λ (y : Remembered). y .first) es) in
       let last : b .last ≡ span .last = ap (λ (y : Batch). y .last) (sym eb) ∙ (x .follows .last ∙ ap (λ (y : Remembered). y .last) es) in
       let top : b .last ≤ highest = subst (λ (y : Batch). y .last ≤ highest) eb (x .follows .top) in
-      let behind : Behind (s .st) b = ahead-exact (s .st) b .0 (never-ahead R permitted accepts w m f p n t (s .st) b small e open-here ob) in (
+      let behind : Behind (s .st) b = ahead-exact (s .st) b .0 (ahead-fails R permitted accepts w m f p n t (s .st) b small e open-here ob) in (
         (λ h. ⊎-elim (λ (l : Lacks (s .st) b). told first last top l) (λ (a : Ahead (s .st) b). absurd (behind-apart (s .st) b a behind)) (law .0 h)),
         λ l.
             law .1
@@ -245,10 +245,10 @@ module _ (R : Rules) (permitted : Permitted (R .limits)) (accepts : (id : ℕ) �
   }
 
 -- after any list of calls, for every replica
-pub refused-in-list : (R : Rules) → Permitted (R .limits) → ((id : ℕ) → R .judge id ≡ 0) → (calls : List Call) → AllGiven calls → (p : ℕ) → p < 256 ^ 16 → RefusedAsMachine R (ends R calls) (machine R calls) p
+pub refused-in-list : (R : Rules) → Permitted (R .limits) → ((id : ℕ) → R .judge id ≡ 0) → (calls : List Call) → All Given calls → (p : ℕ) → p < 256 ^ 16 → RefusedAsMachine R (ends R calls) (machine R calls) p
 refused-in-list R permitted accepts calls given p small =
     refused-follows R permitted accepts (ends R calls) (machine R calls) (ends-follow R permitted accepts calls given) p small
 
 -- with document 01's limits
-pub refused-in-list-basic : (calls : List Call) → AllGiven calls → (p : ℕ) → p < 256 ^ 16 → RefusedAsMachine basic (ends basic calls) (machine basic calls) p
+pub refused-in-list-basic : (calls : List Call) → All Given calls → (p : ℕ) → p < 256 ^ 16 → RefusedAsMachine basic (ends basic calls) (machine basic calls) p
 refused-in-list-basic calls given p small = refused-in-list basic base-permitted (λ id. refl) calls given p small

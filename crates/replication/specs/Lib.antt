@@ -10,3 +10,4 @@ pub mod Queries
 pub mod Machine
 pub mod Lists
 pub mod Promise
+pub mod Batches

@@ -1,15 +1,10 @@
 -- The plain history machine, literally document 01's. It takes nothing from the bytes of a store or batch and shares
 -- no definition with the calls: numbers, order of versions, span and create rule are its own.
-use Prim.Native.Nat.{ℕ, zero, suc, _+_, _*_, _^_, max}
-use mathlib.Core.Bool.{Bool, true, false}
-use mathlib.Core.List.{List, [], _∷_, _++_}
-use mathlib.Core.Option.{Option, none, some}
-use lib.Dec.{leb, ltb, eqb}
+use Rattle.codec.specs.Prelude.{ℕ, zero, suc, max, _+_, _*_, _^_, Bool, true, false, List, [], _∷_, _++_, Option, none, some, leb, ltb, eqb}
 use Rattle.replication.specs.Formats.{Rec}
 use Rattle.replication.specs.Lists.{Call, edit, delete, make, apply, Fed}
 
--- "for each replica a known tick per item and replica id": by item, then replica id
-abbrev pub Ticks : Type 0
+abbrev pub Ticks : Type 0  -- by item, then replica id
 Ticks = ℕ → ℕ → ℕ
 
 -- "Make: remembers the span and the maker's known ticks"
@@ -28,13 +23,11 @@ pub record State : Type 0 where
 unfoldable pub initial : State
 initial = record { versions = []; ticks = λ who i p. 0; batches = [] }
 
--- the number that bytes are, the first byte the highest
-unfoldable pub value : ℕ → List ℕ → ℕ
+unfoldable pub value : ℕ → List ℕ → ℕ  -- the number that bytes are, the first byte the highest
 value acc [] = acc
 value acc (b ∷ bs) = value (acc * 256 + b) bs
 
--- the largest of f 0, …, f (n − 1)
-unfoldable pub supremum : ℕ → (ℕ → ℕ) → ℕ
+unfoldable pub supremum : ℕ → (ℕ → ℕ) → ℕ  -- the largest of f 0, …, f (n − 1)
 supremum zero f = 0
 supremum (suc n) f = max (supremum n f) (f n)
 
@@ -48,11 +41,7 @@ holds k r = elim (leb 1 (r .changeTick)) [ true ↦ leb (r .changeTick) (k (r .i
 
 -- "by tick and then replica id": is the second version the greater
 unfoldable pub later : Rec → Rec → Bool
-later a b =
-    elim (eqb (a .changeTick) (b .changeTick)) [
-      | true ↦ ltb (a .changeReplica) (b .changeReplica)
-      | false ↦ ltb (a .changeTick) (b .changeTick)
-    ]
+later a b = elim (eqb (a .changeTick) (b .changeTick)) [ true ↦ ltb (a .changeReplica) (b .changeReplica) | false ↦ ltb (a .changeTick) (b .changeTick) ]
 
 unfoldable pub better : Rec → Option Rec → Rec
 better r none = r
@@ -74,8 +63,7 @@ recordOf kind item who t tag none =
 recordOf kind item who t tag (some g) =
     record { kind = kind; item = item; changeReplica = who; changeTick = t; createReplica = g .createReplica; createTick = g .createTick; tag = tag }
 
--- the ticks of one replica changed
-unfoldable pub withTicks : ℕ → Ticks → (ℕ → Ticks) → ℕ → Ticks
+unfoldable pub withTicks : ℕ → Ticks → (ℕ → Ticks) → ℕ → Ticks  -- the ticks of one replica changed
 withTicks who k f q = elim (eqb who q) [ true ↦ k | false ↦ f q ]
 
 -- "the maker's tick for itself becomes that for all items"
@@ -113,17 +101,11 @@ unfoldable pub acts : State → Call → State
 acts m (edit who item tag room) = changes 1 who (value 0 item) (value 0 tag) m
 acts m (delete who item room) = changes 2 who (value 0 item) 0 m
 acts m (make who knowledge first last room) =
-    record {
-      versions = m .versions;
-      ticks = m .ticks;
-      batches = m .batches ++ (record { first = value 0 first; last = value 0 last; ticks = m .ticks who } ∷ []);
-    }
+    let b : Remembered = record { first = value 0 first; last = value 0 last; ticks = m .ticks who } in
+    record { versions = m .versions; ticks = m .ticks; batches = m .batches ++ (b ∷ []) }
 acts m (apply who which room) = applies who (numbered which (m .batches)) m
 
 -- "A refused call does nothing"
-unfoldable pub fed : State → Fed → State
-fed m x = elim (x .refused) [ true ↦ m | false ↦ acts m (x .call) ]
-
 unfoldable pub history : State → List Fed → State
 history m [] = m
-history m (x ∷ xs) = history (fed m x) xs
+history m (x ∷ xs) = history (elim (x .refused) [ true ↦ m | false ↦ acts m (x .call) ]) xs

@@ -1,20 +1,15 @@
 -- What demand 3 promises of a list of calls.
-use Prim.Native.Nat.{ℕ, _<_, _≤_, _^_}
-use mathlib.Core.Path.{_≡_}
-use mathlib.Core.Logic.{_⊎_, _↔_}
-use mathlib.Core.Bool.{false}
-use mathlib.Core.List.{List, []}
-use mathlib.Core.Option.{none, some}
+use Rattle.codec.specs.Prelude.{ℕ, _^_, _≤_, _<_, _≡_, List, [], none, some}
 use Rattle.codec.specs.Number.{put}
 use Rattle.codec.specs.Reply.{gives}
 use Rattle.layout.specs.Knowledge.{Rules, Rising}
 use Rattle.ticks.specs.Meaning.{highest, known}
-use Rattle.replication.specs.Formats.{Rec, items, Store, Batch, find}
+use Rattle.replication.specs.Formats.{items, find, Store, encodeStore, Batch, encodeBatch}
 use Rattle.replication.specs.OpenStore.{openStore}
 use Rattle.replication.specs.OpenBatch.{openBatch}
-use Rattle.replication.specs.Calls.{newReply, applyReply, ownAhead}
+use Rattle.replication.specs.Calls.{newReply, applyReply}
 use Rattle.replication.specs.Lists.{Call, World, start, run, trace, outcome, batchNumber}
-use Rattle.replication.specs.Machine.{Remembered, State, initial, history, greatest, numbered}
+use Rattle.replication.specs.Machine.{State, initial, history, greatest}
 
 -- the world and the machine after a list of calls
 unfoldable pub ends : Rules → List Call → World
@@ -23,42 +18,25 @@ ends R calls = run R start calls
 unfoldable pub machine : Rules → List Call → State
 machine R calls = history initial (trace R start calls)
 
--- one replica's store, compared with the machine
+-- one replica's store: valid, under its own id, and compared with the machine
 pub record Agrees (R : Rules) (w : World) (m : State) (p : ℕ) : Type 0 where
-  -- every store reached is valid, under its own id
   pub store : Store
+  pub bytes : w .stores p ≡ encodeStore store
   pub opens : openStore R (w .stores p) ≡ some store
   pub own : store .own ≡ p
   -- "the tick known in its store's knowledge, for every item and replica id, equals the machine's"
   pub ticks : (i q : ℕ) → i ≤ highest → q < 256 ^ 16 → known (store .knowledge) i q ≡ m .ticks p i q
-  -- "its records, by rising item id, are, for each item with versions made that this replica's ticks in the machine
-  -- contain, the whole record of the greatest of these, by tick and then replica id, and no others"
+  -- "its records, by rising item id, are, for each item with versions made that this replica's ticks in the machine contain, the whole
+  -- record of the greatest of these, by tick and then replica id, and no others"
   pub rising : Rising 0 (items (store .records))
   pub records : (i : ℕ) → i ≤ highest → find i (store .records) ≡ greatest (m .versions) (m .ticks p) i
   pub bounded : (i : ℕ) → highest < i → find i (store .records) ≡ none
 
--- one batch made, with its bytes, compared with what the machine remembers under the same number
-pub record BatchAgrees (R : Rules) (m : State) (n : ℕ) (s : List ℕ) : Type 0 where
-  -- every batch made is valid
+-- a batch made: valid
+pub record Opens (R : Rules) (s : List ℕ) : Type 0 where
   pub batch : Batch
+  pub bytes : s ≡ encodeBatch batch
   pub opens : openBatch R s ≡ some batch
-  pub remembered : Remembered
-  pub remembers : numbered n (m .batches) ≡ some remembered
-  -- the span
-  pub first : batch .first ≡ remembered .first
-  pub last : batch .last ≡ remembered .last
-  pub top : batch .last ≤ highest
-  -- learned: the maker's known ticks inside the span, 0 outside
-  pub inside : (i q : ℕ) → batch .first ≤ i → i ≤ batch .last → known (batch .learned) i q ≡ remembered .ticks i q
-  pub outside : (i q : ℕ) → i ≤ highest → (i < batch .first) ⊎ (batch .last < i) → known (batch .learned) i q ≡ 0
-  -- its records, by rising item id, are, for each item of the span, the whole record of the greatest version that the
-  -- maker's ticks contained, where needed lacks that version, and no others
-  pub rising : Rising 0 (items (batch .records))
-  pub records :
-      (i : ℕ)
-      (r : Rec)
-      → (find i (batch .records) ≡ some r)
-      ↔ ((greatest (m .versions) (remembered .ticks) i ≡ some r) × ((batch .first ≤ i) × ((i ≤ batch .last) × (known (batch .needed) i (r .changeReplica) < r .changeTick))))
 
 -- one apply after the other, into buffers of any lengths; the bytes are there where neither is refused
 pub record Twofold (R : Rules) (s a b : List ℕ) (result : List ℕ) : Type 0 where
@@ -72,13 +50,11 @@ pub record Promise (R : Rules) (calls : List Call) : Type 0 where
   -- "It starts from stores that new returned, each under an id of its own"
   pub begins : (p : ℕ) → p < 256 ^ 16 → newReply (put 16 p []) ≡ gives (start .stores p)
   pub agrees : (p : ℕ) → p < 256 ^ 16 → Agrees R (ends R calls) (machine R calls) p
-  -- every batch made is valid, and is what the machine remembers
-  pub batches : (n : ℕ) (s : List ℕ) → batchNumber n (ends R calls .batches) ≡ some s → BatchAgrees R (machine R calls) n s
-  -- two batches of the list in either order end in the same store bytes, and one twice as once, wherever none of these
-  -- applies is refused
+  pub batches : (n : ℕ) (s : List ℕ) → batchNumber n (ends R calls .batches) ≡ some s → Opens R s
+  -- two batches of the list in either order end in the same store bytes, and one twice as once, wherever none of these applies is refused
   pub eitherOrder : (p m n : ℕ) (a b x y : List ℕ) → p < 256 ^ 16 → batchNumber m (ends R calls .batches) ≡ some a → batchNumber n (ends R calls .batches) ≡ some b → Twofold R (ends R calls .stores p) a b x → Twofold R (ends R calls .stores p) b a y → x ≡ y
   pub twice : (p n firstRoom secondRoom : ℕ) (a x y : List ℕ) → p < 256 ^ 16 → batchNumber n (ends R calls .batches) ≡ some a → outcome (applyReply R (ends R calls .stores p) a) firstRoom ≡ some x → outcome (applyReply R x a) secondRoom ≡ some y → x ≡ y
   -- two replicas with equal knowledge hold equal tables
   pub equalTables : (p q : ℕ) (a b : Store) → p < 256 ^ 16 → q < 256 ^ 16 → openStore R (ends R calls .stores p) ≡ some a → openStore R (ends R calls .stores q) ≡ some b → a .knowledge ≡ b .knowledge → a .records ≡ b .records
-  -- the second half of 18 is never met
-  pub never18 : (p n : ℕ) (s : List ℕ) (st : Store) (b : Batch) → p < 256 ^ 16 → batchNumber n (ends R calls .batches) ≡ some s → openStore R (ends R calls .stores p) ≡ some st → openBatch R s ≡ some b → ownAhead st b ≡ false
+  -- the second half of 18 is never met: learned never has a tick of the store's own replica above the store's
+  pub never18 : (p n i : ℕ) (s : List ℕ) (st : Store) (b : Batch) → p < 256 ^ 16 → i ≤ highest → batchNumber n (ends R calls .batches) ≡ some s → openStore R (ends R calls .stores p) ≡ some st → openBatch R s ≡ some b → known (b .learned) i (st .own) ≤ known (st .knowledge) i (st .own)
