@@ -1,5 +1,6 @@
 -- `collector::sync_check` meets its contract: in each arm of the match, the number and the four sizes are those that the
 -- definitions give for the answer that `check` ensures. Assumes nothing.
+use mathlib.Core.Path.{sym, _∙_}
 use borrow.Author.Needs.{needs}
 use Rattle.collector.proofs.Sizes.{number-accepted, sizes-accepted, number-refused, sizes-refused}
 use Rattle.collector.proofs.sync_check.Statement.{statement}
@@ -29,12 +30,14 @@ enum-known-n c = search needs
 returns : tie.Need-returns
 returns c =
     let v = c .before .r .given .0 in
-    (number-accepted _ (v .0) (v .1 .0) (v .1 .1 .0) (v .1 .1 .1 .0) (cc), sizes-accepted _ _ _ _ _ (cc) _)
+    let is = sym (c .before .before .before .check .ensures) ∙ c .before .r .given .1 in
+    (number-accepted _ (v .0) (v .1 .0) (v .1 .1 .0) (v .1 .1 .1 .0) is, sizes-accepted _ (v .0) (v .1 .0) (v .1 .1 .0) (v .1 .1 .1 .0) is _)
 
 returns-2 : tie.Need-returns-2
 returns-2 c =
     let n = c .before .n .given .0 .0 in
-    (number-refused _ n (cc), sizes-refused _ n (cc) _)
+    let is = sym (c .before .before .before .check .ensures) ∙ c .before .n .given .1 in
+    (number-refused _ n is, sizes-refused _ n is _)
 
 pub sync-check-spec : {M : Type 1} → statement M
 sync-check-spec =
