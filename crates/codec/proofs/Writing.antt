@@ -1,18 +1,20 @@
 -- Writing into a buffer: stores one after the other from a place on leave what `placed` says, where the place has
 -- room for all of them, and a buffer that has no room stays as it was. Copying a part byte by byte is the same.
-use mathlib.Core.Path.{_≡_, refl, sym, _∙_}
+use mathlib.Core.Path.{_≡_, refl, sym, ap, ap₂, _∙_}
 use mathlib.Core.Bool.{Bool, true, false}
-use mathlib.Core.List.{List, [], _++_, append-assoc}
-use Prim.Native.Nat.{ℕ, _+_, _<_, _≤_}
-use native.Mathlib.Nat.{add-zero}
-use native.Mathlib.Numerals.{add-one}
+use mathlib.Core.List.{List, [], _∷_, _++_, append-assoc}
+use Prim.Native.Nat.{ℕ, zero, suc, _+_, _/_, _%_, _^_, _<_, _≤_}
+use native.Mathlib.Nat.{add-zero, zero-add, suc-add, mul-comm, div-one, div-div-eq-div-mul}
+use native.Mathlib.Numerals.{add-one, add-two, add-three}
 use native.Mathlib.Omega.{arith}
 use borrow.Author.Tests.{le-leb, lt-leb, leb-true, leb-false}
 use lib.Dec.{leb}
+use lib.Pow.{pow-add}
 use lib.ListN.{length, set, take, drop, getD, length-take, length-drop, take-append-drop}
 use lib.Seq.{sets, sets-eq, take-length, getD-take, getD-drop, paste, paste-zero, paste-suc}
+use Rattle.codec.specs.Number.{put}
 use Rattle.codec.specs.Part.{placed, part, bytes}
-use Rattle.codec.proofs.Numbers.{put-length}
+use Rattle.codec.proofs.Numbers.{put-length, put-append}
 
 pub bytes-length : (n x : ℕ) → length (bytes n x) ≡ n
 unfolding bytes
@@ -45,6 +47,51 @@ module _ (d : List ℕ) (at n x : ℕ) where
 
   pub written : at + n ≤ length d → sets d at (bytes n x) ≡ placed d at (bytes n x)
   written h = stored d at (bytes n x) (rw bytes-length h)
+
+-- the stores of two bytes and of four, as the code makes them: its places are `at + 1` and so on
+module _ (d : List ℕ) (at x : ℕ) where
+  pub two-stores : set (set d at (x / 256 % 256)) (at + 1) (x % 256) ≡ sets d at (bytes 2 x)
+  unfolding bytes put
+  two-stores = rw (add-one at, div-one x)
+
+  pub four-stores :
+      set (set (set (set d at (x / 16777216 % 256)) (at + 1) (x / 65536 % 256)) (at + 2) (x / 256 % 256)) (at + 3) (x % 256)
+      ≡ sets d at (bytes 4 x)
+  unfolding bytes put
+  four-stores = rw (add-one at, add-two at, add-three at, div-one x)
+
+-- a number of eight bytes is one of four, and four more
+put-high : (n m x : ℕ) (t : List ℕ) → put (n + m) x t ≡ put n (x / 256 ^ m) (put m x t)
+unfolding put
+put-high zero m x t = rw (zero-add m)
+put-high (suc n) m x t = rw (suc-add n m) (ap₂ {C = List ℕ} (λ b r. b ∷ r) (ap (λ (v : ℕ). v % 256) digit) (put-high n m x t))
+  where
+    digit : x / 256 ^ (n + m) ≡ x / 256 ^ m / 256 ^ n
+    digit = rw (pow-add 256 n m, mul-comm (256 ^ n) (256 ^ m)) (sym (div-div-eq-div-mul x (256 ^ m) (256 ^ n)))
+
+bytes-eight : (x : ℕ) → bytes 8 x ≡ bytes 4 (x / 4294967296) ++ bytes 4 x
+unfolding bytes
+bytes-eight x = put-high 4 4 x [] ∙ put-append 4 (x / 4294967296) (put 4 x [])
+
+sets-append : (d vs ws : List ℕ) (at : ℕ) → sets d at (vs ++ ws) ≡ sets (sets d at vs) (at + length vs) ws
+sets-append d [] ws at = rw (add-zero at)
+sets-append d (v ∷ vs) ws at =
+    let e : suc at + length vs ≡ at + suc (length vs) = omega arith in
+    sets-append (set d at v) vs ws (suc at) ∙ ap (λ (k : ℕ). sets (sets (set d at v) (suc at) vs) k ws) e
+
+pub eight-stored :
+    (d e f : List ℕ) (at x : ℕ)
+    → e ≡ sets d at (bytes 4 (x / 4294967296))
+    → f ≡ sets e (at + 4) (bytes 4 x)
+    → at + 8 ≤ length d
+    → f ≡ placed d at (bytes 8 x)
+eight-stored d e f at x p q h =
+    q
+    ∙ ap (λ (l : List ℕ). sets l (at + 4) (bytes 4 x)) p
+    ∙ ap (λ (k : ℕ). sets (sets d at (bytes 4 (x / 4294967296))) (at + k) (bytes 4 x)) (sym (bytes-length 4 (x / 4294967296)))
+    ∙ sym (sets-append d (bytes 4 (x / 4294967296)) (bytes 4 x) at)
+    ∙ ap (λ (l : List ℕ). sets d at l) (sym (bytes-eight x))
+    ∙ written d at 8 x h
 
 -- a part that is not there is empty, and so nothing is written
 module _ (s : List ℕ) (from n : ℕ) where

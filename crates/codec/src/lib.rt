@@ -2,9 +2,11 @@
 //
 // Every public function is total: a byte that is missing is read as 0, and what has no room is not written at all.
 ghost use mathlib.Core.Path.{_≡_};
+ghost use mathlib.Core.Bool.{true, false};
 ghost use Prim.Native.Nat.{_+_, _≤_, _<_, _^_};
 ghost use lib.Dec.{eqb, ltb};
 ghost use lib.ListN.{length, getD};
+ghost use lib.Seq.{sets};
 ghost use Rattle.codec.specs.Number.{beAt};
 ghost use Rattle.codec.specs.Words.{words2, words3};
 ghost use Rattle.codec.specs.Part.{placed, part, bytes};
@@ -16,11 +18,22 @@ pub enum Answer {
     Refused(u32),
 }
 
-// A byte as a number of 64 bits.
-fn wide(x: u8) -> u64
-    ensures { λ r. ⌜ (r ≡ x) × (r < 256) ⌝ }
+// The byte at a place, which is there, as a number of 64 bits.
+fn one(s: &[u8], at: usize) -> u64
+    requires { ⌜ at < length (now s) ⌝ }
+    ensures { λ r. ⌜ (r ≡ getD (now (s .entry)) at 0) × (r < 256) ⌝ }
 {
-    x as u64
+    s[at] as u64
+}
+
+// Do n bytes from `at` on go past the end of a slice.
+fn beyond(end: usize, at: usize, n: usize) -> bool
+    ensures { λ r. ⌜ (r ≡ true → end < at + n) × (r ≡ false → at + n ≤ end) ⌝ }
+{
+    if end < n {
+        return true;
+    }
+    end - n < at
 }
 
 // The byte i places after `at`, 0 where `s` has none there.
@@ -33,7 +46,7 @@ fn byte(s: &[u8], at: usize, i: usize) -> u64
     if s.len() - at <= i {
         return 0;
     }
-    wide(s[at + i])
+    one(s, at + i)
 }
 
 // The number in the n bytes from `at` on, byte by byte: for a place where some of them are missing. It calls itself,
@@ -55,7 +68,7 @@ fn four(s: &[u8], at: usize) -> u64
     requires { ⌜ at + 4 ≤ length (now s) ⌝ }
     ensures { λ r. ⌜ (r ≡ beAt (now (s .entry)) 4 at) × (r < 2 ^ 32) ⌝ }
 {
-    wide(s[at]) * 16777216 + wide(s[at + 1]) * 65536 + wide(s[at + 2]) * 256 + wide(s[at + 3])
+    one(s, at) * 16777216 + one(s, at + 1) * 65536 + one(s, at + 2) * 256 + one(s, at + 3)
 }
 
 // The big-endian number in the 1, 2, 4 or 8 bytes from `at` on.
@@ -66,7 +79,7 @@ pub fn read1(s: &[u8], at: usize) -> u64
     if s.len() <= at {
         return 0;
     }
-    wide(s[at])
+    one(s, at)
 }
 
 pub fn read2(s: &[u8], at: usize) -> u64
@@ -79,7 +92,7 @@ pub fn read2(s: &[u8], at: usize) -> u64
     if s.len() - at < 2 {
         return read_slowly(s, at, 2);
     }
-    wide(s[at]) * 256 + wide(s[at + 1])
+    one(s, at) * 256 + one(s, at + 1)
 }
 
 pub fn read4(s: &[u8], at: usize) -> u64
@@ -108,6 +121,17 @@ pub fn read8(s: &[u8], at: usize) -> u64
     four(s, at) * 4294967296 + four(s, at + 4)
 }
 
+// The four lowest bytes of x from `at` on, where there is room.
+fn put4(out: &mut [u8], at: usize, x: u64)
+    requires { ⌜ at + 4 ≤ length (now out) ⌝ }
+    ensures { λ _. ⌜ now (out .exit) ≡ sets (now (out .entry)) at (bytes 4 x) ⌝ }
+{
+    out[at] = (x / 16777216 % 256) as u8;
+    out[at + 1] = (x / 65536 % 256) as u8;
+    out[at + 2] = (x / 256 % 256) as u8;
+    out[at + 3] = (x % 256) as u8;
+}
+
 // The 1, 2, 4 or 8 lowest bytes of x, big-endian, from `at` on, where there is room for all of them.
 pub fn write1(out: &mut [u8], at: usize, x: u64)
     ensures { λ _. ⌜ now (out .exit) ≡ placed (now (out .entry)) at (bytes 1 x) ⌝ }
@@ -121,10 +145,7 @@ pub fn write1(out: &mut [u8], at: usize, x: u64)
 pub fn write2(out: &mut [u8], at: usize, x: u64)
     ensures { λ _. ⌜ now (out .exit) ≡ placed (now (out .entry)) at (bytes 2 x) ⌝ }
 {
-    if out.len() < 2 {
-        return;
-    }
-    if out.len() - 2 < at {
+    if beyond(out.len(), at, 2) {
         return;
     }
     out[at] = (x / 256 % 256) as u8;
@@ -134,51 +155,30 @@ pub fn write2(out: &mut [u8], at: usize, x: u64)
 pub fn write4(out: &mut [u8], at: usize, x: u64)
     ensures { λ _. ⌜ now (out .exit) ≡ placed (now (out .entry)) at (bytes 4 x) ⌝ }
 {
-    if out.len() < 4 {
+    if beyond(out.len(), at, 4) {
         return;
     }
-    if out.len() - 4 < at {
-        return;
-    }
-    out[at] = (x / 16777216 % 256) as u8;
-    out[at + 1] = (x / 65536 % 256) as u8;
-    out[at + 2] = (x / 256 % 256) as u8;
-    out[at + 3] = (x % 256) as u8;
+    put4(out, at, x);
 }
 
 pub fn write8(out: &mut [u8], at: usize, x: u64)
     ensures { λ _. ⌜ now (out .exit) ≡ placed (now (out .entry)) at (bytes 8 x) ⌝ }
 {
-    if out.len() < 8 {
+    if beyond(out.len(), at, 8) {
         return;
     }
-    if out.len() - 8 < at {
-        return;
-    }
-    out[at] = (x / 72057594037927936 % 256) as u8;
-    out[at + 1] = (x / 281474976710656 % 256) as u8;
-    out[at + 2] = (x / 1099511627776 % 256) as u8;
-    out[at + 3] = (x / 4294967296 % 256) as u8;
-    out[at + 4] = (x / 16777216 % 256) as u8;
-    out[at + 5] = (x / 65536 % 256) as u8;
-    out[at + 6] = (x / 256 % 256) as u8;
-    out[at + 7] = (x % 256) as u8;
+    put4(out, at, x / 4294967296);
+    put4(out, at + 4, x);
 }
 
 // The n bytes of `src` from a place on, into `dst`: nothing where `src` has fewer there or `dst` has no room.
 pub fn copy_part(src: &[u8], from: usize, n: usize, dst: &mut [u8], at: usize)
     ensures { λ _. ⌜ now (dst .exit) ≡ placed (now (dst .entry)) at (part (now (src .entry)) from n) ⌝ }
 {
-    if src.len() < n {
+    if beyond(src.len(), from, n) {
         return;
     }
-    if src.len() - n < from {
-        return;
-    }
-    if dst.len() < n {
-        return;
-    }
-    if dst.len() - n < at {
+    if beyond(dst.len(), at, n) {
         return;
     }
     let mut i: usize = 0;

@@ -2,7 +2,6 @@
 use Prim.Native.Nat.{_+_}
 use native.Mathlib.Omega.{arith}
 use Rattle.codec.proofs.Reading.{past}
-use borrow.Author.Needs.{needs}
 use Rattle.codec.proofs.byte.Statement.{statement}
 use Rattle.codec.proofs.byte.Tie as tie
 
@@ -15,19 +14,14 @@ sub-if2 c = omega arith
 returns-2 : tie.Need-returns-2
 returns-2 c = (past (c .before .before .before .args .s .now) (c .before .before .before .args .at + c .before .before .before .args .i) (omega arith), omega arith)
 
-add-wide : tie.Need-add-wide
-add-wide c = omega arith
+add-one : tie.Need-add-one
+add-one c = omega arith
 
-shared-slice-read-wide : tie.Need-shared-slice-read-wide
-shared-slice-read-wide c = omega arith
-
-wide-requires : tie.Need-wide-requires
-wide-requires c κs = search needs
+one-requires : tie.Need-one-requires
+one-requires c κs = omega arith
 
 returns-3 : tie.Need-returns-3
-returns-3 c = search needs
+returns-3 c = c .one .ensures
 
 pub byte-spec : {M : Type 1} → statement M
-byte-spec =
-    tie.close
-    (tie.spec returns sub-if2 returns-2 add-wide shared-slice-read-wide wide-requires returns-3)
+byte-spec = tie.close (tie.spec returns sub-if2 returns-2 add-one one-requires returns-3)

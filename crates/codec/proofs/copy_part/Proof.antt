@@ -1,7 +1,8 @@
 -- `codec::copy_part` meets its contract. Where the part is missing or has no room nothing changes. The loop's
--- invariant: the first i bytes of the part stand in their place, and `dst` is as long as it was. The measure is what is left of n.
+-- invariant: the part is there and has room, its first i bytes stand in their place, and `dst` is as long as it was.
+-- The measure is what is left of n.
 use mathlib.Core.Path.{_≡_}
-use Prim.Native.Nat.{_≤_, _-_}
+use Prim.Native.Nat.{_≤_, _-_, _+_}
 use native.Mathlib.Omega.{arith}
 use lib.ListN.{length, length-set}
 use Rattle.codec.specs.Part.{part}
@@ -10,31 +11,25 @@ use Rattle.codec.proofs.copy_part.Statement.{statement}
 use Rattle.codec.proofs.copy_part.Tie as tie
 
 abbrev Inv-loop : tie.InvT-loop
-Inv-loop src from n dst₀ at i₀ dst i = (i ≤ n) × ((dst ≡ copying dst₀ at (part src from n) i) × (length dst ≡ length dst₀))
+Inv-loop src from n dst₀ at i₀ dst i = (i ≤ n) × ((from + n ≤ length src) × ((at + n ≤ length dst₀) × ((dst ≡ copying dst₀ at (part src from n) i) × (length dst ≡ length dst₀))))
 
 abbrev μ-loop : tie.MeasureT-loop
 μ-loop src from n dst₀ at i₀ dst i = n - i
 
-returns : tie.Need-returns Inv-loop μ-loop
-returns c = no-part _ _ _ _ _ (omega arith)
+beyond-requires : tie.Need-beyond-requires Inv-loop μ-loop
+beyond-requires c κs = tt
 
-sub-if2 : tie.Need-sub-if2 Inv-loop μ-loop
-sub-if2 c = omega arith
+returns : tie.Need-returns Inv-loop μ-loop
+returns c = no-part _ _ _ _ _ (c .before .beyond .ensures .0 (c .if1 .taken))
+
+beyond-requires-2 : tie.Need-beyond-requires-2 Inv-loop μ-loop
+beyond-requires-2 c κs = tt
 
 returns-2 : tie.Need-returns-2 Inv-loop μ-loop
-returns-2 c = no-part _ _ _ _ _ (omega arith)
-
-returns-3 : tie.Need-returns-3 Inv-loop μ-loop
-returns-3 c = no-place _ _ _ _ _ (omega arith) (omega arith)
-
-sub-if4 : tie.Need-sub-if4 Inv-loop μ-loop
-sub-if4 c = omega arith
-
-returns-4 : tie.Need-returns-4 Inv-loop μ-loop
-returns-4 c = no-place _ _ _ _ _ (omega arith) (omega arith)
+returns-2 c = no-place _ _ _ _ _ (c .before .before .before .beyond .ensures .1 (c .before .before .if1 .left)) (c .before .beyond2 .ensures .0 (c .if2 .taken))
 
 loop-holds : tie.Need-loop-holds Inv-loop μ-loop
-loop-holds c = (omega arith, (copying-none _ _ _, omega arith))
+loop-holds c = (omega arith, (c .before .before .before .beyond .ensures .1 (c .before .before .if1 .left), (c .before .beyond2 .ensures .1 (c .if2 .left), (copying-none _ _ _, omega arith))))
 
 add-dst : tie.Need-add-dst Inv-loop μ-loop
 add-dst c = omega arith
@@ -55,16 +50,13 @@ loop-less : tie.Need-loop-less Inv-loop μ-loop
 loop-less c = omega arith
 
 loop-again : tie.Need-loop-again Inv-loop μ-loop
-loop-again c = (
-  omega arith,
-  (copying-more _ _ _ _ _ (omega arith) (omega arith) _ _ (omega arith) (c .before .before .loop .inv .1 .0), simp length-set (omega arith)),
-)
+loop-again c = let v = c .before .before .loop .inv in (omega arith, (v .1 .0, (v .1 .1 .0, (copying-more _ _ _ _ _ (v .1 .0) (v .1 .1 .0) _ _ (omega arith) (v .1 .1 .1 .0), simp length-set (omega arith)))))
 
 same-length : tie.Need-same-length Inv-loop μ-loop
 same-length c = omega arith
 
-returns-5 : tie.Need-returns-5 Inv-loop μ-loop
-returns-5 c = copying-all _ _ _ _ _ (omega arith) (omega arith) _ (c .before .loop .i) (omega arith) (c .before .loop .inv .1 .0)
+returns-3 : tie.Need-returns-3 Inv-loop μ-loop
+returns-3 c = let v = c .before .loop .inv in copying-all _ _ _ _ _ (v .1 .0) (v .1 .1 .0) _ (c .before .loop .i) (omega arith) (v .1 .1 .1 .0)
 
 pub copy-part-spec : {M : Type 1} → statement M
 copy-part-spec =
@@ -72,12 +64,10 @@ copy-part-spec =
     (tie.spec
     Inv-loop
     μ-loop
+    beyond-requires
     returns
-    sub-if2
+    beyond-requires-2
     returns-2
-    returns-3
-    sub-if4
-    returns-4
     loop-holds
     add-dst
     shared-slice-read-dst
@@ -87,4 +77,4 @@ copy-part-spec =
     loop-less
     loop-again
     same-length
-    returns-5)
+    returns-3)

@@ -2,15 +2,14 @@
 -- do not.
 use native.Mathlib.Omega.{arith}
 use Rattle.codec.proofs.Words.{less3-rest, less3-first}
-use borrow.Author.Needs.{needs}
 use Rattle.codec.proofs.less3.Statement.{statement}
 use Rattle.codec.proofs.less3.Tie as tie
 
 less2-requires : tie.Need-less2-requires
-less2-requires c κs = search needs
+less2-requires c κs = tt
 
 returns : tie.Need-returns
-returns c = less3-rest _ _ _ _ _ _ _ (omega arith) (cc)
+returns c = less3-rest _ _ _ _ _ _ _ (c .before .if1 .taken) (c .less2 .ensures)
 
 returns-2 : tie.Need-returns-2
 returns-2 c = less3-first _ _ _ _ _ _ (omega arith) (omega arith) (omega arith) (omega arith) (omega arith)

@@ -3,21 +3,17 @@ use mathlib.Core.Path.{sym}
 use native.Mathlib.Omega.{arith}
 use Rattle.codec.proofs.Numbers.{be-past}
 use Rattle.codec.proofs.Reading.{be-one}
-use borrow.Author.Needs.{needs}
 use Rattle.codec.proofs.read1.Statement.{statement}
 use Rattle.codec.proofs.read1.Tie as tie
 
 returns : tie.Need-returns
 returns c = (sym (be-past _ 1 _ (omega arith)), omega arith)
 
-shared-slice-read-wide : tie.Need-shared-slice-read-wide
-shared-slice-read-wide c = omega arith
-
-wide-requires : tie.Need-wide-requires
-wide-requires c κs = search needs
+one-requires : tie.Need-one-requires
+one-requires c κs = omega arith
 
 returns-2 : tie.Need-returns-2
 returns-2 c = simp be-one (omega arith)
 
 pub read1-spec : {M : Type 1} → statement M
-read1-spec = tie.close (tie.spec returns shared-slice-read-wide wide-requires returns-2)
+read1-spec = tie.close (tie.spec returns one-requires returns-2)

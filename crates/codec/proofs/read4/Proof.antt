@@ -13,13 +13,13 @@ sub-if2 : tie.Need-sub-if2
 sub-if2 c = omega arith
 
 read-slowly-requires : tie.Need-read-slowly-requires
-read-slowly-requires c κs = search needs
+read-slowly-requires c κs = omega arith
 
 returns-2 : tie.Need-returns-2
 returns-2 c = search needs
 
 four-requires : tie.Need-four-requires
-four-requires c κs = search needs
+four-requires c κs = omega arith
 
 returns-3 : tie.Need-returns-3
 returns-3 c = search needs

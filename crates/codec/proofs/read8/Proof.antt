@@ -1,9 +1,9 @@
 -- `codec::read8` meets its contract: eight bytes are four and four, and past the end the number is 0.
 use mathlib.Core.Path.{sym}
 use native.Mathlib.Omega.{arith}
-use borrow.Author.Needs.{needs}
 use Rattle.codec.proofs.Numbers.{be-past}
 use Rattle.codec.proofs.Reading.{be-eight}
+use borrow.Author.Needs.{needs}
 use Rattle.codec.proofs.read8.Statement.{statement}
 use Rattle.codec.proofs.read8.Tie as tie
 
@@ -14,13 +14,13 @@ sub-if2 : tie.Need-sub-if2
 sub-if2 c = omega arith
 
 read-slowly-requires : tie.Need-read-slowly-requires
-read-slowly-requires c κs = search needs
+read-slowly-requires c κs = omega arith
 
 returns-2 : tie.Need-returns-2
 returns-2 c = search needs
 
 four-requires : tie.Need-four-requires
-four-requires c κs = search needs
+four-requires c κs = omega arith
 
 mul-result : tie.Need-mul-result
 mul-result c = omega arith
@@ -29,7 +29,7 @@ add-four : tie.Need-add-four
 add-four c = omega arith
 
 four-requires-2 : tie.Need-four-requires-2
-four-requires-2 c κs = search needs
+four-requires-2 c κs = omega arith
 
 add-result : tie.Need-add-result
 add-result c = omega arith

@@ -1,15 +1,14 @@
 -- `codec::same3` meets its contract: ids are the same where all three words are.
 use native.Mathlib.Omega.{arith}
 use Rattle.codec.proofs.Words.{same3-rest, same3-first}
-use borrow.Author.Needs.{needs}
 use Rattle.codec.proofs.same3.Statement.{statement}
 use Rattle.codec.proofs.same3.Tie as tie
 
 same2-requires : tie.Need-same2-requires
-same2-requires c κs = search needs
+same2-requires c κs = tt
 
 returns : tie.Need-returns
-returns c = same3-rest _ _ _ _ _ _ _ (omega arith) (cc)
+returns c = same3-rest _ _ _ _ _ _ _ (c .before .if1 .taken) (c .same2 .ensures)
 
 returns-2 : tie.Need-returns-2
 returns-2 c = same3-first _ _ _ _ _ _ (omega arith) (omega arith) (omega arith) (omega arith) (omega arith)

@@ -1,81 +1,24 @@
--- `codec::write4` meets its contract: the stores, one after the other, are the bytes of the number from the place on.
-use native.Mathlib.Nat.{div-one}
-use native.Mathlib.Numerals.{towards-suc}
-use native.Mathlib.Omega.{arith}
-use lib.ListN.{length-set}
-use Rattle.codec.specs.Number.{put}
-use Rattle.codec.specs.Part.{bytes}
+-- `codec::write4` meets its contract: the four bytes are stored where there is room.
+use mathlib.Core.Path.{_∙_}
 use Rattle.codec.proofs.Writing.{no-room, written}
 use borrow.Author.Needs.{needs}
 use Rattle.codec.proofs.write4.Statement.{statement}
 use Rattle.codec.proofs.write4.Tie as tie
 
+beyond-requires : tie.Need-beyond-requires
+beyond-requires c κs = tt
+
 returns : tie.Need-returns
-returns c = no-room _ _ 4 _ (omega arith)
+returns c = no-room _ _ 4 _ (c .before .beyond .ensures .0 (c .if1 .taken))
 
-sub-if2 : tie.Need-sub-if2
-sub-if2 c = omega arith
-
-returns-2 : tie.Need-returns-2
-returns-2 c = no-room _ _ 4 _ (omega arith)
-
-cast-out : tie.Need-cast-out
-cast-out c = omega arith
-
-slice-write-out : tie.Need-slice-write-out
-slice-write-out c = omega arith
-
-cast-out-2 : tie.Need-cast-out-2
-cast-out-2 c = omega arith
-
-add-out : tie.Need-add-out
-add-out c = omega arith
-
-slice-write-out-2 : tie.Need-slice-write-out-2
-slice-write-out-2 c = simp length-set (omega arith)
-
-cast-out-3 : tie.Need-cast-out-3
-cast-out-3 c = omega arith
-
-add-out-2 : tie.Need-add-out-2
-add-out-2 c = omega arith
-
-slice-write-out-3 : tie.Need-slice-write-out-3
-slice-write-out-3 c = simp length-set (omega arith)
-
-cast-out-4 : tie.Need-cast-out-4
-cast-out-4 c = omega arith
-
-add-out-3 : tie.Need-add-out-3
-add-out-3 c = omega arith
-
-slice-write-out-4 : tie.Need-slice-write-out-4
-slice-write-out-4 c = simp length-set (omega arith)
+put4-requires : tie.Need-put4-requires
+put4-requires c κs = c .before .before .beyond .ensures .1 (c .before .if1 .left)
 
 same-length : tie.Need-same-length
 same-length c = search needs
 
-returns-3 : tie.Need-returns-3
-unfolding bytes put
-returns-3 c = simp (towards-suc, div-one) (simp div-one at (written (c .before .before .args .out .now) (c .before .before .args .at) 4 (c .before .before .args .x) (omega arith)))
+returns-2 : tie.Need-returns-2
+returns-2 c = c .before .before .put4 .ensures ∙ written _ _ 4 _ (c .before .before .before .before .before .beyond .ensures .1 (c .before .before .before .before .if1 .left))
 
 pub write4-spec : {M : Type 1} → statement M
-write4-spec =
-    tie.close
-    (tie.spec
-    returns
-    sub-if2
-    returns-2
-    cast-out
-    slice-write-out
-    cast-out-2
-    add-out
-    slice-write-out-2
-    cast-out-3
-    add-out-2
-    slice-write-out-3
-    cast-out-4
-    add-out-3
-    slice-write-out-4
-    same-length
-    returns-3)
+write4-spec = tie.close (tie.spec beyond-requires returns put4-requires same-length returns-2)
