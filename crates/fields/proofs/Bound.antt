@@ -133,6 +133,12 @@ module _ (s : List ℕ) (v from at : ℕ) (h : at ≤ length s) where
       above : suc (beAt s 24 from) ≤ beAt s 24 at
       above = ltb-true (beAt s 24 from) (beAt s 24 at) (sym e ∙ t)
 
+      -- what follows the bound does not look at the bound before
+      pub place-above : (g : Got) → g ≡ placeOf (range s v 0 at) → g ≡ placeOf (range s v (suc (beAt s 24 from)) at)
+      place-above g f =
+          f
+          ∙ ap placeOf (bound-good s v 0 at (omega arith) (omega arith) ∙ sym (bound-good s v (suc (beAt s 24 from)) at (omega arith) above))
+
       pub place-index-cut : length s - at < 28 → Fault 1 ≡ placeOf (range s v (suc (beAt s 24 from)) at)
       place-index-cut m = ap placeOf (index-cut s v (suc (beAt s 24 from)) at (omega arith) above (omega arith))
 

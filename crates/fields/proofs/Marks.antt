@@ -4,7 +4,7 @@
 use mathlib.Core.Path.{_≡_, refl, sym, ap, _∙_}
 use mathlib.Core.Bool.{Bool, true, false}
 use mathlib.Core.List.{List}
-use Prim.Native.Nat.{ℕ, suc, _+_, _-_, _*_, _<_}
+use Prim.Native.Nat.{ℕ, suc, _+_, _-_, _*_, _<_, _≤_}
 use native.Mathlib.Numerals.{add-one}
 use native.Mathlib.Omega.{arith}
 use borrow.Author.Tests.{eq-eqb, ne-eqb, eqb-true, eqb-false}
@@ -13,8 +13,10 @@ use lib.ListN.{length, getD, set, replicate, length-set, getD-replicate}
 use lib.Seq.{getD-set-same, getD-set-other}
 use Rattle.codec.specs.Number.{beAt}
 use Rattle.layout.specs.declared.Got.the-variants.{Num, Fault}
+use Rattle.layout.specs.Knowledge.{largestTick}
 use Rattle.layout.specs.Read.{repeat, among, element}
 use Rattle.fields.proofs.Among.{either, either-none, either-sure, among-last}
+use Rattle.fields.proofs.Element.{key-cut, key-high, key-twice, tick-cut, tick-high, element-good}
 use Rattle.fields.proofs.Repeat.{repeat-stop, repeat-on}
 
 -- ---- the marks
@@ -60,11 +62,35 @@ module _ (s : List ℕ) (start k at key : ℕ) (seen : List ℕ) (m : Marks s st
           ∙ m .marks y h
           ∙ sym (ap (λ (x : ℕ). eqb x 1) (getD-set-other seen key y 1 0 λ q. eqb-false key y t (sym q)))
 
--- ---- the elements from here on
+-- ---- the elements from here on, by the facts that the code has at each of its tests
 
-module _ (s : List ℕ) (r start n k at : ℕ) (inv : repeat (element s r start) n 0 start ≡ repeat (element s r start) (n - k) k at) (h : k < n) where
-  pub elements-stop : (j : ℕ) → Fault j ≡ element s r start k at → Fault j ≡ repeat (element s r start) n 0 start
-  elements-stop j e = repeat-stop (repeat (element s r start) n 0 start) (element s r start) n k k at inv h (Fault j) e j refl
+module _ (s : List ℕ) (r start n k at : ℕ) (inv : repeat (element s r start) n 0 start ≡ repeat (element s r start) (n - k) k at) (h : k < n) (i : at ≤ length s) where
+  stop : (j : ℕ) → Fault j ≡ element s r start k at → Fault j ≡ repeat (element s r start) n 0 start
+  stop j e = repeat-stop (repeat (element s r start) n 0 start) (element s r start) n k k at inv h (Fault j) e j refl
 
-  pub elements-on : (b : ℕ) → Num (k + 1) b ≡ element s r start k at → repeat (element s r start) n 0 start ≡ repeat (element s r start) (n - (k + 1)) (k + 1) b
-  elements-on b e = repeat-on (repeat (element s r start) n 0 start) (element s r start) n k k at inv h (Num (k + 1) b) e (k + 1) b refl
+  pub stop-key-cut : length s - at < 4 → Fault 1 ≡ repeat (element s r start) n 0 start
+  stop-key-cut t = stop 1 (key-cut s r start k at (omega arith))
+
+  module _ (l : 4 ≤ length s - at) (key : ℕ) (e : key ≡ beAt s 4 at) where
+    pub stop-key-high : r ≤ key → Fault 6 ≡ repeat (element s r start) n 0 start
+    stop-key-high t = stop 6 (key-high s r start k at (omega arith) (omega arith))
+
+    module _ (m : key < r) (o : r ≤ 16) (seen : List ℕ) (marks : Marks s start k seen) where
+      pub stop-key-twice : getD seen key 0 ≡ 1 → Fault 6 ≡ repeat (element s r start) n 0 start
+      stop-key-twice t = stop 6 (key-twice s r start k at (omega arith) (omega arith) (mark-met s start k at key seen marks e (omega arith) t))
+
+      module _ (new : getD seen key 0 ≡ 1 → ⊥) where
+        fresh : among s 4 12 start k (beAt s 4 at) ≡ false
+        fresh = mark-new s start k at key seen marks e (omega arith) new
+
+        pub stop-tick-cut : length s - at < 12 → Fault 1 ≡ repeat (element s r start) n 0 start
+        stop-tick-cut t = stop 1 (tick-cut s r start k at (omega arith) (omega arith) fresh (omega arith))
+
+        module _ (u : 12 ≤ length s - at) (tick : ℕ) (f : tick ≡ beAt s 8 (at + 4)) where
+          pub stop-tick-high : largestTick < tick → Fault 7 ≡ repeat (element s r start) n 0 start
+          stop-tick-high t = stop 7 (tick-high s r start k at (omega arith) (omega arith) fresh (omega arith) (rw f at t))
+
+          pub elements-on : tick ≤ largestTick → repeat (element s r start) n 0 start ≡ repeat (element s r start) (n - (k + 1)) (k + 1) (at + 12)
+          elements-on t =
+              repeat-on (repeat (element s r start) n 0 start) (element s r start) n k k at inv h (Num (k + 1) (at + 12))
+              (element-good s r start k at (omega arith) (omega arith) fresh (omega arith) (rw f at t)) (k + 1) (at + 12) refl

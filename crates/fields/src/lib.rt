@@ -5,7 +5,7 @@ use layout::Got;
 ghost use mathlib.Core.Path.{_≡_};
 ghost use Prim.Native.Nat.{suc, _+_, _-_, _*_, _≤_, _<_};
 ghost use lib.Dec.{eqb, ltb};
-ghost use lib.ListN.{length};
+ghost use lib.ListN.{length, getD};
 ghost use Rattle.codec.specs.Number.{beAt};
 ghost use Rattle.codec.specs.Words.{words2, words3};
 ghost use Rattle.layout.specs.Knowledge.{basic, opening, beforeVectors, beforeElements, beforeRanges, closing};
@@ -24,18 +24,19 @@ const TICK: usize = 9223372036854775807;
 
 // ---- numbers that are there
 
-// A byte as a number.
-fn wide(x: u8) -> usize
-    ensures { λ r. ⌜ (r ≡ x) × (r < 256) ⌝ }
+// The byte at a place, the number in the four bytes from a place on, and in the eight.
+fn one(s: &[u8], at: usize) -> usize
+    requires { ⌜ at < length (now s) ⌝ }
+    ensures { λ r. ⌜ (r ≡ getD (now (s .entry)) at 0) × (r < 256) ⌝ }
 {
-    x as usize
+    s[at] as usize
 }
 
 fn four(s: &[u8], at: usize) -> usize
     requires { ⌜ at + 4 ≤ length (now s) ⌝ }
     ensures { λ r. ⌜ Word (now (s .entry)) 4 at r ⌝ }
 {
-    wide(s[at]) * 16777216 + wide(s[at + 1]) * 65536 + wide(s[at + 2]) * 256 + wide(s[at + 3])
+    one(s, at) * 16777216 + one(s, at + 1) * 65536 + one(s, at + 2) * 256 + one(s, at + 3)
 }
 
 fn eight(s: &[u8], at: usize) -> usize
@@ -55,7 +56,7 @@ fn number_at(s: &[u8], at: usize, n: usize) -> usize
     let mut x: usize = 0;
     let mut i: usize = 0;
     while i < n {
-        x = x * 256 + wide(s[at + i]);
+        x = x * 256 + one(s, at + i);
         i += 1;
     }
     x
@@ -344,7 +345,22 @@ fn less(a: usize, b: usize, c: usize, x: usize, y: usize, z: usize) -> bool
     c < z
 }
 
-// The first range.
+// Is the bound at a place above the one at another.
+fn rises(s: &[u8], from: usize, at: usize) -> bool
+    requires { ⌜ (from + 24 ≤ length (now s)) × (at + 24 ≤ length (now s)) ⌝ }
+    ensures { λ r. ⌜ r ≡ ltb (beAt (now (s .entry)) 24 from) (beAt (now (s .entry)) 24 at) ⌝ }
+{
+    less(
+        eight(s, from),
+        eight(s, from + 8),
+        eight(s, from + 16),
+        eight(s, at),
+        eight(s, at + 8),
+        eight(s, at + 16),
+    )
+}
+
+// The first range, or one whose bound is above the one before.
 fn first_range(s: &[u8], v: usize, at: usize) -> Got
     requires { ⌜ at ≤ length (now s) ⌝ }
     ensures { λ r. ⌜ r ≡ placeOf (range (now (s .entry)) v 0 at) ⌝ }
@@ -366,21 +382,8 @@ fn next_range(s: &[u8], v: usize, from: usize, at: usize) -> Got
     if s.len() - at < 24 {
         return Got::Fault(1);
     }
-    if less(
-        eight(s, from),
-        eight(s, from + 8),
-        eight(s, from + 16),
-        eight(s, at),
-        eight(s, at + 8),
-        eight(s, at + 16),
-    ) {
-        if s.len() - at < 28 {
-            return Got::Fault(1);
-        }
-        if v <= four(s, at + 24) {
-            return Got::Fault(9);
-        }
-        return Got::Num(0, at + 28);
+    if rises(s, from, at) {
+        return first_range(s, v, at);
     }
     Got::Fault(8)
 }

@@ -1,11 +1,10 @@
 -- `fields::elements` meets its contract. The loop's invariant: the whole answer is the answer from here on, the place is inside the bytes, and a key has a mark exactly where it was met.
 use Rattle.fields.proofs.elements.Statement.{statement}
-use Rattle.fields.proofs.Repeat.{repeats}
-use Rattle.fields.proofs.Element.{key-cut, key-high, key-twice, tick-cut, tick-high, element-good}
-use Rattle.fields.proofs.Marks.{Marks, marks-none, mark-met, mark-new, marks-more, elements-stop, elements-on}
+use Rattle.fields.proofs.Repeat.{repeat-all, repeat-end}
+use Rattle.fields.proofs.Marks.{Marks, marks-none, marks-more, stop-key-cut, stop-key-high, stop-key-twice, stop-tick-cut, stop-tick-high, elements-on}
 use lib.ListN.{length, length-set}
 use native.Mathlib.Omega.{arith}
-use mathlib.Core.Path.{_≡_, refl}
+use mathlib.Core.Path.{_≡_, refl, _∙_}
 use Prim.Native.Nat.{_+_, _-_, _*_, _≤_}
 use Rattle.layout.specs.Read.{repeat, element}
 use Rattle.fields.proofs.elements.Tie as tie
@@ -24,7 +23,7 @@ abbrev μ-loop : tie.MeasureT-loop
 
 loop-holds : tie.Need-loop-holds Inv-loop μ-loop
 loop-holds c =
-    (search repeats, omega arith, omega arith, omega arith, refl, marks-none _ _)
+    (repeat-all _ _ _ _, omega arith, omega arith, omega arith, refl, marks-none _ _)
 
 sub-if1 : tie.Need-sub-if1 Inv-loop μ-loop
 sub-if1 c =
@@ -34,8 +33,7 @@ returns : tie.Need-returns Inv-loop μ-loop
 returns c =
     let a = c .before .before .before .before .args in
     let l = c .before .before .loop in
-    elements-stop (a .s .now) (a .r) (a .start) (a .n) (l .k) (l .at) (l .inv .0) (omega arith) 1
-    (key-cut (a .s .now) (a .r) (a .start) (l .k) (l .at) (omega arith))
+    stop-key-cut (a .s .now) (a .r) (a .start) (a .n) (l .k) (l .at) (l .inv .0) (c .before .loop-test .taken) (l .inv .3) (c .if1 .taken)
 
 four-requires : tie.Need-four-requires Inv-loop μ-loop
 four-requires c κs =
@@ -46,8 +44,7 @@ returns-2 c =
     let a = c .before .before .before .before .before .before .args in
     let l = c .before .before .before .before .loop in
     let f = c .before .four in
-    elements-stop (a .s .now) (a .r) (a .start) (a .n) (l .k) (l .at) (l .inv .0) (omega arith) 6
-    (key-high (a .s .now) (a .r) (a .start) (l .k) (l .at) (omega arith) (omega arith))
+    stop-key-high (a .s .now) (a .r) (a .start) (a .n) (l .k) (l .at) (l .inv .0) (c .before .before .before .loop-test .taken) (l .inv .3) (c .before .before .if1 .left) (f .result) (f .ensures .is) (c .if2 .taken)
 
 array-read-if3 : tie.Need-array-read-if3 Inv-loop μ-loop
 array-read-if3 c =
@@ -58,8 +55,7 @@ returns-3 c =
     let a = c .before .before .before .before .before .before .before .args in
     let l = c .before .before .before .before .before .loop in
     let f = c .before .before .four in
-    elements-stop (a .s .now) (a .r) (a .start) (a .n) (l .k) (l .at) (l .inv .0) (omega arith) 6
-    (key-twice (a .s .now) (a .r) (a .start) (l .k) (l .at) (omega arith) (omega arith) (mark-met (a .s .now) (a .start) (l .k) (l .at) (f .result) (l .seen) (l .inv .5) (f .ensures .is) (omega arith) (c .if3 .taken)))
+    stop-key-twice (a .s .now) (a .r) (a .start) (a .n) (l .k) (l .at) (l .inv .0) (c .before .before .before .before .loop-test .taken) (l .inv .3) (c .before .before .before .if1 .left) (f .result) (f .ensures .is) (c .before .if2 .left) (c .before .before .before .before .before .before .before .pre .0) (l .seen) (l .inv .5) (c .if3 .taken)
 
 sub-if4 : tie.Need-sub-if4 Inv-loop μ-loop
 sub-if4 c =
@@ -70,8 +66,7 @@ returns-4 c =
     let a = c .before .before .before .before .before .before .before .before .args in
     let l = c .before .before .before .before .before .before .loop in
     let f = c .before .before .before .four in
-    elements-stop (a .s .now) (a .r) (a .start) (a .n) (l .k) (l .at) (l .inv .0) (omega arith) 1
-    (tick-cut (a .s .now) (a .r) (a .start) (l .k) (l .at) (omega arith) (omega arith) (mark-new (a .s .now) (a .start) (l .k) (l .at) (f .result) (l .seen) (l .inv .5) (f .ensures .is) (omega arith) (c .before .if3 .left)) (omega arith))
+    stop-tick-cut (a .s .now) (a .r) (a .start) (a .n) (l .k) (l .at) (l .inv .0) (c .before .before .before .before .before .loop-test .taken) (l .inv .3) (c .before .before .before .before .if1 .left) (f .result) (f .ensures .is) (c .before .before .if2 .left) (c .before .before .before .before .before .before .before .before .pre .0) (l .seen) (l .inv .5) (c .before .if3 .left) (c .if4 .taken)
 
 add-eight : tie.Need-add-eight Inv-loop μ-loop
 add-eight c =
@@ -86,8 +81,8 @@ returns-5 c =
     let a = c .before .before .before .before .before .before .before .before .before .before .args in
     let l = c .before .before .before .before .before .before .before .before .loop in
     let f = c .before .before .before .before .before .four in
-    elements-stop (a .s .now) (a .r) (a .start) (a .n) (l .k) (l .at) (l .inv .0) (omega arith) 7
-    (tick-high (a .s .now) (a .r) (a .start) (l .k) (l .at) (omega arith) (omega arith) (mark-new (a .s .now) (a .start) (l .k) (l .at) (f .result) (l .seen) (l .inv .5) (f .ensures .is) (omega arith) (c .before .before .before .if3 .left)) (omega arith) (omega arith))
+    let t = c .before .eight in
+    stop-tick-high (a .s .now) (a .r) (a .start) (a .n) (l .k) (l .at) (l .inv .0) (c .before .before .before .before .before .before .before .loop-test .taken) (l .inv .3) (c .before .before .before .before .before .before .if1 .left) (f .result) (f .ensures .is) (c .before .before .before .before .if2 .left) (c .before .before .before .before .before .before .before .before .before .before .pre .0) (l .seen) (l .inv .5) (c .before .before .before .if3 .left) (c .before .before .if4 .left) (t .result) (t .ensures .is) (c .if5 .taken)
 
 array-write-seen : tie.Need-array-write-seen Inv-loop μ-loop
 array-write-seen c =
@@ -109,18 +104,21 @@ loop-again : tie.Need-loop-again Inv-loop μ-loop
 loop-again c =
     let a = c .before .before .before .before .before .before .before .before .before .before .args in
     let l = c .before .before .before .before .before .before .before .before .loop in
-    let f = c .before .before .before .before .before .four in (
-      elements-on (a .s .now) (a .r) (a .start) (a .n) (l .k) (l .at) (l .inv .0) (omega arith) (l .at + 12) (element-good (a .s .now) (a .r) (a .start) (l .k) (l .at) (omega arith) (omega arith) (mark-new (a .s .now) (a .start) (l .k) (l .at) (f .result) (l .seen) (l .inv .5) (f .ensures .is) (omega arith) (c .before .before .before .if3 .left)) (omega arith) (omega arith)),
+    let f = c .before .before .before .before .before .four in
+    let t = c .before .eight in (
+      elements-on (a .s .now) (a .r) (a .start) (a .n) (l .k) (l .at) (l .inv .0) (c .before .before .before .before .before .before .before .loop-test .taken) (l .inv .3) (c .before .before .before .before .before .before .if1 .left) (f .result) (f .ensures .is) (c .before .before .before .before .if2 .left) (c .before .before .before .before .before .before .before .before .before .before .pre .0) (l .seen) (l .inv .5) (c .before .before .before .if3 .left) (c .before .before .if4 .left) (t .result) (t .ensures .is) (c .if5 .left),
       omega arith,
       omega arith,
       omega arith,
-      simp length-set (omega arith),
-      marks-more (a .s .now) (a .start) (l .k) (l .at) (f .result) (l .seen) (l .inv .5) (f .ensures .is) (omega arith) (omega arith),
+      length-set (l .seen) (f .result) 1 ∙ l .inv .4,
+      marks-more (a .s .now) (a .start) (l .k) (l .at) (f .result) (l .seen) (l .inv .5) (f .ensures .is) (omega arith) (l .inv .2),
     )
 
 returns-6 : tie.Need-returns-6 Inv-loop μ-loop
 returns-6 c =
-    search repeats
+    let a = c .before .before .before .args in
+    let l = c .before .loop in
+    repeat-end _ (element (a .s .now) (a .r) (a .start)) (a .n) (l .k) (l .k) (l .at) (l .inv .0) (c .loop-test .left)
 
 pub elements-spec : {M : Type 1} → statement M
 elements-spec =

@@ -3,7 +3,6 @@ use Rattle.codec.specs.Number.{beFrom, beAt}
 use Prim.Native.Nat.{_+_, _-_, _^_, _<_, _≤_}
 use mathlib.Core.Path.{_≡_}
 use Rattle.fields.proofs.Digits.{digits-none, digits-on, digits-end, digit-more, digits-fit}
-use borrow.Author.Needs.{needs}
 use native.Mathlib.Omega.{arith}
 use Rattle.fields.proofs.number_at.Statement.{statement}
 use Rattle.fields.proofs.number_at.Tie as tie
@@ -23,21 +22,17 @@ mul-x : tie.Need-mul-x Inv-loop μ-loop
 mul-x c =
     record { fits = omega (arith, digits-fit (c .before .loop .x) 0 (c .before .loop .i) (omega arith) (omega arith) (omega arith)) }
 
-add-wide : tie.Need-add-wide Inv-loop μ-loop
-add-wide c =
+add-one : tie.Need-add-one Inv-loop μ-loop
+add-one c =
     omega arith
 
-shared-slice-read-wide : tie.Need-shared-slice-read-wide Inv-loop μ-loop
-shared-slice-read-wide c =
+one-requires : tie.Need-one-requires Inv-loop μ-loop
+one-requires c κs =
     omega arith
-
-wide-requires : tie.Need-wide-requires Inv-loop μ-loop
-wide-requires c κs =
-    search needs
 
 add-x : tie.Need-add-x Inv-loop μ-loop
 add-x c =
-    record { fits = digits-fit (c .before .before .before .loop .x) (c .wide .result) (c .before .before .before .loop .i) (omega arith) (omega arith) (omega arith) }
+    record { fits = digits-fit (c .before .before .loop .x) (c .one .result) (c .before .before .loop .i) (omega arith) (omega arith) (omega arith) }
 
 add-i : tie.Need-add-i Inv-loop μ-loop
 add-i c =
@@ -49,10 +44,10 @@ loop-less c =
 
 loop-again : tie.Need-loop-again Inv-loop μ-loop
 loop-again c =
-    let l = c .before .before .before .loop in (
-      digits-on _ _ _ _ _ _ (l .inv .0) (omega arith) (c .wide .ensures .0),
+    let l = c .before .before .loop in (
+      digits-on _ _ _ _ _ _ (l .inv .0) (omega arith) (c .one .ensures .0),
       omega arith,
-      digit-more (l .x) (c .wide .result) (l .i) (omega arith) (omega arith),
+      digit-more (l .x) (c .one .result) (l .i) (omega arith) (omega arith),
     )
 
 returns : tie.Need-returns Inv-loop μ-loop
@@ -67,9 +62,8 @@ number-at-spec =
     μ-loop
     loop-holds
     mul-x
-    add-wide
-    shared-slice-read-wide
-    wide-requires
+    add-one
+    one-requires
     add-x
     add-i
     loop-less
