@@ -11,25 +11,15 @@ use Rattle.codec.proofs.Numbers.{be-zero, be-suc, be-below}
 use Rattle.codec.proofs.Order.{words2-be, words2-same, word-below}
 use Rattle.reader.specs.Method.{leAt, swap}
 
-place2 : (s : List ℕ) (at : ℕ) → getD s (at + 1 + 1) 0 ≡ getD s (at + 2) 0
-place2 s at = let e : at + 1 + 1 ≡ at + 2 = omega arith in ap (λ (i : ℕ). getD s i 0) e
-
-place3 : (s : List ℕ) (at : ℕ) → getD s (at + 1 + 1 + 1) 0 ≡ getD s (at + 3) 0
-place3 s at = let e : at + 1 + 1 + 1 ≡ at + 3 = omega arith in ap (λ (i : ℕ). getD s i 0) e
-
 pub le2 : (s : List ℕ) (at a b : ℕ) → a ≡ getD s at 0 → b ≡ getD s (at + 1) 0 → a + b * 256 ≡ leAt s 2 at
 unfolding leAt
 le2 s at a b e f = omega arith
 
-pub le4 :
-    (s : List ℕ) (at a b c d : ℕ)
-    → a ≡ getD s at 0
-    → b ≡ getD s (at + 1) 0
-    → c ≡ getD s (at + 2) 0
-    → d ≡ getD s (at + 3) 0
-    → a + b * 256 + c * 65536 + d * 16777216 ≡ leAt s 4 at
+pub le4 : (s : List ℕ) (at a b : ℕ) → a ≡ leAt s 2 at → b ≡ leAt s 2 (at + 2) → a + b * 65536 ≡ leAt s 4 at
 unfolding leAt
-le4 s at a b c d e f g h = omega (arith, place2 s at, place3 s at)
+le4 s at a b e f =
+    let p : at + 1 + 1 ≡ at + 2 = omega arith in
+    omega (arith, ap (λ (x : ℕ). leAt s 2 x) p)
 
 pub le8 : (s : List ℕ) (at a b : ℕ) → a ≡ leAt s 4 at → b ≡ leAt s 4 (at + 4) → a + b * 4294967296 ≡ leAt s 8 at
 unfolding leAt

@@ -6,14 +6,14 @@ ghost use mathlib.Core.Path.{_≡_};
 ghost use mathlib.Core.Bool.{true, false};
 ghost use Prim.Native.Nat.{suc, _+_, _-_, _*_, _≤_, _<_};
 ghost use lib.Dec.{ltb};
-ghost use lib.ListN.{length};
+ghost use lib.ListN.{length, getD};
 ghost use Rattle.codec.specs.Number.{beAt};
 ghost use Rattle.codec.specs.Words.{words3};
 ghost use Rattle.layout.specs.Knowledge.{basic, closing};
 ghost use Rattle.layout.specs.Read.{repeat, fields, among, replicaId, element, vector, range};
 ghost use Rattle.layout.specs.Parse.{checked};
 ghost use Rattle.fields.specs.Method.{Word, placeOf, rangesFrom, afterMap, afterVectors};
-ghost use Rattle.reader.specs.Method.{leAt, Little, Opened, Counting, Ranging, Reached};
+ghost use Rattle.reader.specs.Method.{leAt, Little, Opened, Counting, Ranging, Vectored, Reached, Rested, Counted, Mapped};
 
 // the most replicas
 const REPLICAS: usize = 16;
@@ -23,18 +23,19 @@ const RANGES: usize = 64;
 
 // ---- numbers that are there
 
-// A byte as a number.
-fn wide(x: u8) -> usize
-    ensures { λ r. ⌜ (r ≡ x) × (r < 256) ⌝ }
+// The byte at a place, the number in the four bytes from a place on, and in the eight.
+fn one(s: &[u8], at: usize) -> usize
+    requires { ⌜ at < length (now s) ⌝ }
+    ensures { λ r. ⌜ (r ≡ getD (now (s .entry)) at 0) × (r < 256) ⌝ }
 {
-    x as usize
+    s[at] as usize
 }
 
 fn four(s: &[u8], at: usize) -> usize
     requires { ⌜ at + 4 ≤ length (now s) ⌝ }
     ensures { λ r. ⌜ Word (now (s .entry)) 4 at r ⌝ }
 {
-    wide(s[at]) * 16777216 + wide(s[at + 1]) * 65536 + wide(s[at + 2]) * 256 + wide(s[at + 3])
+    one(s, at) * 16777216 + one(s, at + 1) * 65536 + one(s, at + 2) * 256 + one(s, at + 3)
 }
 
 fn eight(s: &[u8], at: usize) -> usize
@@ -58,14 +59,14 @@ fn little2(s: &[u8], at: usize) -> usize
     requires { ⌜ at + 2 ≤ length (now s) ⌝ }
     ensures { λ r. ⌜ Little (now (s .entry)) 2 at r ⌝ }
 {
-    wide(s[at]) + wide(s[at + 1]) * 256
+    one(s, at) + one(s, at + 1) * 256
 }
 
 fn little4(s: &[u8], at: usize) -> usize
     requires { ⌜ at + 4 ≤ length (now s) ⌝ }
     ensures { λ r. ⌜ Little (now (s .entry)) 4 at r ⌝ }
 {
-    wide(s[at]) + wide(s[at + 1]) * 256 + wide(s[at + 2]) * 65536 + wide(s[at + 3]) * 16777216
+    little2(s, at) + little2(s, at + 2) * 65536
 }
 
 fn little8(s: &[u8], at: usize) -> usize
@@ -132,7 +133,7 @@ fn before_ranges_amiss(s: &[u8], at: usize) -> bool
     if little2(s, at + 12) != 0 {
         return true;
     }
-    wide(s[at + 14]) != 0
+    one(s, at + 14) != 0
 }
 
 fn closing_amiss(s: &[u8], at: usize) -> bool
@@ -143,7 +144,7 @@ fn closing_amiss(s: &[u8], at: usize) -> bool
     if little8(s, at) != 1801439850948198400 {
         return true;
     }
-    if wide(s[at + 8]) != 1 {
+    if one(s, at + 8) != 1 {
         return true;
     }
     little4(s, at + 9) != 0
@@ -219,32 +220,38 @@ fn elements_amiss(s: &[u8], r: usize, n: usize, start: usize) -> bool
     128 <= bad
 }
 
-// The vectors after the first, with 57 bytes or more after them: what follows the vectors takes no less.
+// A vector of n elements, with 57 bytes or more after it: what follows the vectors takes no less.
+fn vector_amiss(s: &[u8], r: usize, n: usize, at: usize) -> bool
+    requires { ⌜ (r ≤ 16) × (at + 57 ≤ length (now s)) × (n ≡ beAt (now s) 4 (at + 4)) ⌝ }
+    ensures { λ x. ⌜ (x ≡ false → Vectored (now (s .entry)) r n at) ⌝ }
+{
+    // 1
+    if little4(s, at) != 16777216 {
+        return true;
+    }
+    if r < n {
+        return true;
+    }
+    if s.len() - 57 < at + 8 + 12 * n {
+        return true;
+    }
+    elements_amiss(s, r, n, at + 8)
+}
+
+// The vectors after the first.
 fn vectors_whole(s: &[u8], r: usize, v: usize, start: usize) -> Got
     requires { ⌜ (r ≤ 16) × (start + 57 ≤ length (now s)) ⌝ }
     ensures { λ g. ⌜ Reached (now (s .entry)) 57 (repeat (vector (now (s .entry)) r) (v - 1) 0 start) g ⌝ }
 {
-    let room = s.len() - 57;
     let mut k: usize = 1;
     let mut e: usize = 0;
     let mut at = start;
     while k < v {
-        // 1
-        if little4(s, at) != 16777216 {
-            return Got::Fault(0);
-        }
         let n = four(s, at + 4);
-        if r < n {
+        if vector_amiss(s, r, n, at) {
             return Got::Fault(0);
         }
-        let next = at + 8 + 12 * n;
-        if room < next {
-            return Got::Fault(0);
-        }
-        if elements_amiss(s, r, n, at + 8) {
-            return Got::Fault(0);
-        }
-        at = next;
+        at = at + 8 + 12 * n;
         e += n;
         k += 1;
     }
@@ -316,32 +323,58 @@ fn ranges_amiss(s: &[u8], v: usize, g: usize, start: usize) -> bool
     false
 }
 
+// The fields before the ranges, whose count is g, the ranges, and the fields after them, which end the bytes.
+fn rest_amiss(s: &[u8], v: usize, g: usize, at: usize) -> bool
+    requires { ⌜ (at + 57 ≤ length (now s)) × (g ≡ getD (now s) (at + 15) 0) ⌝ }
+    ensures { λ x. ⌜ (x ≡ false → Rested (now (s .entry)) v g at) ⌝ }
+{
+    if before_ranges_amiss(s, at) {
+        return true;
+    }
+    if g < 1 {
+        return true;
+    }
+    if RANGES < g {
+        return true;
+    }
+    let end = at + 16 + 28 * g;
+    if s.len() - 13 != end {
+        return true;
+    }
+    if closing_amiss(s, end) {
+        return true;
+    }
+    ranges_amiss(s, v, g, at + 16)
+}
+
 // The check from the fields after the vectors on.
 fn ranges_fast(s: &[u8], r: usize, v: usize, e: usize, at: usize) -> Checked
     requires { ⌜ (at + 57 ≤ length (now s)) × (checked basic (now s) ≡ afterVectors (now s) r v e at) ⌝ }
     ensures { λ c. ⌜ c ≡ checked basic (now (s .entry)) ⌝ }
 {
-    if before_ranges_amiss(s, at) {
-        return slow(s);
-    }
-    let g = wide(s[at + 15]);
-    if g < 1 {
-        return slow(s);
-    }
-    if RANGES < g {
-        return slow(s);
-    }
-    let end = at + 16 + 28 * g;
-    if s.len() - 13 != end {
-        return slow(s);
-    }
-    if closing_amiss(s, end) {
-        return slow(s);
-    }
-    if ranges_amiss(s, v, g, at + 16) {
+    let g = one(s, at + 15);
+    if rest_amiss(s, v, g, at) {
         return slow(s);
     }
     Checked::Accepted { r, v, e, g }
+}
+
+// The fields before the vectors, whose count is v, and the first vector.
+fn count_amiss(s: &[u8], v: usize, at: usize) -> bool
+    requires { ⌜ (at + 86 ≤ length (now s)) × (v ≡ getD (now s) (at + 20) 0) ⌝ }
+    ensures { λ x. ⌜ (x ≡ false → Counted (now (s .entry)) v at) ⌝ }
+{
+    if before_vectors_amiss(s, at) {
+        return true;
+    }
+    if v < 1 {
+        return true;
+    }
+    if RANGES + 1 < v {
+        return true;
+    }
+    // the first vector: 1 and no elements
+    little8(s, at + 21) != 16777216
 }
 
 // The check from the fields after the replica map on.
@@ -349,18 +382,8 @@ fn vectors_fast(s: &[u8], r: usize, at: usize) -> Checked
     requires { ⌜ (r ≤ 16) × (at + 86 ≤ length (now s)) × (checked basic (now s) ≡ afterMap (now s) r at) ⌝ }
     ensures { λ c. ⌜ c ≡ checked basic (now (s .entry)) ⌝ }
 {
-    if before_vectors_amiss(s, at) {
-        return slow(s);
-    }
-    let v = wide(s[at + 20]);
-    if v < 1 {
-        return slow(s);
-    }
-    if RANGES + 1 < v {
-        return slow(s);
-    }
-    // the first vector: 1 and no elements
-    if little8(s, at + 21) != 16777216 {
+    let v = one(s, at + 20);
+    if count_amiss(s, v, at) {
         return slow(s);
     }
     let g = vectors_whole(s, r, v, at + 29);
@@ -370,6 +393,23 @@ fn vectors_fast(s: &[u8], r: usize, at: usize) -> Checked
     ranges_fast(s, r, v, e, next)
 }
 
+// The opening, whose count is r, and the replica ids.
+fn map_amiss(s: &[u8], r: usize) -> bool
+    requires { ⌜ (113 ≤ length (now s)) × (r ≡ getD (now s) 26 0) ⌝ }
+    ensures { λ x. ⌜ (x ≡ false → Mapped (now (s .entry)) r) ⌝ }
+{
+    if opening_amiss(s) {
+        return true;
+    }
+    if REPLICAS < r {
+        return true;
+    }
+    if s.len() - 86 < 27 + 16 * r {
+        return true;
+    }
+    ids_amiss(s, r)
+}
+
 // Checks the bytes of a knowledge: its counts, or the number of the first fault.
 pub fn check(s: &[u8]) -> Checked
     ensures { λ r. ⌜ r ≡ checked basic (now (s .entry)) ⌝ }
@@ -377,19 +417,9 @@ pub fn check(s: &[u8]) -> Checked
     if s.len() < 113 {
         return slow(s);
     }
-    if opening_amiss(s) {
+    let r = one(s, 26);
+    if map_amiss(s, r) {
         return slow(s);
     }
-    let r = wide(s[26]);
-    if REPLICAS < r {
-        return slow(s);
-    }
-    let at = 27 + 16 * r;
-    if s.len() - 86 < at {
-        return slow(s);
-    }
-    if ids_amiss(s, r) {
-        return slow(s);
-    }
-    vectors_fast(s, r, at)
+    vectors_fast(s, r, 27 + 16 * r)
 }

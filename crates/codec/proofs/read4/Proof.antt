@@ -1,7 +1,6 @@
 -- `codec::read4` meets its contract: `four` and `read_slowly` read the number, and past the end it is 0.
 use mathlib.Core.Path.{sym}
 use native.Mathlib.Omega.{arith}
-use borrow.Author.Needs.{needs}
 use Rattle.codec.proofs.Numbers.{be-past}
 use Rattle.codec.proofs.read4.Statement.{statement}
 use Rattle.codec.proofs.read4.Tie as tie
@@ -16,13 +15,13 @@ read-slowly-requires : tie.Need-read-slowly-requires
 read-slowly-requires c κs = omega arith
 
 returns-2 : tie.Need-returns-2
-returns-2 c = search needs
+returns-2 c = omega arith
 
 four-requires : tie.Need-four-requires
 four-requires c κs = omega arith
 
 returns-3 : tie.Need-returns-3
-returns-3 c = search needs
+returns-3 c = omega arith
 
 pub read4-spec : {M : Type 1} → statement M
 read4-spec =

@@ -5,7 +5,7 @@ use native.Mathlib.Omega.{arith}
 use Rattle.codec.specs.Number.{put}
 use Rattle.codec.specs.Part.{bytes}
 use Rattle.codec.proofs.Writing.{no-room, written}
-use borrow.Author.Needs.{needs}
+use lib.ListN.{length-set}
 use Rattle.codec.proofs.write1.Statement.{statement}
 use Rattle.codec.proofs.write1.Tie as tie
 
@@ -19,7 +19,7 @@ slice-write-out : tie.Need-slice-write-out
 slice-write-out c = omega arith
 
 same-length : tie.Need-same-length
-same-length c = search needs
+same-length c = simp length-set
 
 returns-2 : tie.Need-returns-2
 unfolding bytes put

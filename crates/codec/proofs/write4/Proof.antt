@@ -1,7 +1,7 @@
 -- `codec::write4` meets its contract: the four bytes are stored where there is room.
+use native.Mathlib.Omega.{arith}
 use mathlib.Core.Path.{_∙_}
 use Rattle.codec.proofs.Writing.{no-room, written}
-use borrow.Author.Needs.{needs}
 use Rattle.codec.proofs.write4.Statement.{statement}
 use Rattle.codec.proofs.write4.Tie as tie
 
@@ -15,7 +15,7 @@ put4-requires : tie.Need-put4-requires
 put4-requires c κs = c .before .before .beyond .ensures .1 (c .before .if1 .left)
 
 same-length : tie.Need-same-length
-same-length c = search needs
+same-length c = omega arith
 
 returns-2 : tie.Need-returns-2
 returns-2 c = c .before .before .put4 .ensures ∙ written _ _ 4 _ (c .before .before .before .before .before .beyond .ensures .1 (c .before .before .before .before .if1 .left))

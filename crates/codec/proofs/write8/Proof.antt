@@ -6,7 +6,6 @@ use lib.ListN.{length}
 use lib.Seq.{length-sets}
 use Rattle.codec.specs.Part.{bytes}
 use Rattle.codec.proofs.Writing.{no-room, eight-stored}
-use borrow.Author.Needs.{needs}
 use Rattle.codec.proofs.write8.Statement.{statement}
 use Rattle.codec.proofs.write8.Tie as tie
 
@@ -26,7 +25,7 @@ put4-requires-2 : tie.Need-put4-requires-2
 put4-requires-2 c κs = let l = ap length (c .before .before .before .put4 .ensures) ∙ length-sets (c .before .before .before .before .before .before .before .before .args .out .now) (c .before .before .before .before .before .before .before .before .args .at) (bytes 4 (c .before .before .before .before .before .before .before .before .args .x / 4294967296)) in omega (arith, l, c .before .before .before .before .before .before .beyond .ensures .1 (c .before .before .before .before .before .if1 .left))
 
 same-length : tie.Need-same-length
-same-length c = search needs
+same-length c = omega arith
 
 returns-2 : tie.Need-returns-2
 returns-2 c = eight-stored (c .before .before .before .before .before .before .before .before .before .before .before .args .out .now) (c .before .before .before .before .before .before .put4 .last .0) (c .before .before .put42 .last .0) (c .before .before .before .before .before .before .before .before .before .before .before .args .at) (c .before .before .before .before .before .before .before .before .before .before .before .args .x) (c .before .before .before .before .before .before .put4 .ensures) (c .before .before .put42 .ensures) (c .before .before .before .before .before .before .before .before .before .beyond .ensures .1 (c .before .before .before .before .before .before .before .before .if1 .left))

@@ -1,22 +1,22 @@
 -- `fields::after_count` meets its contract. The vectors, then what is after them.
+use native.Mathlib.Omega.{arith}
 use Rattle.fields.specs.Method.{afterCount}
 use Rattle.fields.proofs.Parts.{told-fault, told-on}
 use mathlib.Core.Path.{sym, _∙_}
-use borrow.Author.Needs.{needs}
 use Rattle.fields.proofs.after_count.Statement.{statement}
 use Rattle.fields.proofs.after_count.Tie as tie
 
 vectors-requires : tie.Need-vectors-requires
-vectors-requires c κs = search needs
+vectors-requires c κs = omega arith
 
 enum-known-e : tie.Need-enum-known-e
-enum-known-e c = search needs
+enum-known-e c = omega arith
 
 after-vectors-requires : tie.Need-after-vectors-requires
-after-vectors-requires c κs = search needs
+after-vectors-requires c κs = tt
 
 enum-known-n : tie.Need-enum-known-n
-enum-known-n c = search needs
+enum-known-n c = omega arith
 
 returns : tie.Need-returns
 unfolding afterCount

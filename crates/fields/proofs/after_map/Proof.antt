@@ -1,22 +1,22 @@
 -- `fields::after_map` meets its contract. The count of the vectors, then what is after it.
+use native.Mathlib.Omega.{arith}
 use Rattle.fields.specs.Method.{afterMap}
 use Rattle.fields.proofs.Parts.{told-fault, told-on}
 use mathlib.Core.Path.{sym, _∙_}
-use borrow.Author.Needs.{needs}
 use Rattle.fields.proofs.after_map.Statement.{statement}
 use Rattle.fields.proofs.after_map.Tie as tie
 
 vector-count-requires : tie.Need-vector-count-requires
-vector-count-requires c κs = search needs
+vector-count-requires c κs = tt
 
 enum-known-v : tie.Need-enum-known-v
-enum-known-v c = search needs
+enum-known-v c = omega arith
 
 after-count-requires : tie.Need-after-count-requires
-after-count-requires c κs = search needs
+after-count-requires c κs = omega arith
 
 enum-known-n : tie.Need-enum-known-n
-enum-known-n c = search needs
+enum-known-n c = omega arith
 
 returns : tie.Need-returns
 unfolding afterMap

@@ -1,17 +1,17 @@
 -- `fields::after_ranges` meets its contract. The closing fields, then that no byte is left.
+use native.Mathlib.Omega.{arith}
 use Rattle.fields.proofs.Parts.{answer-whole, answer-more, answer-fault}
-use borrow.Author.Needs.{needs}
 use Rattle.fields.proofs.after_ranges.Statement.{statement}
 use Rattle.fields.proofs.after_ranges.Tie as tie
 
 closing-fields-requires : tie.Need-closing-fields-requires
-closing-fields-requires c κs = search needs
+closing-fields-requires c κs = tt
 
 enum-known-end : tie.Need-enum-known-end
-enum-known-end c = search needs
+enum-known-end c = omega arith
 
 enum-known-n : tie.Need-enum-known-n
-enum-known-n c = search needs
+enum-known-n c = omega arith
 
 returns : tie.Need-returns
 returns c =

@@ -1,22 +1,22 @@
 -- `fields::after_vectors` meets its contract. The ranges, then what is after them.
+use native.Mathlib.Omega.{arith}
 use Rattle.fields.specs.Method.{afterVectors}
 use Rattle.fields.proofs.Parts.{told-fault, told-on}
 use mathlib.Core.Path.{sym, _∙_}
-use borrow.Author.Needs.{needs}
 use Rattle.fields.proofs.after_vectors.Statement.{statement}
 use Rattle.fields.proofs.after_vectors.Tie as tie
 
 range-list-requires : tie.Need-range-list-requires
-range-list-requires c κs = search needs
+range-list-requires c κs = tt
 
 enum-known-g : tie.Need-enum-known-g
-enum-known-g c = search needs
+enum-known-g c = omega arith
 
 after-ranges-requires : tie.Need-after-ranges-requires
-after-ranges-requires c κs = search needs
+after-ranges-requires c κs = tt
 
 enum-known-n : tie.Need-enum-known-n
-enum-known-n c = search needs
+enum-known-n c = omega arith
 
 returns : tie.Need-returns
 unfolding afterVectors

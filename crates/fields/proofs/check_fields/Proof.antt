@@ -1,21 +1,21 @@
 -- `fields::check_fields` meets its contract. The replica map, then what is after it.
+use native.Mathlib.Omega.{arith}
 use Rattle.fields.proofs.Parts.{map-most, check-fault, check-on}
-use borrow.Author.Needs.{needs}
 use Rattle.fields.proofs.check_fields.Statement.{statement}
 use Rattle.fields.proofs.check_fields.Tie as tie
 
 replica-map-requires : tie.Need-replica-map-requires
-replica-map-requires c κs = search needs
+replica-map-requires c κs = tt
 
 enum-known-r : tie.Need-enum-known-r
-enum-known-r c = search needs
+enum-known-r c = omega arith
 
 after-map-requires : tie.Need-after-map-requires
 after-map-requires c κs =
     map-most _ _ (c .before .before .before .replica-map .ensures) _ _ (c .before .r .given .1)
 
 enum-known-n : tie.Need-enum-known-n
-enum-known-n c = search needs
+enum-known-n c = omega arith
 
 returns : tie.Need-returns
 returns c =

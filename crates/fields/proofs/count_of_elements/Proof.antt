@@ -1,14 +1,14 @@
 -- `fields::count_of_elements` meets its contract. The field, then the count.
+use native.Mathlib.Omega.{arith}
 use Rattle.fields.proofs.Vector.{count-field}
-use borrow.Author.Needs.{needs}
 use Rattle.fields.proofs.count_of_elements.Statement.{statement}
 use Rattle.fields.proofs.count_of_elements.Tie as tie
 
 fixed-requires : tie.Need-fixed-requires
-fixed-requires c κs = search needs
+fixed-requires c κs = omega arith
 
 read-requires : tie.Need-read-requires
-read-requires c κs = search needs
+read-requires c κs = omega arith
 
 returns : tie.Need-returns
 returns c =

@@ -1,18 +1,18 @@
 -- `fields::fields_before_ranges` meets its contract. The fields are read one after the other, in the order of the definition's list.
+use native.Mathlib.Omega.{arith}
 use Rattle.layout.specs.Knowledge.{beforeRanges}
 use Rattle.fields.proofs.Run.{runs}
-use borrow.Author.Needs.{needs}
 use Rattle.fields.proofs.fields_before_ranges.Statement.{statement}
 use Rattle.fields.proofs.fields_before_ranges.Tie as tie
 
 fixed-requires : tie.Need-fixed-requires
-fixed-requires c κs = search needs
+fixed-requires c κs = omega arith
 
 fixed-requires-2 : tie.Need-fixed-requires-2
-fixed-requires-2 c κs = search needs
+fixed-requires-2 c κs = omega arith
 
 fixed-requires-3 : tie.Need-fixed-requires-3
-fixed-requires-3 c κs = search needs
+fixed-requires-3 c κs = omega arith
 
 returns : tie.Need-returns
 unfolding beforeRanges

@@ -2,29 +2,28 @@
 use Rattle.fields.proofs.Bound.{first-good}
 use native.Mathlib.Omega.{arith}
 use Rattle.fields.proofs.Bound.{firsts}
-use borrow.Author.Needs.{needs}
 use Rattle.fields.proofs.first_range.Statement.{statement}
 use Rattle.fields.proofs.first_range.Tie as tie
 
 sub-if1 : tie.Need-sub-if1
-sub-if1 c = search needs
+sub-if1 c = omega arith
 
 returns : tie.Need-returns
 returns c =
     search firsts
 
 add-four : tie.Need-add-four
-add-four c = search needs
+add-four c = omega arith
 
 four-requires : tie.Need-four-requires
-four-requires c κs = search needs
+four-requires c κs = omega arith
 
 returns-2 : tie.Need-returns-2
 returns-2 c =
     search firsts
 
 add-t4 : tie.Need-add-t4
-add-t4 c = search needs
+add-t4 c = omega arith
 
 returns-3 : tie.Need-returns-3
 returns-3 c =

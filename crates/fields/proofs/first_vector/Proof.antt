@@ -1,15 +1,14 @@
 -- `fields::first_vector` meets its contract. The field and the count, then that the count is 0.
 use Rattle.fields.proofs.Steps.{next-step}
-use borrow.Author.Needs.{needs}
 use Rattle.layout.specs.Read.{firstVector}
 use Rattle.fields.proofs.first_vector.Statement.{statement}
 use Rattle.fields.proofs.first_vector.Tie as tie
 
 count-of-elements-requires : tie.Need-count-of-elements-requires
-count-of-elements-requires c κs = search needs
+count-of-elements-requires c κs = tt
 
 no-elements-requires : tie.Need-no-elements-requires
-no-elements-requires c κs = search needs
+no-elements-requires c κs = tt
 
 returns : tie.Need-returns
 unfolding firstVector

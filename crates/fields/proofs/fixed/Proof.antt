@@ -1,14 +1,14 @@
 -- `fields::fixed` meets its contract. Reading, then comparing.
+use native.Mathlib.Omega.{arith}
 use Rattle.fields.proofs.Steps.{next-step}
-use borrow.Author.Needs.{needs}
 use Rattle.fields.proofs.fixed.Statement.{statement}
 use Rattle.fields.proofs.fixed.Tie as tie
 
 read-requires : tie.Need-read-requires
-read-requires c κs = search needs
+read-requires c κs = omega arith
 
 equal-requires : tie.Need-equal-requires
-equal-requires c κs = search needs
+equal-requires c κs = tt
 
 returns : tie.Need-returns
 returns c =

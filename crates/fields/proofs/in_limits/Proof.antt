@@ -1,14 +1,15 @@
 -- `fields::in_limits` meets its contract. Each return has the test that the definition makes there.
+use native.Mathlib.Omega.{arith}
 use borrow.Author.Needs.{needs}
 use Rattle.fields.proofs.Steps.{steps}
 use Rattle.fields.proofs.in_limits.Statement.{statement}
 use Rattle.fields.proofs.in_limits.Tie as tie
 
 enum-known-g : tie.Need-enum-known-g
-enum-known-g c = search needs
+enum-known-g c = omega arith
 
 enum-told : tie.Need-enum-told
-enum-told c = search needs
+enum-told c = omega arith
 
 returns : tie.Need-returns
 returns c = search needs

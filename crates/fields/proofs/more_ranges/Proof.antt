@@ -4,7 +4,6 @@ use Rattle.fields.specs.Method.{rangesAfter}
 use Prim.Native.Nat.{_-_, _≤_}
 use mathlib.Core.Path.{_≡_, refl}
 use Rattle.fields.proofs.Bound.{range-went, ranges-stop, ranges-on, ranges-end}
-use borrow.Author.Needs.{needs}
 use native.Mathlib.Omega.{arith}
 use Rattle.fields.proofs.more_ranges.Statement.{statement}
 use Rattle.fields.proofs.more_ranges.Tie as tie
@@ -30,11 +29,11 @@ next-range-requires c κs =
 
 enum-known-f : tie.Need-enum-known-f Inv-loop μ-loop
 enum-known-f c =
-    search needs
+    omega arith
 
 enum-told : tie.Need-enum-told Inv-loop μ-loop
 enum-told c =
-    search needs
+    omega arith
 
 returns : tie.Need-returns Inv-loop μ-loop
 returns c =

@@ -4,7 +4,6 @@ use Prim.Native.Nat.{_-_, _≤_}
 use mathlib.Core.Path.{_≡_, refl}
 use Rattle.fields.proofs.Vector.{vector-below}
 use Rattle.fields.proofs.Repeat.{repeats, repeat-on}
-use borrow.Author.Needs.{needs}
 use native.Mathlib.Omega.{arith}
 use Rattle.fields.proofs.more_vectors.Statement.{statement}
 use Rattle.fields.proofs.more_vectors.Tie as tie
@@ -26,11 +25,11 @@ next-vector-requires c κs =
 
 enum-known-g : tie.Need-enum-known-g Inv-loop μ-loop
 enum-known-g c =
-    search needs
+    omega arith
 
 enum-told : tie.Need-enum-told Inv-loop μ-loop
 enum-told c =
-    search needs
+    omega arith
 
 returns : tie.Need-returns Inv-loop μ-loop
 returns c =

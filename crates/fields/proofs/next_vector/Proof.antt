@@ -1,21 +1,20 @@
 -- `fields::next_vector` meets its contract. The count, then as many elements. Each element takes twelve bytes, so that the sum of the counts fits.
-use borrow.Author.Needs.{needs}
 use native.Mathlib.Omega.{arith}
 use Rattle.fields.proofs.Vector.{vector-count-fault, vector-start, vector-element-fault, vector-end, vector-good}
 use Rattle.fields.proofs.next_vector.Statement.{statement}
 use Rattle.fields.proofs.next_vector.Tie as tie
 
 count-of-elements-requires : tie.Need-count-of-elements-requires
-count-of-elements-requires c κs = search needs
+count-of-elements-requires c κs = tt
 
 in-limits-requires : tie.Need-in-limits-requires
-in-limits-requires c κs = search needs
+in-limits-requires c κs = tt
 
 enum-known-g : tie.Need-enum-known-g
-enum-known-g c = search needs
+enum-known-g c = omega arith
 
 enum-told : tie.Need-enum-told
-enum-told c = search needs
+enum-told c = omega arith
 
 returns : tie.Need-returns
 returns c =
@@ -28,10 +27,10 @@ elements-requires c κs =
     (omega arith, vector-start (a .s .now) (a .r) (a .e) (a .at) _ _ (c .before .before .before .before .count-of-elements .ensures) (c .before .before .before .in-limits .ensures) _ _ (c .before .g .given .1) .inside)
 
 enum-known-g-2 : tie.Need-enum-known-g-2
-enum-known-g-2 c = search needs
+enum-known-g-2 c = omega arith
 
 enum-told-2 : tie.Need-enum-told-2
-enum-told-2 c = search needs
+enum-told-2 c = omega arith
 
 returns-2 : tie.Need-returns-2
 returns-2 c =

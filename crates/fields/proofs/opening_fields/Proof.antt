@@ -1,30 +1,30 @@
 -- `fields::opening_fields` meets its contract. The fields are read one after the other, in the order of the definition's list.
+use native.Mathlib.Omega.{arith}
 use Rattle.layout.specs.Knowledge.{opening}
 use Rattle.fields.proofs.Run.{runs}
-use borrow.Author.Needs.{needs}
 use Rattle.fields.proofs.opening_fields.Statement.{statement}
 use Rattle.fields.proofs.opening_fields.Tie as tie
 
 fixed-requires : tie.Need-fixed-requires
-fixed-requires c κs = search needs
+fixed-requires c κs = omega arith
 
 fixed-requires-2 : tie.Need-fixed-requires-2
-fixed-requires-2 c κs = search needs
+fixed-requires-2 c κs = omega arith
 
 fixed-requires-3 : tie.Need-fixed-requires-3
-fixed-requires-3 c κs = search needs
+fixed-requires-3 c κs = omega arith
 
 fixed-requires-4 : tie.Need-fixed-requires-4
-fixed-requires-4 c κs = search needs
+fixed-requires-4 c κs = omega arith
 
 fixed-requires-5 : tie.Need-fixed-requires-5
-fixed-requires-5 c κs = search needs
+fixed-requires-5 c κs = omega arith
 
 fixed-requires-6 : tie.Need-fixed-requires-6
-fixed-requires-6 c κs = search needs
+fixed-requires-6 c κs = omega arith
 
 fixed-requires-7 : tie.Need-fixed-requires-7
-fixed-requires-7 c κs = search needs
+fixed-requires-7 c κs = omega arith
 
 returns : tie.Need-returns
 unfolding opening

@@ -1,23 +1,23 @@
 -- `fields::range_list` meets its contract. The fields and the count, then as many ranges.
+use native.Mathlib.Omega.{arith}
 use Rattle.fields.proofs.Parts.{limited-inside, range-list-fault, range-list-on}
-use borrow.Author.Needs.{needs}
 use Rattle.fields.proofs.range_list.Statement.{statement}
 use Rattle.fields.proofs.range_list.Tie as tie
 
 fields-before-ranges-requires : tie.Need-fields-before-ranges-requires
-fields-before-ranges-requires c κs = search needs
+fields-before-ranges-requires c κs = tt
 
 read-requires : tie.Need-read-requires
-read-requires c κs = search needs
+read-requires c κs = omega arith
 
 in-limits-requires : tie.Need-in-limits-requires
-in-limits-requires c κs = search needs
+in-limits-requires c κs = tt
 
 enum-known-f : tie.Need-enum-known-f
-enum-known-f c = search needs
+enum-known-f c = omega arith
 
 enum-told : tie.Need-enum-told
-enum-told c = search needs
+enum-told c = omega arith
 
 returns : tie.Need-returns
 returns c =

@@ -1,7 +1,6 @@
 -- `fields::ranges` meets its contract. The first range, then those after it.
 use Rattle.fields.proofs.Bound.{range-went, ranges-none, ranges-first-fault, ranges-first}
 use native.Mathlib.Omega.{arith}
-use borrow.Author.Needs.{needs}
 use Rattle.fields.proofs.ranges.Statement.{statement}
 use Rattle.fields.proofs.ranges.Tie as tie
 
@@ -10,13 +9,13 @@ returns c =
     search ranges-none
 
 first-range-requires : tie.Need-first-range-requires
-first-range-requires c κs = search needs
+first-range-requires c κs = omega arith
 
 enum-known-f : tie.Need-enum-known-f
-enum-known-f c = search needs
+enum-known-f c = omega arith
 
 enum-told : tie.Need-enum-told
-enum-told c = search needs
+enum-told c = omega arith
 
 returns-2 : tie.Need-returns-2
 returns-2 c =

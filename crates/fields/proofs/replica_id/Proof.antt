@@ -1,35 +1,35 @@
 -- `fields::replica_id` meets its contract. Each return has the test that the definition makes there.
-use borrow.Author.Needs.{needs}
+use native.Mathlib.Omega.{arith}
 use Rattle.fields.proofs.Ids.{ids, id-new}
 use Rattle.fields.proofs.replica_id.Statement.{statement}
 use Rattle.fields.proofs.replica_id.Tie as tie
 
 sub-if1 : tie.Need-sub-if1
-sub-if1 c = search needs
+sub-if1 c = omega arith
 
 returns : tie.Need-returns
 returns c = search ids
 
 eight-requires : tie.Need-eight-requires
-eight-requires c κs = search needs
+eight-requires c κs = omega arith
 
 add-eight : tie.Need-add-eight
-add-eight c = search needs
+add-eight c = omega arith
 
 eight-requires-2 : tie.Need-eight-requires-2
-eight-requires-2 c κs = search needs
+eight-requires-2 c κs = omega arith
 
 seen-id-requires : tie.Need-seen-id-requires
-seen-id-requires c κs = search needs
+seen-id-requires c κs = omega arith
 
 returns-2 : tie.Need-returns-2
 returns-2 c = search ids
 
 add-t5 : tie.Need-add-t5
-add-t5 c = search needs
+add-t5 c = omega arith
 
 add-t9 : tie.Need-add-t9
-add-t9 c = search needs
+add-t9 c = omega arith
 
 returns-3 : tie.Need-returns-3
 returns-3 c =

@@ -8,7 +8,6 @@ use mathlib.Core.Path.{_≡_}
 use Prim.Native.Nat.{_+_, _-_, _*_, _≤_}
 use Rattle.layout.specs.Knowledge.{basic}
 use Rattle.layout.specs.Read.{repeat, replicaId}
-use borrow.Author.Needs.{needs}
 use Rattle.fields.proofs.Repeat.{repeats}
 use Rattle.fields.proofs.replica_ids.Tie as tie
 
@@ -29,10 +28,10 @@ replica-id-requires : tie.Need-replica-id-requires Inv-loop μ-loop
 replica-id-requires c κs = omega arith
 
 enum-known-g : tie.Need-enum-known-g Inv-loop μ-loop
-enum-known-g c = search needs
+enum-known-g c = omega arith
 
 enum-told : tie.Need-enum-told Inv-loop μ-loop
-enum-told c = search needs
+enum-told c = omega arith
 
 returns : tie.Need-returns Inv-loop μ-loop
 returns c = search repeats

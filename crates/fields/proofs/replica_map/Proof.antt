@@ -1,23 +1,23 @@
 -- `fields::replica_map` meets its contract. The fields and the count, then as many ids.
+use native.Mathlib.Omega.{arith}
 use Rattle.fields.proofs.Parts.{limited-inside, map-fault, map-on}
-use borrow.Author.Needs.{needs}
 use Rattle.fields.proofs.replica_map.Statement.{statement}
 use Rattle.fields.proofs.replica_map.Tie as tie
 
 opening-fields-requires : tie.Need-opening-fields-requires
-opening-fields-requires c κs = search needs
+opening-fields-requires c κs = tt
 
 read-requires : tie.Need-read-requires
-read-requires c κs = search needs
+read-requires c κs = omega arith
 
 in-limits-requires : tie.Need-in-limits-requires
-in-limits-requires c κs = search needs
+in-limits-requires c κs = tt
 
 enum-known-g : tie.Need-enum-known-g
-enum-known-g c = search needs
+enum-known-g c = omega arith
 
 enum-told : tie.Need-enum-told
-enum-told c = search needs
+enum-told c = omega arith
 
 returns : tie.Need-returns
 returns c =

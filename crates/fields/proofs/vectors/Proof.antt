@@ -1,24 +1,24 @@
 -- `fields::vectors` meets its contract. The first vector, then those after it.
+use native.Mathlib.Omega.{arith}
 use Rattle.fields.proofs.Vector.{first-fault, first-on}
-use borrow.Author.Needs.{needs}
 use Rattle.fields.proofs.vectors.Statement.{statement}
 use Rattle.fields.proofs.vectors.Tie as tie
 
 first-vector-requires : tie.Need-first-vector-requires
-first-vector-requires c κs = search needs
+first-vector-requires c κs = tt
 
 enum-known-g : tie.Need-enum-known-g
-enum-known-g c = search needs
+enum-known-g c = omega arith
 
 enum-told : tie.Need-enum-told
-enum-told c = search needs
+enum-told c = omega arith
 
 returns : tie.Need-returns
 returns c =
     first-fault _ _ _ _ _ (c .before .before .first-vector .ensures) _ (c .enum-told .given .1)
 
 more-vectors-requires : tie.Need-more-vectors-requires
-more-vectors-requires c κs = search needs
+more-vectors-requires c κs = omega arith
 
 returns-2 : tie.Need-returns-2
 returns-2 c =

@@ -4,32 +4,31 @@ use borrow.Author.Tests.{eqb-true, not-false}
 use mathlib.Core.Path.{sym, _∙_}
 use native.Mathlib.Omega.{arith}
 use Rattle.reader.proofs.Known.{never}
-use borrow.Author.Needs.{needs}
 use Rattle.reader.proofs.before_vectors_amiss.Statement.{statement}
 use Rattle.reader.proofs.before_vectors_amiss.Tie as tie
 
 little8-requires : tie.Need-little8-requires
-little8-requires c κs = search needs
+little8-requires c κs = omega arith
 
 returns : tie.Need-returns
 returns c =
     λ e. never e
 
 add-little8 : tie.Need-add-little8
-add-little8 c = search needs
+add-little8 c = omega arith
 
 little8-requires-2 : tie.Need-little8-requires-2
-little8-requires-2 c κs = search needs
+little8-requires-2 c κs = omega arith
 
 returns-2 : tie.Need-returns-2
 returns-2 c =
     λ e. never e
 
 add-little4 : tie.Need-add-little4
-add-little4 c = search needs
+add-little4 c = omega arith
 
 little4-requires : tie.Need-little4-requires
-little4-requires c κs = search needs
+little4-requires c κs = omega arith
 
 returns-3 : tie.Need-returns-3
 returns-3 c =

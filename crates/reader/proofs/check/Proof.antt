@@ -1,74 +1,37 @@
 -- `reader::check` meets its contract. The opening, the count and the ids have no fault, so what is left is the check from the fields after them on; in any other case the check is made field by field.
-use Prim.Native.Nat.{_+_, _*_}
-use mathlib.Core.Path.{refl}
-use Rattle.reader.proofs.Quick.{mapped}
 use native.Mathlib.Omega.{arith}
-use borrow.Author.Needs.{needs}
 use Rattle.reader.proofs.check.Statement.{statement}
 use Rattle.reader.proofs.check.Tie as tie
 
 slow-requires : tie.Need-slow-requires
-slow-requires c κs = search needs
+slow-requires c κs = tt
 
 returns : tie.Need-returns
-returns c = search needs
+returns c = c .slow .ensures
 
-opening-amiss-requires : tie.Need-opening-amiss-requires
-opening-amiss-requires c κs = search needs
+one-requires : tie.Need-one-requires
+one-requires c κs = omega arith
+
+map-amiss-requires : tie.Need-map-amiss-requires
+map-amiss-requires c κs = (c .before .if1 .left, c .one .ensures .0)
 
 slow-requires-2 : tie.Need-slow-requires-2
-slow-requires-2 c κs = search needs
+slow-requires-2 c κs = tt
 
 returns-2 : tie.Need-returns-2
-returns-2 c = search needs
+returns-2 c = c .slow2 .ensures
 
-shared-slice-read-wide : tie.Need-shared-slice-read-wide
-shared-slice-read-wide c = search needs
+mul-vectors-fast : tie.Need-mul-vectors-fast
+mul-vectors-fast c = omega (arith, c .before .map-amiss .ensures (c .if2 .left) .count)
 
-wide-requires : tie.Need-wide-requires
-wide-requires c κs = search needs
-
-slow-requires-3 : tie.Need-slow-requires-3
-slow-requires-3 c κs = search needs
-
-returns-3 : tie.Need-returns-3
-returns-3 c = search needs
-
-mul-at : tie.Need-mul-at
-mul-at c = search needs
-
-add-at : tie.Need-add-at
-add-at c = search needs
-
-sub-if4 : tie.Need-sub-if4
-sub-if4 c = search needs
-
-slow-requires-4 : tie.Need-slow-requires-4
-slow-requires-4 c κs = search needs
-
-returns-4 : tie.Need-returns-4
-returns-4 c = search needs
-
-ids-amiss-requires : tie.Need-ids-amiss-requires
-ids-amiss-requires c κs = search needs
-
-slow-requires-5 : tie.Need-slow-requires-5
-slow-requires-5 c κs = search needs
-
-returns-5 : tie.Need-returns-5
-returns-5 c = search needs
+add-vectors-fast : tie.Need-add-vectors-fast
+add-vectors-fast c = omega (arith, c .before .map-amiss .ensures (c .if2 .left) .count)
 
 vectors-fast-requires : tie.Need-vectors-fast-requires
-vectors-fast-requires c κs =
-    let a = c .before .before .before .before .before .before .before .before .before .before .args in
-    let r = c .before .before .before .before .wide .result in (
-      omega arith,
-      omega arith,
-      mapped (a .s .now) r (27 + 16 * r) (c .before .before .before .before .before .before .before .opening-amiss .ensures (c .before .before .before .before .before .before .if2 .left)) (omega arith) (c .before .before .before .before .wide .ensures .0) (omega arith) (c .before .ids-amiss .ensures (c .if5 .left)) refl,
-    )
+vectors-fast-requires c κs = let m = c .before .map-amiss .ensures (c .if2 .left) in (m .count, m .room, m .is)
 
-returns-6 : tie.Need-returns-6
-returns-6 c = search needs
+returns-3 : tie.Need-returns-3
+returns-3 c = c .vectors-fast .ensures
 
 pub check-spec : {M : Type 1} → statement M
 check-spec =
@@ -76,20 +39,11 @@ check-spec =
     (tie.spec
     slow-requires
     returns
-    opening-amiss-requires
+    one-requires
+    map-amiss-requires
     slow-requires-2
     returns-2
-    shared-slice-read-wide
-    wide-requires
-    slow-requires-3
-    returns-3
-    mul-at
-    add-at
-    sub-if4
-    slow-requires-4
-    returns-4
-    ids-amiss-requires
-    slow-requires-5
-    returns-5
+    mul-vectors-fast
+    add-vectors-fast
     vectors-fast-requires
-    returns-6)
+    returns-3)

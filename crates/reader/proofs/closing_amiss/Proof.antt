@@ -1,50 +1,34 @@
 -- `reader::closing_amiss` meets its contract. Where each word has its value, each field has its own.
-use Rattle.reader.proofs.Known.{closed}
-use borrow.Author.Tests.{eqb-true, not-false}
 use mathlib.Core.Path.{sym, _∙_}
 use native.Mathlib.Omega.{arith}
-use Rattle.reader.proofs.Known.{never}
-use borrow.Author.Needs.{needs}
+use borrow.Author.Tests.{eqb-true, not-false}
+use Rattle.reader.proofs.Known.{closed, never}
 use Rattle.reader.proofs.closing_amiss.Statement.{statement}
 use Rattle.reader.proofs.closing_amiss.Tie as tie
 
 little8-requires : tie.Need-little8-requires
-little8-requires c κs = search needs
+little8-requires c κs = omega arith
 
 returns : tie.Need-returns
-returns c =
-    λ e. never e
+returns c = λ e. never e
 
-add-wide : tie.Need-add-wide
-add-wide c = search needs
+add-one : tie.Need-add-one
+add-one c = omega arith
 
-shared-slice-read-wide : tie.Need-shared-slice-read-wide
-shared-slice-read-wide c = search needs
-
-wide-requires : tie.Need-wide-requires
-wide-requires c κs = search needs
+one-requires : tie.Need-one-requires
+one-requires c κs = omega arith
 
 returns-2 : tie.Need-returns-2
-returns-2 c =
-    λ e. never e
+returns-2 c = λ e. never e
 
 add-little4 : tie.Need-add-little4
-add-little4 c = search needs
+add-little4 c = omega arith
 
 little4-requires : tie.Need-little4-requires
-little4-requires c κs = search needs
+little4-requires c κs = omega arith
 
 returns-3 : tie.Need-returns-3
-returns-3 c =
-    λ e.
-    closed
-    (c .before .before .before .before .before .before .before .args .s .now)
-    (c .little4 .ensures .bytes)
-    (c .before .before .before .before .before .before .before .args .at)
-    (omega arith)
-    (sym (c .before .before .before .before .before .little8 .ensures .is) ∙ c .before .before .before .before .if1 .left)
-    (sym (c .before .before .wide .ensures .0) ∙ c .before .if2 .left)
-    (sym (c .little4 .ensures .is) ∙ eqb-true _ _ (not-false _ e))
+returns-3 c = λ e. closed (c .before .before .before .before .before .before .args .s .now) (c .little4 .ensures .bytes) (c .before .before .before .before .before .before .args .at) (c .before .before .before .before .before .before .pre) (sym (c .before .before .before .before .little8 .ensures .is) ∙ c .before .before .before .if1 .left) (sym (c .before .before .one .ensures .0) ∙ c .before .if2 .left) (sym (c .little4 .ensures .is) ∙ eqb-true _ _ (not-false _ e))
 
 pub closing-amiss-spec : {M : Type 1} → statement M
 closing-amiss-spec =
@@ -52,9 +36,8 @@ closing-amiss-spec =
     (tie.spec
     little8-requires
     returns
-    add-wide
-    shared-slice-read-wide
-    wide-requires
+    add-one
+    one-requires
     returns-2
     add-little4
     little4-requires

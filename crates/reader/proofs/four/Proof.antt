@@ -1,83 +1,70 @@
 -- `reader::four` meets its contract. The code adds the bytes, each times its power of 256, which is the number that they make.
-use borrow.Author.Needs.{needs}
 use native.Mathlib.Omega.{arith}
 use Rattle.fields.proofs.Digits.{be4}
 use Rattle.reader.proofs.four.Statement.{statement}
 use Rattle.reader.proofs.four.Tie as tie
 
-shared-slice-read-wide : tie.Need-shared-slice-read-wide
-shared-slice-read-wide c = search needs
-
-wide-requires : tie.Need-wide-requires
-wide-requires c κs = search needs
+one-requires : tie.Need-one-requires
+one-requires c κs = omega arith
 
 mul-result : tie.Need-mul-result
-mul-result c = search needs
+mul-result c = omega arith
 
-add-wide : tie.Need-add-wide
-add-wide c = search needs
+add-one : tie.Need-add-one
+add-one c = omega arith
 
-shared-slice-read-wide-2 : tie.Need-shared-slice-read-wide-2
-shared-slice-read-wide-2 c = search needs
-
-wide-requires-2 : tie.Need-wide-requires-2
-wide-requires-2 c κs = search needs
+one-requires-2 : tie.Need-one-requires-2
+one-requires-2 c κs = omega arith
 
 mul-result-2 : tie.Need-mul-result-2
-mul-result-2 c = search needs
+mul-result-2 c = omega arith
 
 add-result : tie.Need-add-result
-add-result c = search needs
+add-result c = omega arith
 
-add-wide-2 : tie.Need-add-wide-2
-add-wide-2 c = search needs
+add-one-2 : tie.Need-add-one-2
+add-one-2 c = omega arith
 
-shared-slice-read-wide-3 : tie.Need-shared-slice-read-wide-3
-shared-slice-read-wide-3 c = search needs
-
-wide-requires-3 : tie.Need-wide-requires-3
-wide-requires-3 c κs = search needs
+one-requires-3 : tie.Need-one-requires-3
+one-requires-3 c κs = omega arith
 
 mul-result-3 : tie.Need-mul-result-3
-mul-result-3 c = search needs
+mul-result-3 c = omega arith
 
 add-result-2 : tie.Need-add-result-2
-add-result-2 c = search needs
+add-result-2 c = omega arith
 
-add-wide-3 : tie.Need-add-wide-3
-add-wide-3 c = search needs
+add-one-3 : tie.Need-add-one-3
+add-one-3 c = omega arith
 
-shared-slice-read-wide-4 : tie.Need-shared-slice-read-wide-4
-shared-slice-read-wide-4 c = search needs
-
-wide-requires-4 : tie.Need-wide-requires-4
-wide-requires-4 c κs = search needs
+one-requires-4 : tie.Need-one-requires-4
+one-requires-4 c κs = omega arith
 
 add-result-3 : tie.Need-add-result-3
-add-result-3 c = search needs
+add-result-3 c = omega arith
 
 returns : tie.Need-returns
-returns c = record { is = search be4; below = search needs; bytes = record { below = λ i. omega (arith, c .before .shared-slice-known5 .given i) } }
+returns c = record {
+  is = be4 _ _ _ _ _ _ (c .before .before .before .one .ensures .0) (c .before .before .one2 .ensures .0) (c .before .one3 .ensures .0) (c .one4 .ensures .0);
+  below = omega arith;
+  bytes = record { below = λ i. omega (arith, c .before .before .before .before .shared-slice-known .given i) };
+}
 
 pub four-spec : {M : Type 1} → statement M
 four-spec =
     tie.close
     (tie.spec
-    shared-slice-read-wide
-    wide-requires
+    one-requires
     mul-result
-    add-wide
-    shared-slice-read-wide-2
-    wide-requires-2
+    add-one
+    one-requires-2
     mul-result-2
     add-result
-    add-wide-2
-    shared-slice-read-wide-3
-    wide-requires-3
+    add-one-2
+    one-requires-3
     mul-result-3
     add-result-2
-    add-wide-3
-    shared-slice-read-wide-4
-    wide-requires-4
+    add-one-3
+    one-requires-4
     add-result-3
     returns)

@@ -1,84 +1,28 @@
--- `reader::little4` meets its contract. The code adds the bytes, each times its power of 256 from the lowest on.
-use Rattle.reader.proofs.Little.{le4}
+-- `reader::little4` meets its contract. Four bytes are two and two more.
 use native.Mathlib.Omega.{arith}
-use borrow.Author.Needs.{needs}
+use Rattle.reader.proofs.Little.{le4}
 use Rattle.reader.proofs.little4.Statement.{statement}
 use Rattle.reader.proofs.little4.Tie as tie
 
-shared-slice-read-wide : tie.Need-shared-slice-read-wide
-shared-slice-read-wide c = search needs
+little2-requires : tie.Need-little2-requires
+little2-requires c κs = omega arith
 
-wide-requires : tie.Need-wide-requires
-wide-requires c κs = search needs
+add-little2 : tie.Need-add-little2
+add-little2 c = omega arith
 
-add-wide : tie.Need-add-wide
-add-wide c = search needs
-
-shared-slice-read-wide-2 : tie.Need-shared-slice-read-wide-2
-shared-slice-read-wide-2 c = search needs
-
-wide-requires-2 : tie.Need-wide-requires-2
-wide-requires-2 c κs = search needs
+little2-requires-2 : tie.Need-little2-requires-2
+little2-requires-2 c κs = omega arith
 
 mul-result : tie.Need-mul-result
-mul-result c = search needs
+mul-result c = omega arith
 
 add-result : tie.Need-add-result
-add-result c = search needs
-
-add-wide-2 : tie.Need-add-wide-2
-add-wide-2 c = search needs
-
-shared-slice-read-wide-3 : tie.Need-shared-slice-read-wide-3
-shared-slice-read-wide-3 c = search needs
-
-wide-requires-3 : tie.Need-wide-requires-3
-wide-requires-3 c κs = search needs
-
-mul-result-2 : tie.Need-mul-result-2
-mul-result-2 c = search needs
-
-add-result-2 : tie.Need-add-result-2
-add-result-2 c = search needs
-
-add-wide-3 : tie.Need-add-wide-3
-add-wide-3 c = search needs
-
-shared-slice-read-wide-4 : tie.Need-shared-slice-read-wide-4
-shared-slice-read-wide-4 c = search needs
-
-wide-requires-4 : tie.Need-wide-requires-4
-wide-requires-4 c κs = search needs
-
-mul-result-3 : tie.Need-mul-result-3
-mul-result-3 c = search needs
-
-add-result-3 : tie.Need-add-result-3
-add-result-3 c = search needs
+add-result c = omega arith
 
 returns : tie.Need-returns
-returns c =
-    record { is = search le4; below = search needs; bytes = record { below = λ i. omega (arith, c .before .shared-slice-known5 .given i) } }
+returns c = record { is = le4 _ _ _ _ (c .before .little2 .ensures .is) (c .little22 .ensures .is); below = omega arith; bytes = c .little22 .ensures .bytes }
 
 pub little4-spec : {M : Type 1} → statement M
 little4-spec =
     tie.close
-    (tie.spec
-    shared-slice-read-wide
-    wide-requires
-    add-wide
-    shared-slice-read-wide-2
-    wide-requires-2
-    mul-result
-    add-result
-    add-wide-2
-    shared-slice-read-wide-3
-    wide-requires-3
-    mul-result-2
-    add-result-2
-    add-wide-3
-    shared-slice-read-wide-4
-    wide-requires-4
-    mul-result-3
-    add-result-3
-    returns)
+    (tie.spec little2-requires add-little2 little2-requires-2 mul-result add-result returns)

@@ -4,40 +4,39 @@ use borrow.Author.Tests.{eqb-true, not-false}
 use mathlib.Core.Path.{sym, _∙_}
 use native.Mathlib.Omega.{arith}
 use Rattle.reader.proofs.Known.{never}
-use borrow.Author.Needs.{needs}
 use Rattle.reader.proofs.opening_amiss.Statement.{statement}
 use Rattle.reader.proofs.opening_amiss.Tie as tie
 
 little8-requires : tie.Need-little8-requires
-little8-requires c κs = search needs
+little8-requires c κs = omega arith
 
 returns : tie.Need-returns
 returns c =
     λ e. never e
 
 little8-requires-2 : tie.Need-little8-requires-2
-little8-requires-2 c κs = search needs
+little8-requires-2 c κs = omega arith
 
 returns-2 : tie.Need-returns-2
 returns-2 c =
     λ e. never e
 
 little4-requires : tie.Need-little4-requires
-little4-requires c κs = search needs
+little4-requires c κs = omega arith
 
 returns-3 : tie.Need-returns-3
 returns-3 c =
     λ e. never e
 
 little4-requires-2 : tie.Need-little4-requires-2
-little4-requires-2 c κs = search needs
+little4-requires-2 c κs = omega arith
 
 returns-4 : tie.Need-returns-4
 returns-4 c =
     λ e. never e
 
 little2-requires : tie.Need-little2-requires
-little2-requires c κs = search needs
+little2-requires c κs = omega arith
 
 returns-5 : tie.Need-returns-5
 returns-5 c =

@@ -4,21 +4,20 @@ use borrow.Author.Tests.{leb-false}
 use Rattle.fields.proofs.Bound.{place-good}
 use Rattle.reader.proofs.Known.{never}
 use native.Mathlib.Omega.{arith}
-use borrow.Author.Needs.{needs}
 use Rattle.reader.proofs.range_amiss.Statement.{statement}
 use Rattle.reader.proofs.range_amiss.Tie as tie
 
 sub-rises : tie.Need-sub-rises
-sub-rises c = search needs
+sub-rises c = omega arith
 
 rises-requires : tie.Need-rises-requires
-rises-requires c κs = search needs
+rises-requires c κs = omega arith
 
 add-four : tie.Need-add-four
-add-four c = search needs
+add-four c = omega arith
 
 four-requires : tie.Need-four-requires
-four-requires c κs = search needs
+four-requires c κs = omega arith
 
 returns : tie.Need-returns
 returns c =

@@ -1,21 +1,21 @@
 -- `reader::words_at` meets its contract. Both words are compared.
+use native.Mathlib.Omega.{arith}
 use borrow.Author.Tests.{eqb-false}
 use mathlib.Core.Path.{_∙_}
-use borrow.Author.Needs.{needs}
 use Rattle.reader.proofs.words_at.Statement.{statement}
 use Rattle.reader.proofs.words_at.Tie as tie
 
 little8-requires : tie.Need-little8-requires
-little8-requires c κs = search needs
+little8-requires c κs = omega arith
 
 returns : tie.Need-returns
-returns c = search needs
+returns c = omega arith
 
 add-little8 : tie.Need-add-little8
-add-little8 c = search needs
+add-little8 c = omega arith
 
 little8-requires-2 : tie.Need-little8-requires-2
-little8-requires-2 c κs = search needs
+little8-requires-2 c κs = omega arith
 
 returns-2 : tie.Need-returns-2
 returns-2 c =
