@@ -1,4 +1,4 @@
--- The names of the logic's library that definitions use, in one place. Nothing is defined here.
+-- The names of the logic's library that definitions use most, in one place. Nothing is defined here.
 pub use Prim.Native.Nat.{ℕ, zero, suc, max, _+_, _-_, _*_, _/_, _%_, _^_, _≤_, _<_}
 pub use mathlib.Core.Path.{_≡_}
 pub use mathlib.Core.Logic.{_⊎_, _↔_}

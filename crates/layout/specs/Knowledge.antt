@@ -1,4 +1,4 @@
--- Knowledge as a value, its bytes, and which knowledges are acceptable. Document 01, "Knowledge bytes" and the limits.
+-- Knowledge: the limits, the value, the bytes, and which knowledges are lawful. Document 01, "Knowledge bytes".
 use Rattle.codec.specs.Prelude.{ℕ, suc, _+_, _^_, _≤_, _<_, _≡_, List, [], _∷_, length, getD}
 use Rattle.codec.specs.Number.{put}
 use Rattle.layout.specs.declared.ReplicaKey.{ReplicaKey}
@@ -108,8 +108,8 @@ unfoldable pub bounds : List Range → List ℕ
 bounds [] = []
 bounds (x ∷ xs) = x .bound ∷ bounds xs
 
--- "r 0 to 16, v 1 to 65, g 1 to 64", replica ids not seen before, the first vector empty, in a vector at most r elements, no key
--- repeated, in free order; "keys and indices count from 0"; bounds above the one before
+-- "r 0 to 16, v 1 to 65, g 1 to 64, tick 0 to" the largest; "Keys and indices count from 0." The first vector is empty; no replica id
+-- and no key of a vector stands twice; each bound is above the one before
 pub record Lawful (R : Rules) (k : Knowledge) : Type 0 where
   pub replicas : length (k .replicas) ≤ R .limits .replicas
   pub ids : All (λ id. id < 256 ^ 16) (k .replicas)

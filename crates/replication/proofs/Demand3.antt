@@ -113,6 +113,8 @@ module _ (R : Rules) (permitted : Permitted (R .limits)) (accepts : (id : ℕ) �
         store = s .st;
         bytes = s .bytes;
         opens = opens R permitted w m f p small;
+        lawful = s .form .lawful;
+        normal = s .form .normal;
         own = s .own;
         ticks = λ i q h l. s .ticks i q h;
         rising = s .rising;
@@ -127,7 +129,7 @@ module _ (R : Rules) (permitted : Permitted (R .limits)) (accepts : (id : ℕ) �
   batches-open : (n : ℕ) (s : List ℕ) → batchNumber n (w .batches) ≡ some s → Opens R s
   batches-open n s e =
       let x = number n s e in
-      record { batch = x .follows .b; bytes = x .follows .bytes; opens = batch-open-at R permitted accepts w m f n s e x }
+      record { batch = x .follows .b; bytes = x .follows .bytes; opens = batch-open-at R permitted accepts w m f n s e x; lawful = (x .follows .needed .lawful, x .follows .learned .lawful) }
 
   pub batches-agree : (n : ℕ) (s : List ℕ) → batchNumber n (w .batches) ≡ some s → BatchAgrees R m n s
   batches-agree n s e =

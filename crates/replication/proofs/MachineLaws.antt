@@ -70,7 +70,7 @@ module _ (kind who item tag : ℕ) (m : State) (id : who < 256 ^ 16) (g : Good m
       rw (← e)
       (omega (arith, g .remembered b n who i 0, largest-known-bounds (m .ticks who) 0 who (power-positive 24) id))
 
-  -- M3: so the new version is contained in nothing that is known before, at its maker, at any other replica or in any
+  -- so the new version is contained in nothing that is known before, at its maker, at any other replica or in any
   -- batch
   pub fresh : (q : ℕ) → Contained (m .ticks q) (newVersion kind who item tag m) → ⊥
   fresh q c =

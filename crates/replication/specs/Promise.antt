@@ -2,8 +2,8 @@
 use Rattle.codec.specs.Prelude.{ℕ, _^_, _≤_, _<_, _≡_, List, [], none, some}
 use Rattle.codec.specs.Number.{put}
 use Rattle.codec.specs.Reply.{gives}
-use Rattle.layout.specs.Knowledge.{Rules, Rising}
-use Rattle.ticks.specs.Meaning.{highest, known}
+use Rattle.layout.specs.Knowledge.{Rules, Rising, Lawful}
+use Rattle.ticks.specs.Meaning.{highest, known, Normal}
 use Rattle.replication.specs.Formats.{items, find, Store, encodeStore, Batch, encodeBatch}
 use Rattle.replication.specs.OpenStore.{openStore}
 use Rattle.replication.specs.OpenBatch.{openBatch}
@@ -23,6 +23,8 @@ pub record Agrees (R : Rules) (w : World) (m : State) (p : ℕ) : Type 0 where
   pub store : Store
   pub bytes : w .stores p ≡ encodeStore store
   pub opens : openStore R (w .stores p) ≡ some store
+  pub lawful : Lawful R (store .knowledge)
+  pub normal : Normal (store .knowledge)
   pub own : store .own ≡ p
   -- "the tick known in its store's knowledge, for every item and replica id, equals the machine's"
   pub ticks : (i q : ℕ) → i ≤ highest → q < 256 ^ 16 → known (store .knowledge) i q ≡ m .ticks p i q
@@ -37,6 +39,7 @@ pub record Opens (R : Rules) (s : List ℕ) : Type 0 where
   pub batch : Batch
   pub bytes : s ≡ encodeBatch batch
   pub opens : openBatch R s ≡ some batch
+  pub lawful : Lawful R (batch .needed) × Lawful R (batch .learned)
 
 -- one apply after the other, into buffers of any lengths; the bytes are there where neither is refused
 pub record Twofold (R : Rules) (s a b : List ℕ) (result : List ℕ) : Type 0 where
