@@ -113,7 +113,7 @@ rec-of r f v =
       changeTick = v .changed;
     }
 
-rec-fits : (r : Rec) → LawfulRec r → FitsRec r
+pub rec-fits : (r : Rec) → LawfulRec r → FitsRec r
 rec-fits r l =
     let a : r .changeTick < 256 ^ 8 = omega (arith, l .changeTick) in
     let b : r .createTick < 256 ^ 8 = omega (arith, l .changeTick, l .order) in

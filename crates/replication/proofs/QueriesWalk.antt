@@ -1,28 +1,32 @@
 -- The walker over a lent table. At a place where a whole record of kind 1 or 2 stands it gives that record and goes on
--- behind it, 89 bytes further on; anywhere else it has nothing to give. The bound on its steps, the number of bytes, is
--- never met: a step goes over 89 bytes, so as many steps as bytes are left always suffice. So over the bytes of a table,
--- to their very end, it gives the records of the table in their order, and this is what stands at the end of every
--- valid store and batch.
-use Prim.Native.Nat.{ℕ, zero, suc, _+_, _≤_}
+-- behind it, 89 bytes further on; anywhere else it has nothing to give. In plain bytes: where the bytes from the place on
+-- are those of a lawful record and anything behind them, it gives that record; where fewer than 89 bytes are left, or the
+-- byte there is neither 1 nor 2, it ends. The bound on its steps, the number of bytes, is never met: a step goes over 89
+-- bytes, so as many steps as bytes are left always suffice. So over the bytes of a table, to their very end, it gives the
+-- records of the table in their order, and this is what stands at the end of every valid store and batch.
+use Prim.Native.Nat.{ℕ, zero, suc, _+_, _-_, _≤_, _<_}
 use mathlib.Core.Path.{_≡_, refl, sym, ap, _∙_}
 use mathlib.Core.Bool.{Bool, true, false}
-use mathlib.Core.Logic.{_⊎_}
+use mathlib.Core.Logic.{_⊎_, inl, inr}
 use mathlib.Core.List.{List, [], _∷_}
 use mathlib.Core.Option.{some}
 use native.Mathlib.Omega.{arith}
 use lib.Dec.{leb, eqb}
-use lib.ListN.{length}
+use lib.ListN.{length, getD, drop, length-drop}
 use borrow.Author.Tests.{le-leb}
 use Rattle.codec.specs.Number.{Bytes, beAt}
+use Rattle.codec.proofs.Reading.{be-one}
 use Rattle.layout.specs.Knowledge.{Rules, All, encode}
 use Rattle.layout.specs.Permitted.{Permitted}
 use Rattle.layout.proofs.Chain.{Stands, stands-length}
-use Rattle.replication.specs.Formats.{Rec, putRecs, Store, Batch}
+use Rattle.replication.specs.Formats.{Rec, putRec, putRecs, Store, Batch}
+use Rattle.replication.specs.Valid.{LawfulRec}
 use Rattle.replication.specs.Reading.{recAt, whole}
 use Rattle.replication.specs.OpenStore.{openStore}
 use Rattle.replication.specs.OpenBatch.{openBatch}
 use Rattle.replication.specs.Queries.{walkFrom, toGive}
-use Rattle.replication.proofs.RecordBytes.{FitsRec, whole-back, kind-length, kind-reads, rec-reads, rec-over}
+use Rattle.replication.proofs.RecordBytes.{FitsRec, whole-back, kind-length, kind-reads, rec-length, rec-reads, rec-over}
+use Rattle.replication.proofs.ContentsValid.{rec-fits}
 use Rattle.replication.proofs.QueriesPlaces.{store-places, batch-places}
 
 -- a whole record of a known kind stands at the place
@@ -85,6 +89,25 @@ pub walk-end : (s : List ℕ) (at : ℕ) → (((beAt s 1 at ≡ 1) ⊎ (beAt s 1
 unfolding toGive
 walk-end s at h = from-end (length s) s at (λ w. h (w .kind) (w .inside))
 
+-- ---- in plain bytes
+
+-- a record that stands at the place is given
+gives-fit : (s : List ℕ) (at : ℕ) (r : Rec) (t : List ℕ) → FitsRec r → Stands s at (putRec r t) → toGive s at ≡ r ∷ toGive s (at + 89)
+gives-fit s at r t f h =
+    walk-step s at (rw (kind-reads s at r t h f) (f .kind)) (rec-over s at r t h .inside) ∙ rw (rec-reads s at r t h f)
+
+-- where the bytes from a place on are those of a lawful record and anything behind them, it gives the record and goes on behind it
+pub walk-gives : (s : List ℕ) (at : ℕ) (r : Rec) (t : List ℕ) → LawfulRec r → drop at s ≡ putRec r t → toGive s at ≡ r ∷ toGive s (at + 89)
+walk-gives s at r t l e =
+    let n : length s - at ≡ 89 + length t = sym (length-drop at s) ∙ ap length e ∙ rec-length r t in
+    gives-fit s at r t (rec-fits r l) (record { inside = omega arith; rest = e })
+
+-- where fewer than 89 bytes are left, or the byte there is neither 1 nor 2, the walker has nothing to give
+pub walk-ends : (s : List ℕ) (at : ℕ) → (length s < at + 89) ⊎ ((getD s at 0 ≡ 1 → ⊥) × (getD s at 0 ≡ 2 → ⊥)) → toGive s at ≡ []
+walk-ends s at (inl h) = walk-end s at (λ k l. omega arith)
+walk-ends s at (inr h) =
+    walk-end s at (λ k l. elim k [ inl e ↦ h .0 (sym (be-one s at) ∙ e) | inr e ↦ h .1 (sym (be-one s at) ∙ e) ])
+
 -- ---- tables
 
 -- the records that stand from a place on, to the very end, are given in turn
@@ -92,9 +115,8 @@ pub walk-table : (s : List ℕ) (at : ℕ) (rs : List Rec) → All FitsRec rs �
 unfolding putRecs
 walk-table s at [] f h = walk-end s at (λ k l. omega (arith, stands-length s at [] h))
 walk-table s at (r ∷ rs) f h =
-    let o = rec-over s at r (putRecs rs []) h in
-    walk-step s at (rw (kind-reads s at r (putRecs rs []) h (f .0)) (f .0 .kind)) (o .inside)
-    ∙ rw (rec-reads s at r (putRecs rs []) h (f .0), walk-table s (at + 89) rs (f .1) o)
+    gives-fit s at r (putRecs rs []) (f .0) h
+    ∙ ap {B = List Rec} (λ qs. r ∷ qs) (walk-table s (at + 89) rs (f .1) (rec-over s at r (putRecs rs []) h))
 
 -- over a valid store, from its first record on, its records are given
 pub walk-store : (R : Rules) (s : List ℕ) (st : Store) → Permitted (R .limits) → Bytes s → openStore R s ≡ some st → toGive s (25 + length (encode (st .knowledge))) ≡ st .records

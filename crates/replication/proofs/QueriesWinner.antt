@@ -3,7 +3,8 @@
 -- batch's wins exactly where its change tick is greater, or the change ticks are equal and its change replica is greater.
 -- The part is then exactly the bytes of the winning record, since the search goes over the table in its bytes, record by
 -- record, just as it goes over the table's records. The learned knowledge of a valid batch is the part that its own
--- length field and that of needed show. Else the call is refused, by 15, 16 and 17 in this order.
+-- length field and that of needed show. Else the call is refused, by 15, 16 and 17 in this order. The part is empty on a
+-- refusal and for an item on neither side.
 use Prim.Native.Nat.{ℕ, suc, _+_, _≤_, _<_}
 use mathlib.Core.Path.{_≡_, refl, sym, ap, ap₂, _∙_, subst}
 use mathlib.Core.Bool.{Bool, true, false}
@@ -31,7 +32,7 @@ use Rattle.replication.specs.OpenStore.{openStore}
 use Rattle.replication.specs.OpenBatch.{openBatch}
 use Rattle.replication.specs.Operate.{wins}
 use Rattle.replication.specs.Calls.{noStore, storeOr, noBatch, batchOr}
-use Rattle.replication.specs.Queries.{Part, nothing, ofStore, ofBatch, partNumber, partSide, partAtPlace, partLength, placeOf, storeTable, batchTable, partAt, sideOf, orRefused, winnerPart, learnedPart}
+use Rattle.replication.specs.Queries.{Part, nothing, ofStore, ofBatch, partBytes, partNumber, partSide, partAtPlace, partLength, placeOf, storeTable, batchTable, partAt, sideOf, orRefused, winnerPart, learnedPart}
 use Rattle.replication.proofs.PartBytes.{part-reads}
 use Rattle.replication.proofs.RecordBytes.{FitsRec, rec-length, rec-reads, rec-step, rec-over}
 use Rattle.replication.proofs.Tables.{find-nil, here, there, finds, not-found}
@@ -88,11 +89,12 @@ placed-bytes s at r p =
     ∙ ap (λ (n : ℕ). take n (putRec r [] ++ p .rest)) (sym (rec-length r []))
     ∙ take-append-seam (putRec r []) (p .rest)
 
--- ---- what a call that returns a part says, with document 01's number and values
+-- ---- what a call that returns a part says: the part, document 01's number beside it, and the values that tell its place
 
--- no part: the number is 0 and all values are 0
+-- an item on neither side: the part is empty, the number is 0 and all values are 0
 pub record NoPart (p : Part) : Type 0 where
   pub is : p ≡ nothing
+  pub part : (s batch : List ℕ) → partBytes p s batch ≡ []
   pub number : partNumber p ≡ 0
   pub side : (old : ℕ) → partSide p old ≡ 0
   pub place : (old : ℕ) → partAtPlace p old ≡ 0
@@ -105,6 +107,7 @@ pub record StorePart (s w : List ℕ) (p : Part) : Type 0 where
   pub is : p ≡ ofStore at count
   pub inside : at + count ≤ length s
   pub bytes : take count (drop at s) ≡ w
+  pub part : (batch : List ℕ) → partBytes p s batch ≡ w
   pub number : partNumber p ≡ 0
   pub side : (old : ℕ) → partSide p old ≡ 1
   pub place : (old : ℕ) → partAtPlace p old ≡ at
@@ -117,23 +120,26 @@ pub record BatchPart (t w : List ℕ) (p : Part) : Type 0 where
   pub is : p ≡ ofBatch at count
   pub inside : at + count ≤ length t
   pub bytes : take count (drop at t) ≡ w
+  pub part : (s : List ℕ) → partBytes p s t ≡ w
   pub number : partNumber p ≡ 0
   pub side : (old : ℕ) → partSide p old ≡ 2
   pub place : (old : ℕ) → partAtPlace p old ≡ at
   pub size : (old : ℕ) → partLength p old ≡ count
 
--- a refusal: its number, and no value changes
+-- a refusal: the part is empty, the number is the refusal's, and no value changes
 pub record NoPartBut (n : ℕ) (p : Part) : Type 0 where
   pub is : p ≡ Part.refusal n
+  pub part : (s batch : List ℕ) → partBytes p s batch ≡ []
   pub number : partNumber p ≡ n
   pub side : (old : ℕ) → partSide p old ≡ old
   pub place : (old : ℕ) → partAtPlace p old ≡ old
   pub size : (old : ℕ) → partLength p old ≡ old
 
 no-part : (p : Part) → p ≡ nothing → NoPart p
-unfolding partNumber partSide partAtPlace partLength
+unfolding partBytes partNumber partSide partAtPlace partLength
 no-part p e = record {
   is = e;
+  part = λ s batch. ap (λ (q : Part). partBytes q s batch) e;
   number = ap partNumber e;
   side = λ old. ap (λ (q : Part). partSide q old) e;
   place = λ old. ap (λ (q : Part). partAtPlace q old) e;
@@ -141,13 +147,14 @@ no-part p e = record {
 }
 
 store-part : (s w : List ℕ) (p : Part) (at n : ℕ) → p ≡ ofStore at n → at + n ≤ length s → take n (drop at s) ≡ w → StorePart s w p
-unfolding partNumber partSide partAtPlace partLength
+unfolding partBytes partNumber partSide partAtPlace partLength
 store-part s w p at n e l b = record {
   at = at;
   count = n;
   is = e;
   inside = l;
   bytes = b;
+  part = λ batch. ap (λ (q : Part). partBytes q s batch) e ∙ b;
   number = ap partNumber e;
   side = λ old. ap (λ (q : Part). partSide q old) e;
   place = λ old. ap (λ (q : Part). partAtPlace q old) e;
@@ -155,13 +162,14 @@ store-part s w p at n e l b = record {
 }
 
 batch-part : (t w : List ℕ) (p : Part) (at n : ℕ) → p ≡ ofBatch at n → at + n ≤ length t → take n (drop at t) ≡ w → BatchPart t w p
-unfolding partNumber partSide partAtPlace partLength
+unfolding partBytes partNumber partSide partAtPlace partLength
 batch-part t w p at n e l b = record {
   at = at;
   count = n;
   is = e;
   inside = l;
   bytes = b;
+  part = λ s. ap (λ (q : Part). partBytes q s t) e ∙ b;
   number = ap partNumber e;
   side = λ old. ap (λ (q : Part). partSide q old) e;
   place = λ old. ap (λ (q : Part). partAtPlace q old) e;
@@ -169,9 +177,10 @@ batch-part t w p at n e l b = record {
 }
 
 part-refused : (n : ℕ) (p : Part) → p ≡ Part.refusal n → NoPartBut n p
-unfolding partNumber partSide partAtPlace partLength
+unfolding partBytes partNumber partSide partAtPlace partLength
 part-refused n p e = record {
   is = e;
+  part = λ s batch. ap (λ (q : Part). partBytes q s batch) e;
   number = ap partNumber e;
   side = λ old. ap (λ (q : Part). partSide q old) e;
   place = λ old. ap (λ (q : Part). partAtPlace q old) e;

@@ -1,5 +1,5 @@
 -- The calls that write nothing: winner, learned, what a walker has still to give, and coverage.
-use Rattle.codec.specs.Prelude.{ℕ, zero, suc, _+_, _*_, _/_, Bool, true, false, List, [], _∷_, Option, none, some, eqb, length}
+use Rattle.codec.specs.Prelude.{ℕ, zero, suc, _+_, _*_, _/_, Bool, true, false, List, [], _∷_, Option, none, some, eqb, length, take, drop}
 use Rattle.codec.specs.Number.{beAt}
 use Rattle.codec.specs.Reply.{Reply, gives, refuses, firstFault}
 use Rattle.layout.specs.Knowledge.{Rules, Knowledge}
@@ -22,9 +22,17 @@ pub data Part : Type 0 where
   ofBatch : ℕ → ℕ → Part
   refusal : ℕ → Part
 
--- document 01's number and values of a part: the number, 0 where nothing is refused; whose the part is, 0 nobody's, 1 the
--- store's, 2 the batch's; where it begins and how long it is, both 0 "for an item on neither side". On a refusal only the
--- number returns: where the values are put, the old ones stay
+-- "Calls that return a part give the number beside it; the part is empty on a refusal and for an item on neither side": the
+-- part, of the store's bytes s or of the batch's
+unfoldable pub partBytes : Part → List ℕ → List ℕ → List ℕ
+partBytes nothing s batch = []
+partBytes (ofStore at n) s batch = take n (drop at s)
+partBytes (ofBatch at n) s batch = take n (drop at batch)
+partBytes (refusal k) s batch = []
+
+-- `partNumber` is document 01's number, 0 where nothing is refused. `partSide` (0 nobody's, 1 the store's, 2 the batch's),
+-- `partAtPlace` and `partLength` are how a caller that is given places instead of a part is told: place and length are both 0
+-- for an item on neither side, and all three are the old values where the call is refused (our choice, not document 01's)
 unfoldable pub partNumber : Part → ℕ
 partNumber nothing = 0
 partNumber (ofStore at n) = 0
