@@ -139,13 +139,7 @@ module _ (s : List ℕ) (v from at : ℕ) (h : at ≤ length s) where
           f
           ∙ ap placeOf (bound-good s v 0 at (omega arith) (omega arith) ∙ sym (bound-good s v (suc (beAt s 24 from)) at (omega arith) above))
 
-      pub place-index-cut : length s - at < 28 → Fault 1 ≡ placeOf (range s v (suc (beAt s 24 from)) at)
-      place-index-cut m = ap placeOf (index-cut s v (suc (beAt s 24 from)) at (omega arith) above (omega arith))
-
       module _ (m : 28 ≤ length s - at) (i : ℕ) (f : i ≡ beAt s 4 (at + 24)) where
-        pub place-index-high : v ≤ i → Fault 9 ≡ placeOf (range s v (suc (beAt s 24 from)) at)
-        place-index-high n = ap placeOf (index-high s v (suc (beAt s 24 from)) at (omega arith) above (omega arith) (omega arith))
-
         pub place-good : i < v → Num 0 (at + 28) ≡ placeOf (range s v (suc (beAt s 24 from)) at)
         place-good n = ap placeOf (range-good s v (suc (beAt s 24 from)) at (omega arith) above (omega arith) (omega arith))
 
