@@ -1,6 +1,8 @@
 -- The answer of a call that writes. A table of refusals gives a number exactly where that line's condition
 -- holds and none before it does; where no condition holds, the reply stands. A refusal leaves the buffer as
 -- it was, a success leaves all that stands after the written bytes, and neither changes the buffer's length.
+-- The number returned is 0 where bytes are given that fit, 14 where they do not fit, and the refusal's otherwise;
+-- as many bytes are written as are given where they fit, and none otherwise.
 -- Each is read off the definitions by the outcome of their one test.
 use mathlib.Core.Path.{_≡_, refl, sym, ap, _∙_}
 use mathlib.Core.Logic.{_↔_, _⊎_, inl, inr}
@@ -13,7 +15,7 @@ use lib.ListN.{length, take, drop, length-append, length-drop}
 use lib.Seq.{drop-at, take-append-seam}
 use borrow.Author.Tests.{leb-true, leb-false, le-leb, lt-leb}
 use Rattle.codec.specs.declared.Answer.the-variants.{Written, Refused}
-use Rattle.codec.specs.Reply.{Reply, gives, refuses, answer, after, Line, firstFault}
+use Rattle.codec.specs.Reply.{Reply, gives, refuses, answer, after, numberOf, writtenOf, Line, firstFault}
 
 -- ---- tables of refusals
 
@@ -85,6 +87,29 @@ answer-fits bs room h = rw (le-leb (length bs) room h, answer)
 pub answer-short : (bs : List ℕ) (room : ℕ) → room < length bs → answer (gives bs) room ≡ Refused 14
 unfolding answer
 answer-short bs room h = rw (lt-leb (length bs) room h, answer)
+
+-- the number returned and how many bytes are written, in each case
+pub number-fits : (bs : List ℕ) (room : ℕ) → length bs ≤ room → (numberOf (answer (gives bs) room) ≡ 0) × (writtenOf (answer (gives bs) room) ≡ length bs)
+unfolding numberOf writtenOf
+number-fits bs room h = (ap numberOf (answer-fits bs room h), ap writtenOf (answer-fits bs room h))
+
+pub number-short : (bs : List ℕ) (room : ℕ) → room < length bs → (numberOf (answer (gives bs) room) ≡ 14) × (writtenOf (answer (gives bs) room) ≡ 0)
+unfolding numberOf writtenOf
+number-short bs room h = (ap numberOf (answer-short bs room h), ap writtenOf (answer-short bs room h))
+
+pub number-refused : (n room : ℕ) → (numberOf (answer (refuses n) room) ≡ n) × (writtenOf (answer (refuses n) room) ≡ 0)
+unfolding answer numberOf writtenOf
+number-refused n room = (refl, refl)
+
+-- bytes that are given return 0 exactly where they fit
+pub number-given : (bs : List ℕ) (room : ℕ) → (numberOf (answer (gives bs) room) ≡ 0) ↔ (length bs ≤ room)
+number-given bs room = (there (leb (length bs) room) refl, λ h. number-fits bs room h .0)
+  where
+    there : (b : Bool) → leb (length bs) room ≡ b → numberOf (answer (gives bs) room) ≡ 0 → length bs ≤ room
+    there true e z = leb-true (length bs) room e
+    there false e z =
+        let f : numberOf (answer (gives bs) room) ≡ 14 = number-short bs room (leb-false (length bs) room e) .0 in
+        absurd (omega arith)
 
 pub after-fits : (bs out : List ℕ) → length bs ≤ length out → after (gives bs) out ≡ bs ++ drop (length bs) out
 unfolding after

@@ -1,4 +1,5 @@
--- What contain, lead and cover come to, case by case: the refusals in the order of document 01's table, or what is found.
+-- What contain, lead and cover come to, case by case: the refusals in the order of document 01's table, or what is found;
+-- and the number and the value of the answer in each case, in the document's own terms: lengths, ids and known ticks.
 use Prim.Native.Nat.{ℕ, zero, suc, _-_, _≤_, _<_}
 use mathlib.Core.Path.{_≡_, refl, sym, _∙_, ap, ap₂, subst}
 use mathlib.Core.Logic.{_↔_}
@@ -22,8 +23,10 @@ use Rattle.ticks.specs.declared.Lead.{Lead}
 use Rattle.ticks.specs.declared.Lead.the-variants as D
 use Rattle.ticks.specs.declared.Cover.{Cover}
 use Rattle.ticks.specs.declared.Cover.the-variants as E
-use Rattle.ticks.specs.Calls.{idOf, readAs, line, ownFault, wrongLength, wrongPlace, wrongSpan, refusedOr, containFound, coverFound, containAnswer, leadOf, leadAnswer, coverAnswer}
+use Rattle.ticks.specs.Calls.{containNumber, containValue, leadNumber, leadValue, coverNumber, coverValue, idOf, readAs, line, ownFault, wrongLength, wrongPlace, wrongSpan, refusedOr, containFound, coverFound, containAnswer, leadOf, leadAnswer, coverAnswer}
 use Rattle.ticks.proofs.Equality.{clash}
+use Rattle.ticks.proofs.Algebra.{contains-exact}
+use Rattle.ticks.proofs.Search.{Covers, covers-exact}
 use Rattle.ticks.proofs.Replies.{read-fault, read-fine}
 
 -- 17: what it is that none of its conditions holds
@@ -103,6 +106,26 @@ module _ {A : Type 0} (bad : ℕ → A) (found : A) where
   unfolding refusedOr
   found-is r e = ap (refusedOr bad found) e
 
+-- a test that is not one of its two values is the other
+no-false : (b : Bool) → (b ≡ false → ⊥) → b ≡ true
+no-false true h = refl
+no-false false h = absurd (h refl)
+
+no-true : (b : Bool) → (b ≡ true → ⊥) → b ≡ false
+no-true true h = absurd (h refl)
+no-true false h = refl
+
+-- what contain and cover find has the number 0
+contain-found-number : (b : Bool) → containNumber (containFound b) ≡ 0
+unfolding containNumber containFound
+contain-found-number true = refl
+contain-found-number false = refl
+
+cover-found-number : (b : Bool) → coverNumber (coverFound b) ≡ 0
+unfolding coverNumber coverFound
+cover-found-number true = refl
+cover-found-number false = refl
+
 -- Contain
 
 pub data ContainSays (R : Rules) (s item replica : List ℕ) (t : ℕ) : Contain → Type 0 where
@@ -111,31 +134,65 @@ pub data ContainSays (R : Rules) (s item replica : List ℕ) (t : ℕ) : Contain
   contain-found : (k : Knowledge) → parse R s ≡ accepted k → wrongPlace item replica ≡ false
       → ContainSays R s item replica t (containFound (contains k (idOf 24 item) (idOf 16 replica) t))
 
-pub contain-says : (R : Rules) (s item replica : List ℕ) (t : ℕ) → ContainSays R s item replica t (containAnswer R s item replica t)
-unfolding containAnswer one readAs
-contain-says R s item replica t = go (parse R s) refl (wrongPlace item replica) refl
-  where
-    found : Parsed → Contain
-    found p = containFound (contains (readAs p) (idOf 24 item) (idOf 16 replica) t)
+-- the equation of each case
+module _ (R : Rules) (s item replica : List ℕ) (t : ℕ) where
+  contain-of : (p : Parsed) → parse R s ≡ p
+      → containAnswer R s item replica t ≡ refusedOr C.Refused (containFound (contains (readAs p) (idOf 24 item) (idOf 16 replica) t)) (one p (wrongPlace item replica))
+  unfolding containAnswer one
+  contain-of p e = ap (λ p. refusedOr C.Refused (containFound (contains (readAs p) (idOf 24 item) (idOf 16 replica) t)) (one p (wrongPlace item replica))) e
 
-    answer : (p : Parsed) → parse R s ≡ p → containAnswer R s item replica t ≡ refusedOr C.Refused (found p) (one p (wrongPlace item replica))
-    answer p e = ap (λ p. refusedOr C.Refused (found p) (one p (wrongPlace item replica))) e
+  contain-is-own : (n : ℕ) → parse R s ≡ refused n → containAnswer R s item replica t ≡ C.Refused n
+  contain-is-own n e = contain-of (refused n) e ∙ refused-is C.Refused _ _ n (one-refused n (wrongPlace item replica))
 
-    go : (p : Parsed) → parse R s ≡ p → (w : Bool) → wrongPlace item replica ≡ w → ContainSays R s item replica t (containAnswer R s item replica t)
-    go (refused n) e w f =
-        subst (ContainSays R s item replica t)
-        (sym (answer (refused n) e ∙ refused-is C.Refused (found (refused n)) (one (refused n) (wrongPlace item replica)) n (one-refused n (wrongPlace item replica))))
-        (contain-own n e)
-    go (accepted k) e true f =
-        subst (ContainSays R s item replica t)
-        (sym (answer (accepted k) e ∙ refused-is C.Refused (found (accepted k)) (one (accepted k) (wrongPlace item replica)) 17
-        (one-accepted k (wrongPlace item replica) ∙ last-wrong (wrongPlace item replica) f)))
-        (contain-17 k e f)
-    go (accepted k) e false f =
-        subst (ContainSays R s item replica t)
-        (sym (answer (accepted k) e ∙ found-is C.Refused (found (accepted k)) (one (accepted k) (wrongPlace item replica))
-        (one-accepted k (wrongPlace item replica) ∙ last-right (wrongPlace item replica) f)))
-        (contain-found k e f)
+  contain-is-17 : (k : Knowledge) → parse R s ≡ accepted k → wrongPlace item replica ≡ true → containAnswer R s item replica t ≡ C.Refused 17
+  contain-is-17 k e f =
+      contain-of (accepted k) e ∙ refused-is C.Refused _ _ 17 (one-accepted k (wrongPlace item replica) ∙ last-wrong (wrongPlace item replica) f)
+
+  contain-is-found : (k : Knowledge) → parse R s ≡ accepted k → wrongPlace item replica ≡ false
+      → containAnswer R s item replica t ≡ containFound (contains k (idOf 24 item) (idOf 16 replica) t)
+  unfolding readAs
+  contain-is-found k e f =
+      contain-of (accepted k) e ∙ found-is C.Refused _ _ (one-accepted k (wrongPlace item replica) ∙ last-right (wrongPlace item replica) f)
+
+  pub contain-says : ContainSays R s item replica t (containAnswer R s item replica t)
+  contain-says = go (parse R s) refl (wrongPlace item replica) refl
+    where
+      go : (p : Parsed) → parse R s ≡ p → (w : Bool) → wrongPlace item replica ≡ w → ContainSays R s item replica t (containAnswer R s item replica t)
+      go (refused n) e w f = subst (ContainSays R s item replica t) (sym (contain-is-own n e)) (contain-own n e)
+      go (accepted k) e true f = subst (ContainSays R s item replica t) (sym (contain-is-17 k e f)) (contain-17 k e f)
+      go (accepted k) e false f = subst (ContainSays R s item replica t) (sym (contain-is-found k e f)) (contain-found k e f)
+
+  -- the number and the value of the answer: the knowledge's own number; 17 where the item id is not 24 bytes long or
+  -- the replica id not 16; else 0, and 1 exactly where the tick is 1 or more and at most the known tick
+  pub contain-number-own : (n : ℕ) → parse R s ≡ refused n
+      → (containNumber (containAnswer R s item replica t) ≡ n) × (containValue (containAnswer R s item replica t) ≡ 0)
+  unfolding containNumber containValue
+  contain-number-own n e = (ap containNumber (contain-is-own n e), ap containValue (contain-is-own n e))
+
+  pub contain-number-17 : (k : Knowledge) → parse R s ≡ accepted k → ((length item ≡ 24) × (length replica ≡ 16) → ⊥)
+      → (containNumber (containAnswer R s item replica t) ≡ 17) × (containValue (containAnswer R s item replica t) ≡ 0)
+  unfolding containNumber containValue
+  contain-number-17 k e f =
+      let q : containAnswer R s item replica t ≡ C.Refused 17 = contain-is-17 k e (no-false (wrongPlace item replica) (λ w. f (place-exact item replica .0 w))) in
+      (ap containNumber q, ap containValue q)
+
+  module _ (k : Knowledge) (e : parse R s ≡ accepted k) (f : length item ≡ 24) (g : length replica ≡ 16) where
+    contain-right : containAnswer R s item replica t ≡ containFound (contains k (beAt item 24 0) (beAt replica 16 0) t)
+    unfolding idOf
+    contain-right = contain-is-found k e (place-exact item replica .1 (f, g))
+
+    pub contain-number : containNumber (containAnswer R s item replica t) ≡ 0
+    contain-number = ap containNumber contain-right ∙ contain-found-number (contains k (beAt item 24 0) (beAt replica 16 0) t)
+
+    pub contain-value-yes : 1 ≤ t → t ≤ known k (beAt item 24 0) (beAt replica 16 0) → containValue (containAnswer R s item replica t) ≡ 1
+    unfolding containValue containFound
+    contain-value-yes l h = ap containValue (contain-right ∙ ap containFound (contains-exact k (beAt item 24 0) (beAt replica 16 0) t .1 (l, h)))
+
+    pub contain-value-no : ((1 ≤ t) × (t ≤ known k (beAt item 24 0) (beAt replica 16 0)) → ⊥) → containValue (containAnswer R s item replica t) ≡ 0
+    unfolding containValue containFound
+    contain-value-no h =
+        let c = contains-exact k (beAt item 24 0) (beAt replica 16 0) t in
+        ap containValue (contain-right ∙ ap containFound (no-true (contains k (beAt item 24 0) (beAt replica 16 0) t) (λ y. h (c .0 y))))
 
 -- Lead
 
@@ -164,38 +221,74 @@ pub data LeadSays (R : Rules) (s t item replica : List ℕ) : Lead → Type 0 wh
   lead-found : (a b : Knowledge) → parse R s ≡ accepted a → parse R t ≡ accepted b → wrongPlace item replica ≡ false
       → LeadSays R s t item replica (D.Ahead (leadOf a b (idOf 24 item) (idOf 16 replica)))
 
-pub lead-says : (R : Rules) (s t item replica : List ℕ) → LeadSays R s t item replica (leadAnswer R s t item replica)
-unfolding leadAnswer two readAs
-lead-says R s t item replica = go (parse R s) refl (parse R t) refl wrong refl
-  where
-    wrong : Bool
-    wrong = wrongPlace item replica
+-- the equation of each case
+module _ (R : Rules) (s t item replica : List ℕ) where
+  lead-of : (p q : Parsed) → parse R s ≡ p → parse R t ≡ q
+      → leadAnswer R s t item replica ≡ refusedOr D.Refused (D.Ahead (leadOf (readAs p) (readAs q) (idOf 24 item) (idOf 16 replica))) (two p q (wrongPlace item replica))
+  unfolding leadAnswer two
+  lead-of p q e f = ap₂ (λ p q. refusedOr D.Refused (D.Ahead (leadOf (readAs p) (readAs q) (idOf 24 item) (idOf 16 replica))) (two p q (wrongPlace item replica))) e f
 
-    found : Parsed → Parsed → Lead
-    found p q = D.Ahead (leadOf (readAs p) (readAs q) (idOf 24 item) (idOf 16 replica))
+  lead-is-first : (n : ℕ) → parse R s ≡ refused n → leadAnswer R s t item replica ≡ D.Refused n
+  lead-is-first n e = lead-of (refused n) (parse R t) e refl ∙ refused-is D.Refused _ _ n (two-first n (parse R t) (wrongPlace item replica))
 
-    answer : (p q : Parsed) → parse R s ≡ p → parse R t ≡ q → leadAnswer R s t item replica ≡ refusedOr D.Refused (found p q) (two p q wrong)
-    answer p q e f = ap₂ (λ p q. refusedOr D.Refused (found p q) (two p q wrong)) e f
+  lead-is-second : (a : Knowledge) (n : ℕ) → parse R s ≡ accepted a → parse R t ≡ refused n → leadAnswer R s t item replica ≡ D.Refused n
+  lead-is-second a n e f = lead-of (accepted a) (refused n) e f ∙ refused-is D.Refused _ _ n (two-second a n (wrongPlace item replica))
 
-    go : (p : Parsed) → parse R s ≡ p → (q : Parsed) → parse R t ≡ q → (w : Bool) → wrongPlace item replica ≡ w
-        → LeadSays R s t item replica (leadAnswer R s t item replica)
-    go (refused n) e q f w g =
-        subst (LeadSays R s t item replica)
-        (sym (answer (refused n) q e f ∙ refused-is D.Refused (found (refused n) q) (two (refused n) q wrong) n (two-first n q wrong))) (lead-first n e)
-    go (accepted a) e (refused n) f w g =
-        subst (LeadSays R s t item replica)
-        (sym (answer (accepted a) (refused n) e f ∙ refused-is D.Refused (found (accepted a) (refused n)) (two (accepted a) (refused n) wrong) n (two-second a n wrong)))
-        (lead-second a n e f)
-    go (accepted a) e (accepted b) f true g =
-        subst (LeadSays R s t item replica)
-        (sym (answer (accepted a) (accepted b) e f ∙ refused-is D.Refused (found (accepted a) (accepted b)) (two (accepted a) (accepted b) wrong) 17
-        (two-accepted a b wrong ∙ last-wrong wrong g)))
-        (lead-17 a b e f g)
-    go (accepted a) e (accepted b) f false g =
-        subst (LeadSays R s t item replica)
-        (sym (answer (accepted a) (accepted b) e f ∙ found-is D.Refused (found (accepted a) (accepted b)) (two (accepted a) (accepted b) wrong)
-        (two-accepted a b wrong ∙ last-right wrong g)))
-        (lead-found a b e f g)
+  lead-is-17 : (a b : Knowledge) → parse R s ≡ accepted a → parse R t ≡ accepted b → wrongPlace item replica ≡ true → leadAnswer R s t item replica ≡ D.Refused 17
+  lead-is-17 a b e f g =
+      lead-of (accepted a) (accepted b) e f ∙ refused-is D.Refused _ _ 17 (two-accepted a b (wrongPlace item replica) ∙ last-wrong (wrongPlace item replica) g)
+
+  lead-is-found : (a b : Knowledge) → parse R s ≡ accepted a → parse R t ≡ accepted b → wrongPlace item replica ≡ false
+      → leadAnswer R s t item replica ≡ D.Ahead (leadOf a b (idOf 24 item) (idOf 16 replica))
+  unfolding readAs
+  lead-is-found a b e f g =
+      lead-of (accepted a) (accepted b) e f ∙ found-is D.Refused _ _ (two-accepted a b (wrongPlace item replica) ∙ last-right (wrongPlace item replica) g)
+
+  pub lead-says : LeadSays R s t item replica (leadAnswer R s t item replica)
+  lead-says = go (parse R s) refl (parse R t) refl (wrongPlace item replica) refl
+    where
+      go : (p : Parsed) → parse R s ≡ p → (q : Parsed) → parse R t ≡ q → (w : Bool) → wrongPlace item replica ≡ w → LeadSays R s t item replica (leadAnswer R s t item replica)
+      go (refused n) e q f w g = subst (LeadSays R s t item replica) (sym (lead-is-first n e)) (lead-first n e)
+      go (accepted a) e (refused n) f w g = subst (LeadSays R s t item replica) (sym (lead-is-second a n e f)) (lead-second a n e f)
+      go (accepted a) e (accepted b) f true g = subst (LeadSays R s t item replica) (sym (lead-is-17 a b e f g)) (lead-17 a b e f g)
+      go (accepted a) e (accepted b) f false g = subst (LeadSays R s t item replica) (sym (lead-is-found a b e f g)) (lead-found a b e f g)
+
+  -- the number and the value of the answer: the first knowledge's own number, then the second's; 17 where the item id is
+  -- not 24 bytes long or the replica id not 16; else 0, and the first's tick minus the second's
+  pub lead-number-first : (n : ℕ) → parse R s ≡ refused n → (leadNumber (leadAnswer R s t item replica) ≡ n) × (leadValue (leadAnswer R s t item replica) ≡ pos 0)
+  unfolding leadNumber leadValue
+  lead-number-first n e = (ap leadNumber (lead-is-first n e), ap leadValue (lead-is-first n e))
+
+  pub lead-number-second : (a : Knowledge) (n : ℕ) → parse R s ≡ accepted a → parse R t ≡ refused n
+      → (leadNumber (leadAnswer R s t item replica) ≡ n) × (leadValue (leadAnswer R s t item replica) ≡ pos 0)
+  unfolding leadNumber leadValue
+  lead-number-second a n e f = (ap leadNumber (lead-is-second a n e f), ap leadValue (lead-is-second a n e f))
+
+  pub lead-number-17 : (a b : Knowledge) → parse R s ≡ accepted a → parse R t ≡ accepted b → ((length item ≡ 24) × (length replica ≡ 16) → ⊥)
+      → (leadNumber (leadAnswer R s t item replica) ≡ 17) × (leadValue (leadAnswer R s t item replica) ≡ pos 0)
+  unfolding leadNumber leadValue
+  lead-number-17 a b e f g =
+      let q = lead-is-17 a b e f (no-false (wrongPlace item replica) (λ w. g (place-exact item replica .0 w))) in
+      (ap leadNumber q, ap leadValue q)
+
+  module _ (a b : Knowledge) (e : parse R s ≡ accepted a) (f : parse R t ≡ accepted b) (g : length item ≡ 24) (h : length replica ≡ 16) where
+    lead-right : leadAnswer R s t item replica ≡ D.Ahead (leadOf a b (beAt item 24 0) (beAt replica 16 0))
+    unfolding idOf
+    lead-right = lead-is-found a b e f (place-exact item replica .1 (g, h))
+
+    pub lead-number : leadNumber (leadAnswer R s t item replica) ≡ 0
+    unfolding leadNumber
+    lead-number = ap leadNumber lead-right
+
+    pub lead-value-ahead : known b (beAt item 24 0) (beAt replica 16 0) ≤ known a (beAt item 24 0) (beAt replica 16 0)
+        → leadValue (leadAnswer R s t item replica) ≡ pos (known a (beAt item 24 0) (beAt replica 16 0) - known b (beAt item 24 0) (beAt replica 16 0))
+    unfolding leadValue
+    lead-value-ahead l = ap leadValue lead-right ∙ lead-ahead a b (beAt item 24 0) (beAt replica 16 0) l
+
+    pub lead-value-behind : known a (beAt item 24 0) (beAt replica 16 0) < known b (beAt item 24 0) (beAt replica 16 0)
+        → leadValue (leadAnswer R s t item replica) ≡ negsuc (known b (beAt item 24 0) (beAt replica 16 0) - suc (known a (beAt item 24 0) (beAt replica 16 0)))
+    unfolding leadValue
+    lead-value-behind l = ap leadValue lead-right ∙ lead-behind a b (beAt item 24 0) (beAt replica 16 0) l
 
 -- Cover
 
@@ -206,35 +299,70 @@ pub data CoverSays (R : Rules) (s t first last : List ℕ) : Cover → Type 0 wh
   cover-found : (a b : Knowledge) → parse R s ≡ accepted a → parse R t ≡ accepted b → wrongSpan first last ≡ false
       → CoverSays R s t first last (coverFound (covers a b (idOf 24 first) (idOf 24 last)))
 
-pub cover-says : (R : Rules) (s t first last : List ℕ) → CoverSays R s t first last (coverAnswer R s t first last)
-unfolding coverAnswer two readAs
-cover-says R s t first last = go (parse R s) refl (parse R t) refl wrong refl
-  where
-    wrong : Bool
-    wrong = wrongSpan first last
+-- the equation of each case
+module _ (R : Rules) (s t first last : List ℕ) where
+  cover-of : (p q : Parsed) → parse R s ≡ p → parse R t ≡ q
+      → coverAnswer R s t first last ≡ refusedOr E.Refused (coverFound (covers (readAs p) (readAs q) (idOf 24 first) (idOf 24 last))) (two p q (wrongSpan first last))
+  unfolding coverAnswer two
+  cover-of p q e f = ap₂ (λ p q. refusedOr E.Refused (coverFound (covers (readAs p) (readAs q) (idOf 24 first) (idOf 24 last))) (two p q (wrongSpan first last))) e f
 
-    found : Parsed → Parsed → Cover
-    found p q = coverFound (covers (readAs p) (readAs q) (idOf 24 first) (idOf 24 last))
+  cover-is-first : (n : ℕ) → parse R s ≡ refused n → coverAnswer R s t first last ≡ E.Refused n
+  cover-is-first n e = cover-of (refused n) (parse R t) e refl ∙ refused-is E.Refused _ _ n (two-first n (parse R t) (wrongSpan first last))
 
-    answer : (p q : Parsed) → parse R s ≡ p → parse R t ≡ q → coverAnswer R s t first last ≡ refusedOr E.Refused (found p q) (two p q wrong)
-    answer p q e f = ap₂ (λ p q. refusedOr E.Refused (found p q) (two p q wrong)) e f
+  cover-is-second : (a : Knowledge) (n : ℕ) → parse R s ≡ accepted a → parse R t ≡ refused n → coverAnswer R s t first last ≡ E.Refused n
+  cover-is-second a n e f = cover-of (accepted a) (refused n) e f ∙ refused-is E.Refused _ _ n (two-second a n (wrongSpan first last))
 
-    go : (p : Parsed) → parse R s ≡ p → (q : Parsed) → parse R t ≡ q → (w : Bool) → wrongSpan first last ≡ w
-        → CoverSays R s t first last (coverAnswer R s t first last)
-    go (refused n) e q f w g =
-        subst (CoverSays R s t first last)
-        (sym (answer (refused n) q e f ∙ refused-is E.Refused (found (refused n) q) (two (refused n) q wrong) n (two-first n q wrong))) (cover-first n e)
-    go (accepted a) e (refused n) f w g =
-        subst (CoverSays R s t first last)
-        (sym (answer (accepted a) (refused n) e f ∙ refused-is E.Refused (found (accepted a) (refused n)) (two (accepted a) (refused n) wrong) n (two-second a n wrong)))
-        (cover-second a n e f)
-    go (accepted a) e (accepted b) f true g =
-        subst (CoverSays R s t first last)
-        (sym (answer (accepted a) (accepted b) e f ∙ refused-is E.Refused (found (accepted a) (accepted b)) (two (accepted a) (accepted b) wrong) 17
-        (two-accepted a b wrong ∙ last-wrong wrong g)))
-        (cover-17 a b e f g)
-    go (accepted a) e (accepted b) f false g =
-        subst (CoverSays R s t first last)
-        (sym (answer (accepted a) (accepted b) e f ∙ found-is E.Refused (found (accepted a) (accepted b)) (two (accepted a) (accepted b) wrong)
-        (two-accepted a b wrong ∙ last-right wrong g)))
-        (cover-found a b e f g)
+  cover-is-17 : (a b : Knowledge) → parse R s ≡ accepted a → parse R t ≡ accepted b → wrongSpan first last ≡ true → coverAnswer R s t first last ≡ E.Refused 17
+  cover-is-17 a b e f g =
+      cover-of (accepted a) (accepted b) e f ∙ refused-is E.Refused _ _ 17 (two-accepted a b (wrongSpan first last) ∙ last-wrong (wrongSpan first last) g)
+
+  cover-is-found : (a b : Knowledge) → parse R s ≡ accepted a → parse R t ≡ accepted b → wrongSpan first last ≡ false
+      → coverAnswer R s t first last ≡ coverFound (covers a b (idOf 24 first) (idOf 24 last))
+  unfolding readAs
+  cover-is-found a b e f g =
+      cover-of (accepted a) (accepted b) e f ∙ found-is E.Refused _ _ (two-accepted a b (wrongSpan first last) ∙ last-right (wrongSpan first last) g)
+
+  pub cover-says : CoverSays R s t first last (coverAnswer R s t first last)
+  cover-says = go (parse R s) refl (parse R t) refl (wrongSpan first last) refl
+    where
+      go : (p : Parsed) → parse R s ≡ p → (q : Parsed) → parse R t ≡ q → (w : Bool) → wrongSpan first last ≡ w → CoverSays R s t first last (coverAnswer R s t first last)
+      go (refused n) e q f w g = subst (CoverSays R s t first last) (sym (cover-is-first n e)) (cover-first n e)
+      go (accepted a) e (refused n) f w g = subst (CoverSays R s t first last) (sym (cover-is-second a n e f)) (cover-second a n e f)
+      go (accepted a) e (accepted b) f true g = subst (CoverSays R s t first last) (sym (cover-is-17 a b e f g)) (cover-17 a b e f g)
+      go (accepted a) e (accepted b) f false g = subst (CoverSays R s t first last) (sym (cover-is-found a b e f g)) (cover-found a b e f g)
+
+  -- the number and the value of the answer: the first knowledge's own number, then the second's; 17 where an id is not
+  -- 24 bytes long or the first is above the last; else 0, and 1 exactly where the first knowledge covers the second
+  pub cover-number-first : (n : ℕ) → parse R s ≡ refused n → (coverNumber (coverAnswer R s t first last) ≡ n) × (coverValue (coverAnswer R s t first last) ≡ 0)
+  unfolding coverNumber coverValue
+  cover-number-first n e = (ap coverNumber (cover-is-first n e), ap coverValue (cover-is-first n e))
+
+  pub cover-number-second : (a : Knowledge) (n : ℕ) → parse R s ≡ accepted a → parse R t ≡ refused n
+      → (coverNumber (coverAnswer R s t first last) ≡ n) × (coverValue (coverAnswer R s t first last) ≡ 0)
+  unfolding coverNumber coverValue
+  cover-number-second a n e f = (ap coverNumber (cover-is-second a n e f), ap coverValue (cover-is-second a n e f))
+
+  pub cover-number-17 : (a b : Knowledge) → parse R s ≡ accepted a → parse R t ≡ accepted b → ((length first ≡ 24) × ((length last ≡ 24) × (beAt first 24 0 ≤ beAt last 24 0)) → ⊥)
+      → (coverNumber (coverAnswer R s t first last) ≡ 17) × (coverValue (coverAnswer R s t first last) ≡ 0)
+  unfolding coverNumber coverValue
+  cover-number-17 a b e f g =
+      let q = cover-is-17 a b e f (no-false (wrongSpan first last) (λ w. g (span-exact first last .0 w))) in
+      (ap coverNumber q, ap coverValue q)
+
+  module _
+      (a b : Knowledge) (e : parse R s ≡ accepted a) (f : parse R t ≡ accepted b) (g : length first ≡ 24) (h : length last ≡ 24) (l : beAt first 24 0 ≤ beAt last 24 0)
+    where
+      cover-right : coverAnswer R s t first last ≡ coverFound (covers a b (beAt first 24 0) (beAt last 24 0))
+      unfolding idOf
+      cover-right = cover-is-found a b e f (span-exact first last .1 (g, (h, l)))
+
+      pub cover-number : coverNumber (coverAnswer R s t first last) ≡ 0
+      cover-number = ap coverNumber cover-right ∙ cover-found-number (covers a b (beAt first 24 0) (beAt last 24 0))
+
+      pub cover-value-yes : Covers a b (beAt first 24 0) (beAt last 24 0) → coverValue (coverAnswer R s t first last) ≡ 1
+      unfolding coverValue coverFound
+      cover-value-yes c = ap coverValue (cover-right ∙ ap coverFound (covers-exact a b (beAt first 24 0) (beAt last 24 0) .1 c))
+
+      pub cover-value-no : (Covers a b (beAt first 24 0) (beAt last 24 0) → ⊥) → coverValue (coverAnswer R s t first last) ≡ 0
+      unfolding coverValue coverFound
+      cover-value-no c = ap coverValue (cover-right ∙ ap coverFound (no-true (covers a b (beAt first 24 0) (beAt last 24 0)) (λ y. c (covers-exact a b (beAt first 24 0) (beAt last 24 0) .0 y))))
