@@ -1,3 +1,4 @@
--- The laws of the instances: the table row by row, and a list of calls run from its start.
+-- The laws of the instances: the table row by row, a list of calls run from its start, and the first faulty field in turn.
 pub mod Instances
 pub mod Lists
+pub mod FirstFault
