@@ -10,6 +10,7 @@ use borrow.Author.Tests.{eq-eqb}
 use lib.ListN.{length, drop, getD}
 use Rattle.codec.specs.Number.{Bytes, beFrom, beAt}
 use Rattle.codec.proofs.Numbers.{be-add, be-below}
+use Rattle.codec.proofs.Reading.{be-one}
 use Rattle.layout.specs.declared.Got.{Got}
 use Rattle.layout.specs.declared.Got.the-variants.{Num}
 use Rattle.layout.specs.Knowledge.{Field, field, opening, beforeVectors, beforeRanges, closing}
@@ -37,10 +38,6 @@ field-known s n w fs x at next e h f =
 
 be-split : (s : List ℕ) (n m at next : ℕ) → next ≡ at + n → beAt s (n + m) at ≡ beAt s n at * 256 ^ m + beAt s m next
 be-split s n m at next e = be-add s n m at ∙ ap (λ (x : ℕ). beAt s n at * 256 ^ m + beAt s m x) (sym e)
-
-be-one : (s : List ℕ) (at : ℕ) → beAt s 1 at ≡ getD s at 0
-unfolding beFrom beAt
-be-one s at = omega arith
 
 module _ (s : List ℕ) (b : Bytes s) where
   -- four and four

@@ -25,7 +25,8 @@ use Rattle.ticks.specs.Operations.{project}
 use Rattle.replication.specs.Formats.{Rec, putRecs, Batch, encodeBatch}
 use Rattle.replication.specs.Reading.{recsAt, validRecs}
 use Rattle.replication.specs.OpenBatch.{batchWith, batchAfter, batchFrom, decodeBatch, carried, validBatch, ifValidBatch, openBatch}
-use Rattle.replication.proofs.PartBytes.{part-over, part-reads, part-length, part-back, no-bytes, append-bytes, part-bytes, test-back, both-of, both-left, both-right}
+use Rattle.replication.proofs.PartBytes.{part-over, part-reads, part-length, part-back, no-bytes, append-bytes, part-bytes, test-back, both-left, both-right}
+use Rattle.replication.proofs.Tables.{both-holds}
 use Rattle.replication.proofs.RecordBytes.{FitsRec, put-upto, recs-bytes, recs-read, Read, recs-back}
 use Rattle.replication.proofs.StoreBytes.{length-fits}
 
@@ -251,9 +252,9 @@ module _ (L : Limits) (b : Batch) where
   pub batch-valid-of : ValidBatch L b → validBatch L b ≡ true
   unfolding validBatch
   batch-valid-of v =
-      both-of _ _ (le-leb (length (b .records)) (L .records) (v .count))
-      (both-of _ _ (le-leb (b .first) (b .last) (v .span))
-      (both-of _ _ (v .needed) (both-of _ _ (v .learned) (both-of _ _ (v .projected) (v .records)))))
+      both-holds _ _ (le-leb (length (b .records)) (L .records) (v .count))
+      (both-holds _ _ (le-leb (b .first) (b .last) (v .span))
+      (both-holds _ _ (v .needed) (both-holds _ _ (v .learned) (both-holds _ _ (v .projected) (v .records)))))
 
   pub batch-valid-parts : validBatch L b ≡ true → ValidBatch L b
   unfolding validBatch

@@ -61,7 +61,7 @@ same-bytes R x y vs k p f g =
         ∙ (ap (λ (x : Knowledge). record { own = t .own; knowledge = x; records = s .records }) b
         ∙ ap (λ (x : List Rec). record { own = t .own; knowledge = t .knowledge; records = x }) c)
 
-some-same : {A : Type 0} (x y : A) → some x ≡ some y → x ≡ y
+pub some-same : {A : Type 0} (x y : A) → some x ≡ some y → x ≡ y
 some-same x y e = cc
 
 -- ---- the stores begin as new returns them

@@ -12,6 +12,7 @@ use Rattle.codec.specs.Number.{Bytes}
 use Rattle.codec.proofs.Numbers.{cons-bytes}
 use Rattle.layout.proofs.Chain.{Stands, stands-length}
 use Rattle.replication.specs.Reading.{both}
+use Rattle.replication.proofs.Tables.{both-parts}
 
 -- ---- parts that stand at a place
 
@@ -63,14 +64,8 @@ pub test-back : {A : Type 0} (t : Bool) (o : Option A) (x : A) (C : Type 0) →
 test-back true o x C e k = k refl e
 test-back false o x C e k = absurd (let z : _≡_ {A = ℕ} 0 1 = cc in omega arith)
 
-pub both-of : (a b : Bool) → a ≡ true → b ≡ true → both a b ≡ true
-both-of true b e f = f
-both-of false b e f = e
-
 pub both-left : (a b : Bool) → both a b ≡ true → a ≡ true
-both-left true b e = refl
-both-left false b e = e
+both-left a b e = both-parts a b e .0
 
 pub both-right : (a b : Bool) → both a b ≡ true → b ≡ true
-both-right true b e = e
-both-right false b e = absurd (let z : _≡_ {A = ℕ} 0 1 = cc in omega arith)
+both-right a b e = both-parts a b e .1

@@ -38,7 +38,7 @@ use Rattle.replication.proofs.AgreeInvariant.{Follows, opens}
 use Rattle.replication.proofs.AgreeEdit.{largest-same}
 use Rattle.replication.proofs.AgreeMake.{id-value}
 use Rattle.replication.proofs.AgreeRun.{paired-number, batch-open-at}
-use Rattle.replication.proofs.Demand3.{ahead-fails, ends-follow}
+use Rattle.replication.proofs.Demand3.{ahead-fails, ends-follow, some-same}
 use Rattle.replication.proofs.RefusalsTests.{Lacks, Ahead, Behind, ahead-exact, behind-apart, Gone, Present, Exhausted, means-20}
 use Rattle.replication.proofs.RefusalsEdit.{edit-15, edit-20, delete-15, delete-19, delete-20}
 use Rattle.replication.proofs.RefusalsMake.{make-15}
@@ -145,9 +145,6 @@ not-none : {A : Type 0} (o : Option A) (x : A) → o ≡ some x → o ≡ none �
 not-none o x e f =
     let z : _≡_ {A = ℕ} 0 1 = cc in
     omega arith
-
-some-same : {A : Type 0} (x y : A) → some x ≡ some y → x ≡ y
-some-same x y e = cc
 
 module _ (R : Rules) (permitted : Permitted (R .limits)) (accepts : (id : ℕ) → R .judge id ≡ 0) (w : World) (m : State) (f : Follows R w m) (p : ℕ) (small : p < 256 ^ 16) where
   open-here : openStore R (w .stores p) ≡ some (f .stores p small .st)

@@ -26,7 +26,8 @@ use Rattle.ticks.specs.Operations.{ownAlike}
 use Rattle.replication.specs.Formats.{Rec, putRecs, Store, encodeStore}
 use Rattle.replication.specs.Reading.{recsAt, validRecs}
 use Rattle.replication.specs.OpenStore.{storeWith, storeFrom, decodeStore, versionsIn, validStore, ifValid, openStore}
-use Rattle.replication.proofs.PartBytes.{part-over, part-reads, part-length, part-back, no-bytes, append-bytes, part-bytes, test-back, both-of, both-left, both-right}
+use Rattle.replication.proofs.PartBytes.{part-over, part-reads, part-length, part-back, no-bytes, append-bytes, part-bytes, test-back, both-left, both-right}
+use Rattle.replication.proofs.Tables.{both-holds}
 use Rattle.replication.proofs.RecordBytes.{FitsRec, put-upto, recs-bytes, recs-read, Read, recs-back}
 
 -- a store whose values have room in their fields
@@ -200,8 +201,8 @@ module _ (L : Limits) (st : Store) where
   pub store-valid-of : ValidStore L st → validStore L st ≡ true
   unfolding validStore
   store-valid-of v =
-      both-of _ _ (le-leb (length (st .records)) (L .records) (v .count))
-      (both-of _ _ (v .normal) (both-of _ _ (v .alike) (v .records)))
+      both-holds _ _ (le-leb (length (st .records)) (L .records) (v .count))
+      (both-holds _ _ (v .normal) (both-holds _ _ (v .alike) (v .records)))
 
   pub store-valid-parts : validStore L st ≡ true → ValidStore L st
   unfolding validStore

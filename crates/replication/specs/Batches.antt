@@ -1,5 +1,5 @@
--- What each batch of a list carries, in the machine's terms. Demand 3 does not speak of batches beyond that they are valid; this says the
--- rest of document 01's "Make" of them.
+-- What each batch of a list carries, in the machine's terms. The promise of demand 3 says of batches only that they are valid; this says
+-- the rest of document 01's "Make".
 use Rattle.codec.specs.Prelude.{ℕ, _≤_, _<_, _≡_, _⊎_, _↔_, List, some}
 use Rattle.layout.specs.Knowledge.{Rules, Rising}
 use Rattle.ticks.specs.Meaning.{highest, known}

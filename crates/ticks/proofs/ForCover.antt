@@ -14,7 +14,7 @@ use Rattle.ticks.specs.Table.{sorted, within}
 use Rattle.ticks.specs.Operations.{Place, nowhere, here, lackingAt, orElse, lackingFrom, isNowhere, coversFor}
 use Rattle.ticks.proofs.Lists.{Among, sorted-only, within-only}
 use Rattle.ticks.proofs.Equality.{clash}
-use Rattle.ticks.proofs.Search.{stops, stop-for}
+use Rattle.ticks.proofs.Search.{stops, stops-inside, stop-for}
 
 module _ (a b : Knowledge) where
   -- what a search at one item says
@@ -51,12 +51,6 @@ module _ (a b : Knowledge) where
 pub record CoversFor (ps : List ℕ) (a b : Knowledge) (first last : ℕ) : Type 0 where
   pub known : (i p : ℕ) → first ≤ i → i ≤ last → Among p ps → known b i p ≤ known a i p
 
-stop-inside : (a b : Knowledge) (first last x : ℕ) → Among x (stops a b first last) → (first ≤ x) × (x ≤ last)
-unfolding stops
-stop-inside a b first last x m =
-    let w = within-only first last x (first ∷ bounds (a .ranges) ++ bounds (b .ranges)) (sorted-only x (within first last (first ∷ bounds (a .ranges) ++ bounds (b .ranges))) m) in
-    (w .above, w .below)
-
 pub covers-for-exact : (ps : List ℕ) (a b : Knowledge) (first last : ℕ) → (coversFor ps a b first last ≡ true) ↔ CoversFor ps a b first last
 unfolding coversFor isNowhere stops
 covers-for-exact ps a b first last = (
@@ -75,5 +69,5 @@ covers-for-exact ps a b first last = (
     back : (x : Place) → FromSays a b ps (stops a b first last) x → CoversFor ps a b first last → isNowhere x ≡ true
     back nowhere f c = refl
     back (here i p) f c =
-        let w = stop-inside a b first last (f .0) (f .1 .1 .0) in
+        let w = stops-inside a b first last (f .0) (f .1 .1 .0) in
         absurd (omega (arith, f .1 .1 .1 .1, c .known (f .0) (f .1 .0) (w .0) (w .1) (f .1 .1 .1 .0)))

@@ -106,7 +106,7 @@ stops-rising a b first last =
     sorted-rising first (within first last (first ∷ bounds (a .ranges) ++ bounds (b .ranges)))
     (λ x m. within-only first last x (first ∷ bounds (a .ranges) ++ bounds (b .ranges)) m .above)
 
-stops-inside : (a b : Knowledge) (first last x : ℕ) → Among x (stops a b first last) → (first ≤ x) × (x ≤ last)
+pub stops-inside : (a b : Knowledge) (first last x : ℕ) → Among x (stops a b first last) → (first ≤ x) × (x ≤ last)
 unfolding stops
 stops-inside a b first last x m =
     let w = within-only first last x (first ∷ bounds (a .ranges) ++ bounds (b .ranges)) (sorted-only x (within first last (first ∷ bounds (a .ranges) ++ bounds (b .ranges))) m) in
