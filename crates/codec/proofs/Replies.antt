@@ -2,7 +2,7 @@
 -- holds and none before it does; where no condition holds, the reply stands. A refusal leaves the buffer as
 -- it was, a success leaves all that stands after the written bytes, and neither changes the buffer's length.
 -- The number returned is 0 where bytes are given that fit, 14 where they do not fit, and the refusal's otherwise;
--- as many bytes are written as are given where they fit, and none otherwise.
+-- as many bytes are written as are given where they fit, and otherwise the count is the old one.
 -- Each is read off the definitions by the outcome of their one test.
 use mathlib.Core.Path.{_≡_, refl, sym, ap, _∙_}
 use mathlib.Core.Logic.{_↔_, _⊎_, inl, inr}
@@ -14,8 +14,10 @@ use lib.Dec.{leb}
 use lib.ListN.{length, take, drop, length-append, length-drop}
 use lib.Seq.{drop-at, take-append-seam}
 use borrow.Author.Tests.{leb-true, leb-false, le-leb, lt-leb}
+use Rattle.codec.specs.declared.Answer.{Answer}
 use Rattle.codec.specs.declared.Answer.the-variants.{Written, Refused}
 use Rattle.codec.specs.Reply.{Reply, gives, refuses, answer, after, numberOf, writtenOf, Line, firstFault}
+use Rattle.codec.specs.Parsed.{Parsed, accepted, refused, line, ownFault, readOr}
 
 -- ---- tables of refusals
 
@@ -30,20 +32,26 @@ None [] = Unit
 None (l ∷ ls) = (l .holds ≡ false) × None ls
 
 -- the clauses of `firstFault`
-pub fault-here : (l : Line) (ls : List Line) (r : Reply) → l .holds ≡ true → firstFault (l ∷ ls) r ≡ refuses (l .number)
+pub fault-here : {A : Type 0} (refusal : ℕ → A) (l : Line) (ls : List Line) (r : A) → l .holds ≡ true → firstFault refusal (l ∷ ls) r ≡ refusal (l .number)
 unfolding firstFault
-fault-here l ls r e = rw (e, firstFault)
+fault-here refusal l ls r e = rw (e, firstFault)
 
-pub fault-later : (l : Line) (ls : List Line) (r : Reply) → l .holds ≡ false → firstFault (l ∷ ls) r ≡ firstFault ls r
+pub fault-later : {A : Type 0} (refusal : ℕ → A) (l : Line) (ls : List Line) (r : A) → l .holds ≡ false → firstFault refusal (l ∷ ls) r ≡ firstFault refusal ls r
 unfolding firstFault
-fault-later l ls r e = rw (e, firstFault)
+fault-later refusal l ls r e = rw (e, firstFault)
 
-pub fault-none : (ls : List Line) (r : Reply) → None ls → firstFault ls r ≡ r
+pub fault-none : {A : Type 0} (refusal : ℕ → A) (ls : List Line) (r : A) → None ls → firstFault refusal ls r ≡ r
 unfolding firstFault
-fault-none [] r h = refl
-fault-none (l ∷ ls) r h = fault-later l ls r (h .0) ∙ fault-none ls r (h .1)
+fault-none refusal [] r h = refl
+fault-none refusal (l ∷ ls) r h = fault-later refusal l ls r (h .0) ∙ fault-none refusal ls r (h .1)
 
-pub fault-gives : (ls : List Line) (bs bs' : List ℕ) → firstFault ls (gives bs) ≡ gives bs' → None ls × (bs ≡ bs')
+-- a refusal does not depend on what stands behind the table
+pub fault-at : {A : Type 0} (refusal : ℕ → A) (ls : List Line) (r : A) (n : ℕ) → First n ls → firstFault refusal ls r ≡ refusal n
+fault-at refusal [] r n h = absurd h
+fault-at refusal (l ∷ ls) r n (inl h) = fault-here refusal l ls r (h .0) ∙ ap refusal (h .1)
+fault-at refusal (l ∷ ls) r n (inr h) = fault-later refusal l ls r (h .0) ∙ fault-at refusal ls r n (h .1)
+
+pub fault-gives : (ls : List Line) (bs bs' : List ℕ) → firstFault refuses ls (gives bs) ≡ gives bs' → None ls × (bs ≡ bs')
 unfolding firstFault
 fault-gives [] bs bs' e = (tt, cc)
 fault-gives (l ∷ ls) bs bs' e = by-case (l .holds) refl (λ f. fault-gives ls bs bs' f)
@@ -51,32 +59,52 @@ fault-gives (l ∷ ls) bs bs' e = by-case (l .holds) refl (λ f. fault-gives ls 
     by-case :
         (b : Bool)
         → l .holds ≡ b
-        → (firstFault ls (gives bs) ≡ gives bs' → None ls × (bs ≡ bs'))
+        → (firstFault refuses ls (gives bs) ≡ gives bs' → None ls × (bs ≡ bs'))
         → None (l ∷ ls) × (bs ≡ bs')
     by-case true h rest =
-        let z : _≡_ {A = ℕ} 0 1 = cc (fault-here l ls (gives bs) h, e) in
+        let z : _≡_ {A = ℕ} 0 1 = cc (fault-here refuses l ls (gives bs) h, e) in
         absurd (omega arith)
-    by-case false h rest = let r = rest (sym (fault-later l ls (gives bs) h) ∙ e) in ((h, r .0), r .1)
+    by-case false h rest = let r = rest (sym (fault-later refuses l ls (gives bs) h) ∙ e) in ((h, r .0), r .1)
 
-pub fault-first : (ls : List Line) (bs : List ℕ) (n : ℕ) → firstFault ls (gives bs) ≡ refuses n → First n ls
+pub fault-first : (ls : List Line) (bs : List ℕ) (n : ℕ) → firstFault refuses ls (gives bs) ≡ refuses n → First n ls
 unfolding firstFault
 fault-first [] bs n e =
     let z : _≡_ {A = ℕ} 0 1 = cc in
     absurd (omega arith)
 fault-first (l ∷ ls) bs n e = by-case (l .holds) refl (λ f. fault-first ls bs n f)
   where
-    by-case : (b : Bool) → l .holds ≡ b → (firstFault ls (gives bs) ≡ refuses n → First n ls) → First n (l ∷ ls)
-    by-case true h rest = inl (h, cc (fault-here l ls (gives bs) h, e))
-    by-case false h rest = inr (h, rest (sym (fault-later l ls (gives bs) h) ∙ e))
+    by-case : (b : Bool) → l .holds ≡ b → (firstFault refuses ls (gives bs) ≡ refuses n → First n ls) → First n (l ∷ ls)
+    by-case true h rest = inl (h, cc (fault-here refuses l ls (gives bs) h, e))
+    by-case false h rest = inr (h, rest (sym (fault-later refuses l ls (gives bs) h) ∙ e))
 
--- a refusal does not depend on the reply behind the table
-pub first-fault : (ls : List Line) (r : Reply) (n : ℕ) → First n ls → firstFault ls r ≡ refuses n
-first-fault [] r n h = absurd h
-first-fault (l ∷ ls) r n (inl h) = fault-here l ls r (h .0) ∙ ap refuses (h .1)
-first-fault (l ∷ ls) r n (inr h) = fault-later l ls r (h .0) ∙ first-fault ls r n (h .1)
+pub fault-exact : (ls : List Line) (bs : List ℕ) (n : ℕ) → (firstFault refuses ls (gives bs) ≡ refuses n) ↔ First n ls
+fault-exact ls bs n = (fault-first ls bs n, fault-at refuses ls (gives bs) n)
 
-pub fault-exact : (ls : List Line) (bs : List ℕ) (n : ℕ) → (firstFault ls (gives bs) ≡ refuses n) ↔ First n ls
-fault-exact ls bs n = (fault-first ls bs n, first-fault ls (gives bs) n)
+-- ---- the line of what was read
+
+pub fault-accepted : {A : Type 0} (x : A) → ownFault (accepted x) .holds ≡ false
+unfolding ownFault
+fault-accepted x = refl
+
+pub fault-refused : (A : Type 0) (n : ℕ) → ownFault {A = A} (refused n) .holds ≡ true
+unfolding ownFault
+fault-refused A n = refl
+
+pub fault-number : (A : Type 0) (n : ℕ) → ownFault {A = A} (refused n) .number ≡ n
+unfolding ownFault
+fault-number A n = refl
+
+pub read-accepted : {A : Type 0} (other x : A) → readOr other (accepted x) ≡ x
+unfolding readOr
+read-accepted other x = refl
+
+pub read-fault : {A : Type 0} (B : Type 0) (refusal : ℕ → A) (n : ℕ) (ls : List Line) (r : A) → firstFault refusal (ownFault {A = B} (refused n) ∷ ls) r ≡ refusal n
+unfolding ownFault
+read-fault B refusal n ls r = fault-here refusal (line n true) ls r refl
+
+pub read-fine : {A B : Type 0} (refusal : ℕ → A) (x : B) (ls : List Line) (r : A) → firstFault refusal (ownFault (accepted x) ∷ ls) r ≡ firstFault refusal ls r
+unfolding ownFault
+read-fine refusal x ls r = fault-later refusal (line 0 false) ls r refl
 
 -- ---- the answer, and the buffer after the call
 
@@ -89,26 +117,26 @@ unfolding answer
 answer-short bs room h = rw (lt-leb (length bs) room h, answer)
 
 -- the number returned and how many bytes are written, in each case
-pub number-fits : (bs : List ℕ) (room : ℕ) → length bs ≤ room → (numberOf (answer (gives bs) room) ≡ 0) × (writtenOf (answer (gives bs) room) ≡ length bs)
+pub number-fits : (bs : List ℕ) (room old : ℕ) → length bs ≤ room → (numberOf (answer (gives bs) room) ≡ 0) × (writtenOf (answer (gives bs) room) old ≡ length bs)
 unfolding numberOf writtenOf
-number-fits bs room h = (ap numberOf (answer-fits bs room h), ap writtenOf (answer-fits bs room h))
+number-fits bs room old h = (ap numberOf (answer-fits bs room h), ap (λ (a : Answer). writtenOf a old) (answer-fits bs room h))
 
-pub number-short : (bs : List ℕ) (room : ℕ) → room < length bs → (numberOf (answer (gives bs) room) ≡ 14) × (writtenOf (answer (gives bs) room) ≡ 0)
+pub number-short : (bs : List ℕ) (room old : ℕ) → room < length bs → (numberOf (answer (gives bs) room) ≡ 14) × (writtenOf (answer (gives bs) room) old ≡ old)
 unfolding numberOf writtenOf
-number-short bs room h = (ap numberOf (answer-short bs room h), ap writtenOf (answer-short bs room h))
+number-short bs room old h = (ap numberOf (answer-short bs room h), ap (λ (a : Answer). writtenOf a old) (answer-short bs room h))
 
-pub number-refused : (n room : ℕ) → (numberOf (answer (refuses n) room) ≡ n) × (writtenOf (answer (refuses n) room) ≡ 0)
+pub number-refused : (n room old : ℕ) → (numberOf (answer (refuses n) room) ≡ n) × (writtenOf (answer (refuses n) room) old ≡ old)
 unfolding answer numberOf writtenOf
-number-refused n room = (refl, refl)
+number-refused n room old = (refl, refl)
 
 -- bytes that are given return 0 exactly where they fit
 pub number-given : (bs : List ℕ) (room : ℕ) → (numberOf (answer (gives bs) room) ≡ 0) ↔ (length bs ≤ room)
-number-given bs room = (there (leb (length bs) room) refl, λ h. number-fits bs room h .0)
+number-given bs room = (there (leb (length bs) room) refl, λ h. number-fits bs room 0 h .0)
   where
     there : (b : Bool) → leb (length bs) room ≡ b → numberOf (answer (gives bs) room) ≡ 0 → length bs ≤ room
     there true e z = leb-true (length bs) room e
     there false e z =
-        let f : numberOf (answer (gives bs) room) ≡ 14 = number-short bs room (leb-false (length bs) room e) .0 in
+        let f : numberOf (answer (gives bs) room) ≡ 14 = number-short bs room 0 (leb-false (length bs) room e) .0 in
         absurd (omega arith)
 
 pub after-fits : (bs out : List ℕ) → length bs ≤ length out → after (gives bs) out ≡ bs ++ drop (length bs) out

@@ -4,3 +4,4 @@ pub mod Number
 pub mod Words
 pub mod Part
 pub mod Reply
+pub mod Parsed

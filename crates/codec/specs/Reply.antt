@@ -19,21 +19,21 @@ unfoldable pub after : Reply → List ℕ → List ℕ
 after (gives bs) out = elim (leb (length bs) (length out)) [ true ↦ bs ++ drop (length bs) out | false ↦ out ]
 after (refuses n) out = out
 
--- an answer's number, 0 where nothing is refused, and how many bytes were written
+-- an answer's number, 0 where nothing is refused, and how many bytes were written: the old value where the call is refused
 unfoldable pub numberOf : Answer → ℕ
 numberOf (Written n) = 0
 numberOf (Refused n) = n
 
-unfoldable pub writtenOf : Answer → ℕ
-writtenOf (Written n) = n
-writtenOf (Refused n) = 0
+unfoldable pub writtenOf : Answer → ℕ → ℕ
+writtenOf (Written n) old = n
+writtenOf (Refused n) old = old
 
 -- a line of a table of refusals: a number, and whether its condition holds
 pub record Line : Type 0 where
   pub number : ℕ
   pub holds : Bool
 
--- the first line whose condition holds refuses; where none does, the reply stands
-unfoldable pub firstFault : List Line → Reply → Reply
-firstFault [] r = r
-firstFault (l ∷ ls) r = elim (l .holds) [ true ↦ refuses (l .number) | false ↦ firstFault ls r ]
+-- the answer of every call: the first line whose condition holds gives the refusal with its number; where none does, what was found stands
+unfoldable pub firstFault : {A : Type 0} → (ℕ → A) → List Line → A → A
+firstFault refusal [] found = found
+firstFault refusal (l ∷ ls) found = elim (l .holds) [ true ↦ refusal (l .number) | false ↦ firstFault refusal ls found ]

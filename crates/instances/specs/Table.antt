@@ -28,7 +28,7 @@ pub data Row : Type 0 where
   -- the answer of the check of bytes
   checks : List ℕ → Checked → Row
   -- the value that bytes are read as, or the refusal's number
-  reads : List ℕ → Parsed → Row
+  reads : List ℕ → Parsed Knowledge → Row
   -- a call that writes: the bytes, and how many they are
   gets : Reply → List ℕ → ℕ → Row
   -- a call that is refused

@@ -1,6 +1,7 @@
 -- The reading of a whole knowledge: document 01's table "Knowledge, left to right, first faulty field", then
 -- "Knowledge, end". `checked` decides and counts; `parse` also gives the value that the accepted bytes stand for.
 use Rattle.codec.specs.Prelude.{ℕ, _+_, _-_, true, false, List, eqb, length}
+pub use Rattle.codec.specs.Parsed.{Parsed, accepted, refused}
 use Rattle.layout.specs.declared.Got.{Got}
 use Rattle.layout.specs.declared.Got.the-variants.{Num, Fault}
 use Rattle.layout.specs.declared.Checked.{Checked}
@@ -47,14 +48,10 @@ checked R s =
     rangeList R s v at ▶ λ g at.
     fields s closing 0 at ▶ ended s (Accepted r v e g)
 
--- the answer of reading: the knowledge, or the refusal's number
-pub data Parsed : Type 0 where
-  accepted : Knowledge → Parsed
-  refused : ℕ → Parsed
-
-unfoldable pub told : List ℕ → Checked → Parsed
+unfoldable pub told : List ℕ → Checked → Parsed Knowledge
 told s (Accepted r v e g) = accepted (decode s)
 told s (Refused n) = refused n
 
-unfoldable pub parse : Rules → List ℕ → Parsed
+-- the answer of reading: the knowledge, or the refusal's number
+unfoldable pub parse : Rules → List ℕ → Parsed Knowledge
 parse R s = told s (checked R s)

@@ -14,10 +14,11 @@ use Rattle.codec.specs.Reply.{Reply, gives, refuses, Line, firstFault}
 use Rattle.codec.proofs.Replies.{None, fault-gives}
 use Rattle.layout.specs.Knowledge.{Limits, Rules, largestTick, Knowledge}
 use Rattle.layout.specs.Parse.{Parsed, accepted, refused, parse}
-use Rattle.ticks.specs.Meaning.{highest}
+use Rattle.ticks.specs.Meaning.{emptyKnowledge, highest}
 use Rattle.ticks.specs.Operations.{covers, coversFor, largest, tooManyReplicas, tooManyRanges}
 use Rattle.ticks.specs.Calls.{line, idOf, readAs, ownFault, wrongLength, wrongSpan, resultLines}
-use Rattle.ticks.proofs.ForCalls.{or-false, length-right, span-right, read-accepted, fault-refused, Within, within-lines}
+use Rattle.ticks.proofs.ForCalls.{or-false, length-right, span-right, Within, within-lines}
+use Rattle.codec.proofs.Replies.{read-accepted, fault-refused}
 use Rattle.replication.specs.Formats.{Rec, Store, encodeStore, Batch, encodeBatch, find}
 use Rattle.replication.specs.Reading.{live, tombstone}
 use Rattle.replication.specs.Operate.{changed, made, applied}
@@ -45,8 +46,8 @@ outcome-gives (gives cs) room bs e = by-case (leb (length cs) room) refl
         absurd (omega arith)
 
 -- bytes that come out of a table: no line holds, and they are the bytes behind it
-pub outcome-lines : (ls : List Line) (cs bs : List ℕ) (room : ℕ) → outcome (firstFault ls (gives cs)) room ≡ some bs → None ls × (cs ≡ bs)
-outcome-lines ls cs bs room e = fault-gives ls cs bs (outcome-gives (firstFault ls (gives cs)) room bs e)
+pub outcome-lines : (ls : List Line) (cs bs : List ℕ) (room : ℕ) → outcome (firstFault refuses ls (gives cs)) room ≡ some bs → None ls × (cs ≡ bs)
+outcome-lines ls cs bs room e = fault-gives ls cs bs (outcome-gives (firstFault refuses ls (gives cs)) room bs e)
 
 -- ---- pieces of tables
 
@@ -83,10 +84,10 @@ pub record EditMet (R : Rules) (st : Store) (item tag bs : List ℕ) : Type 0 wh
   pub room : Room R (changed live (idOf 24 item) (idOf 16 tag) st)
   pub bytes : bs ≡ encodeStore (changed live (idOf 24 item) (idOf 16 tag) st)
 
-pub edit-reply : (R : Rules) (s item tag : List ℕ) (st : Store) → openStore R s ≡ some st → editReply R s item tag ≡ firstFault (editLines R (some st) item tag (changed live (idOf 24 item) (idOf 16 tag) st)) (gives (encodeStore (changed live (idOf 24 item) (idOf 16 tag) st)))
+pub edit-reply : (R : Rules) (s item tag : List ℕ) (st : Store) → openStore R s ≡ some st → editReply R s item tag ≡ firstFault refuses (editLines R (some st) item tag (changed live (idOf 24 item) (idOf 16 tag) st)) (gives (encodeStore (changed live (idOf 24 item) (idOf 16 tag) st)))
 unfolding editReply edited storeOr
 edit-reply R s item tag st e =
-    ap (λ (o : Option Store). firstFault (editLines R o item tag (edited o item tag)) (gives (encodeStore (edited o item tag)))) e
+    ap (λ (o : Option Store). firstFault refuses (editLines R o item tag (edited o item tag)) (gives (encodeStore (edited o item tag)))) e
 
 edit-lines : (R : Rules) (st : Store) (item tag bs : List ℕ) (result : Store) → None (editLines R (some st) item tag result) → (length item ≡ 24) × ((length tag ≡ 16) × ((largest (st .knowledge) < largestTick) × Room R result))
 unfolding editLines storeOr
@@ -110,10 +111,10 @@ pub record DeleteMet (R : Rules) (st : Store) (item bs : List ℕ) : Type 0 wher
   pub room : Room R (changed tombstone (idOf 24 item) 0 st)
   pub bytes : bs ≡ encodeStore (changed tombstone (idOf 24 item) 0 st)
 
-pub delete-reply : (R : Rules) (s item : List ℕ) (st : Store) → openStore R s ≡ some st → deleteReply R s item ≡ firstFault (deleteLines R (some st) item (changed tombstone (idOf 24 item) 0 st)) (gives (encodeStore (changed tombstone (idOf 24 item) 0 st)))
+pub delete-reply : (R : Rules) (s item : List ℕ) (st : Store) → openStore R s ≡ some st → deleteReply R s item ≡ firstFault refuses (deleteLines R (some st) item (changed tombstone (idOf 24 item) 0 st)) (gives (encodeStore (changed tombstone (idOf 24 item) 0 st)))
 unfolding deleteReply deleted storeOr
 delete-reply R s item st e =
-    ap (λ (o : Option Store). firstFault (deleteLines R o item (deleted o item)) (gives (encodeStore (deleted o item)))) e
+    ap (λ (o : Option Store). firstFault refuses (deleteLines R o item (deleted o item)) (gives (encodeStore (deleted o item)))) e
 
 delete-lines : (R : Rules) (st : Store) (item : List ℕ) (result : Store) → None (deleteLines R (some st) item result) → (length item ≡ 24) × ((gone (find (idOf 24 item) (st .records)) ≡ false) × ((largest (st .knowledge) < largestTick) × Room R result))
 unfolding deleteLines storeOr
@@ -140,14 +141,14 @@ pub record MakeMet (R : Rules) (st : Store) (knowledge first last bs : List ℕ)
   pub records : length (made st given (idOf 24 first) (idOf 24 last) .records) ≤ R .limits .records
   pub bytes : bs ≡ encodeBatch (made st given (idOf 24 first) (idOf 24 last))
 
-pub make-reply : (R : Rules) (s knowledge first last : List ℕ) (st : Store) → openStore R s ≡ some st → makeReply R s knowledge first last ≡ firstFault (makeLines R (some st) knowledge first last (makes R (some st) knowledge first last)) (gives (encodeBatch (makes R (some st) knowledge first last)))
+pub make-reply : (R : Rules) (s knowledge first last : List ℕ) (st : Store) → openStore R s ≡ some st → makeReply R s knowledge first last ≡ firstFault refuses (makeLines R (some st) knowledge first last (makes R (some st) knowledge first last)) (gives (encodeBatch (makes R (some st) knowledge first last)))
 unfolding makeReply
 make-reply R s knowledge first last st e =
-    ap (λ (o : Option Store). firstFault (makeLines R o knowledge first last (makes R o knowledge first last)) (gives (encodeBatch (makes R o knowledge first last)))) e
+    ap (λ (o : Option Store). firstFault refuses (makeLines R o knowledge first last (makes R o knowledge first last)) (gives (encodeBatch (makes R o knowledge first last)))) e
 
-unread : (n : ℕ) → ownFault (refused n) .holds ≡ false → ⊥
+unread : (n : ℕ) → ownFault {A = Knowledge} (refused n) .holds ≡ false → ⊥
 unread n h =
-    let e : ownFault (refused n) .holds ≡ true = fault-refused n in
+    let e : ownFault {A = Knowledge} (refused n) .holds ≡ true = fault-refused Knowledge n in
     let z : _≡_ {A = ℕ} 0 1 = cc in
     absurd (omega arith)
 
@@ -168,7 +169,7 @@ make-met R s knowledge first last st room bs o e =
         (within-lines R (b .needed) (p .0), (within-lines R (b .learned) (q .0), count-right (R .limits) (b .records) (q .1 .0)))
 
     read :
-        (p : Parsed)
+        (p : Parsed Knowledge)
         → parse R knowledge ≡ p
         → None
         (line 15 (noStore (some st)) ∷
@@ -182,7 +183,7 @@ make-met R s knowledge first last st room bs o e =
     read (refused n) h m = absurd (unread n (rw h at (m .0 .1 .0)))
     read (accepted k) h m =
         let w = span-right first last (m .0 .1 .1 .0) in
-        let same : readAs (parse R knowledge) ≡ k = ap readAs h ∙ read-accepted k in
+        let same : readAs (parse R knowledge) ≡ k = ap readAs h ∙ read-accepted emptyKnowledge k in
         let l = lines (made st (readAs (parse R knowledge)) (idOf 24 first) (idOf 24 last)) (m .0 .1 .1 .1) in
         let l2 : Within R (made st k (idOf 24 first) (idOf 24 last) .needed) × (Within R (made st k (idOf 24 first) (idOf 24 last) .learned) × (length (made st k (idOf 24 first) (idOf 24 last) .records) ≤ R .limits .records)) = rw same at l in
         record {
@@ -205,11 +206,11 @@ pub record ApplyMet (R : Rules) (st : Store) (b : Batch) (bs : List ℕ) : Type 
   pub room : Room R (applied st b)
   pub bytes : bs ≡ encodeStore (applied st b)
 
-pub apply-reply : (R : Rules) (s t : List ℕ) (st : Store) (b : Batch) → openStore R s ≡ some st → openBatch R t ≡ some b → applyReply R s t ≡ firstFault (applyLines R (some st) (some b) (applied st b)) (gives (encodeStore (applied st b)))
+pub apply-reply : (R : Rules) (s t : List ℕ) (st : Store) (b : Batch) → openStore R s ≡ some st → openBatch R t ≡ some b → applyReply R s t ≡ firstFault refuses (applyLines R (some st) (some b) (applied st b)) (gives (encodeStore (applied st b)))
 unfolding applyReply storeOr batchOr
 apply-reply R s t st b e f =
-    ap (λ (o : Option Store). firstFault (applyLines R o (openBatch R t) (applied (storeOr o) (batchOr (openBatch R t)))) (gives (encodeStore (applied (storeOr o) (batchOr (openBatch R t)))))) e
-    ∙ ap (λ (p : Option Batch). firstFault (applyLines R (some st) p (applied st (batchOr p))) (gives (encodeStore (applied st (batchOr p))))) f
+    ap (λ (o : Option Store). firstFault refuses (applyLines R o (openBatch R t) (applied (storeOr o) (batchOr (openBatch R t)))) (gives (encodeStore (applied (storeOr o) (batchOr (openBatch R t)))))) e
+    ∙ ap (λ (p : Option Batch). firstFault refuses (applyLines R (some st) p (applied st (batchOr p))) (gives (encodeStore (applied st (batchOr p))))) f
 
 apply-lines : (R : Rules) (st : Store) (b : Batch) (result : Store) → None (applyLines R (some st) (some b) result) → (covers (st .knowledge) (b .needed) (b .first) (b .last) ≡ true) × ((ownAhead st b ≡ false) × Room R result)
 unfolding applyLines storeOr batchOr uncovered

@@ -74,7 +74,7 @@ first-past n l ls e = (there, λ h. inr (e, h))
     there (inr h) = h .1
 
 -- a reply that is a table, told in other lines that say the same
-told : (r : Reply) (ls ms : List Line) (bs : List ℕ) (n : ℕ) → r ≡ firstFault ls (gives bs) → First n ls ↔ First n ms → (r ≡ refuses n) ↔ First n ms
+told : (r : Reply) (ls ms : List Line) (bs : List ℕ) (n : ℕ) → r ≡ firstFault refuses ls (gives bs) → First n ls ↔ First n ms → (r ≡ refuses n) ↔ First n ms
 told r ls ms bs n e s = (
   (λ h. s .0 (fault-exact ls bs n .0 (sym e ∙ h))),
   λ h. e ∙ fault-exact ls bs n .1 (s .1 h),

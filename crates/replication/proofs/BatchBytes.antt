@@ -149,13 +149,13 @@ unfolding batchWith
 with-back s k l none b e = absurd (let z : _≡_ {A = ℕ} 0 1 = cc in omega arith)
 with-back s k l (some rs) b e = record { first = cc; last = cc; needed = cc; learned = cc; records = cc }
 
-after-back : (s : List ℕ) (k : Knowledge) (q : Parsed) (b : Batch) (C : Type 0) → batchAfter s k q ≡ some b →
+after-back : (s : List ℕ) (k : Knowledge) (q : Parsed Knowledge) (b : Batch) (C : Type 0) → batchAfter s k q ≡ some b →
     ((l : Knowledge) → q ≡ accepted l → Parts s k l (recsAt s (beAt s 4 57) (61 + beAt s 4 49 + beAt s 4 53)) b → C) → C
 unfolding batchAfter
 after-back s k (refused n) b C e c = absurd (let z : _≡_ {A = ℕ} 0 1 = cc in omega arith)
 after-back s k (accepted l) b C e c = c l refl (with-back s k l (recsAt s (beAt s 4 57) (61 + beAt s 4 49 + beAt s 4 53)) b e)
 
-from-back : (R : Rules) (s : List ℕ) (q : Parsed) (b : Batch) (C : Type 0) → batchFrom R s q ≡ some b →
+from-back : (R : Rules) (s : List ℕ) (q : Parsed Knowledge) (b : Batch) (C : Type 0) → batchFrom R s q ≡ some b →
     ((k : Knowledge) → q ≡ accepted k → batchAfter s k (parse R (take (beAt s 4 53) (drop (61 + beAt s 4 49) s))) ≡ some b → C) → C
 unfolding batchFrom
 from-back R s (refused n) b C e c = absurd (let z : _≡_ {A = ℕ} 0 1 = cc in omega arith)

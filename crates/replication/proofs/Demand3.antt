@@ -23,7 +23,7 @@ use Rattle.ticks.proofs.ForCalls.{id-is}
 use Rattle.ticks.proofs.ForCover.{covers-for-exact}
 use Rattle.replication.specs.Formats.{Rec, Store, newStore, encodeStore, Batch, find}
 use Rattle.codec.specs.Number.{put}
-use Rattle.codec.specs.Reply.{gives}
+use Rattle.codec.specs.Reply.{gives, refuses}
 use Rattle.codec.proofs.Numbers.{put-length, put-be}
 use Rattle.codec.proofs.Replies.{fault-later, fault-none}
 use Rattle.replication.specs.OpenStore.{openStore}
@@ -69,9 +69,9 @@ some-same x y e = cc
 pub begin : (p : ℕ) → p < 256 ^ 16 → newReply (put 16 p []) ≡ gives (start .stores p)
 unfolding newReply start
 begin p small =
-    fault-later (line 17 (wrongLength 16 (put 16 p []))) [] (gives (encodeStore (newStore (idOf 16 (put 16 p [])))))
+    fault-later refuses (line 17 (wrongLength 16 (put 16 p []))) [] (gives (encodeStore (newStore (idOf 16 (put 16 p [])))))
     (length-exact 16 (put 16 p []) .1 (omega (arith, put-length 16 p [])))
-    ∙ (fault-none [] (gives (encodeStore (newStore (idOf 16 (put 16 p []))))) tt
+    ∙ (fault-none refuses [] (gives (encodeStore (newStore (idOf 16 (put 16 p []))))) tt
     ∙ ap (λ (x : ℕ). gives (encodeStore (newStore x))) (id-is 16 (put 16 p []) ∙ put-be 16 p [] small))
 
 -- ---- the records of a batch

@@ -13,15 +13,15 @@ use native.Mathlib.Omega.{arith}
 use native.Mathlib.Nat.{div-mul-le-self, lt-div-mul-add, add-mul}
 use lib.ListN.{length}
 use borrow.Author.Tests.{eq-eqb, ne-eqb}
-use Rattle.codec.specs.Reply.{gives, firstFault}
+use Rattle.codec.specs.Reply.{gives, firstFault, refuses}
 use Rattle.codec.proofs.Replies.{fault-here, fault-later, fault-none}
 use Rattle.layout.specs.Knowledge.{Rules, Knowledge}
 use Rattle.layout.specs.Parse.{Parsed, accepted, refused, parse}
-use Rattle.ticks.specs.Meaning.{known, contains}
+use Rattle.ticks.specs.Meaning.{emptyKnowledge, known, contains}
 use Rattle.ticks.specs.Calls.{line, readAs, ownFault}
 use Rattle.ticks.proofs.Algebra.{contains-yes, contains-exact}
-use Rattle.ticks.proofs.ForCalls.{read-accepted}
-use Rattle.ticks.proofs.Replies.{read-fault, read-fine}
+use Rattle.codec.proofs.Replies.{read-accepted}
+use Rattle.codec.proofs.Replies.{read-fault, read-fine}
 use Rattle.replication.specs.Formats.{Rec, Store}
 use Rattle.replication.specs.OpenStore.{openStore}
 use Rattle.replication.specs.Calls.{noStore, storeOr}
@@ -147,29 +147,29 @@ no-coverage n a e = record {
 measured : Knowledge → List Rec → Coverage
 measured k rs = covered (countIn k rs) (length rs) (thousandths (countIn k rs) (length rs))
 
-told : Option Store → Parsed → Coverage
-told o p = coveredOr (measured (readAs p) (storeOr o .records)) (firstFault (line 15 (noStore o) ∷ ownFault p ∷ []) (gives []))
+told : Option Store → Parsed Knowledge → Coverage
+told o p = coveredOr (measured (readAs p) (storeOr o .records)) (firstFault refuses (line 15 (noStore o) ∷ ownFault p ∷ []) (gives []))
 
-told-is : (R : Rules) (s t : List ℕ) (o : Option Store) (p : Parsed) → openStore R s ≡ o → parse R t ≡ p → coverageAnswer R s t ≡ told o p
+told-is : (R : Rules) (s t : List ℕ) (o : Option Store) (p : Parsed Knowledge) → openStore R s ≡ o → parse R t ≡ p → coverageAnswer R s t ≡ told o p
 unfolding coverageAnswer told measured
 told-is R s t o p e f = ap₂ told e f
 
-told-15 : (p : Parsed) → told none p ≡ Coverage.refusal 15
+told-15 : (p : Parsed Knowledge) → told none p ≡ Coverage.refusal 15
 unfolding told noStore coveredOr
-told-15 p = ap (coveredOr (measured (readAs p) (storeOr none .records))) (fault-here (line 15 true) (ownFault p ∷ []) (gives []) refl)
+told-15 p = ap (coveredOr (measured (readAs p) (storeOr none .records))) (fault-here refuses (line 15 true) (ownFault p ∷ []) (gives []) refl)
 
 told-own : (st : Store) (n : ℕ) → told (some st) (refused n) ≡ Coverage.refusal n
 unfolding told noStore coveredOr
 told-own st n =
     ap (coveredOr (measured (readAs (refused n)) (storeOr (some st) .records)))
-    (fault-later (line 15 false) (ownFault (refused n) ∷ []) (gives []) refl ∙ read-fault n [] (gives []))
+    (fault-later refuses (line 15 false) (ownFault (refused n) ∷ []) (gives []) refl ∙ read-fault Knowledge refuses n [] (gives []))
 
 told-measured : (st : Store) (k : Knowledge) → told (some st) (accepted k) ≡ measured k (st .records)
 unfolding told noStore storeOr coveredOr
 told-measured st k =
     ap (coveredOr (measured (readAs (accepted k)) (st .records)))
-    (fault-later (line 15 false) (ownFault (accepted k) ∷ []) (gives []) refl ∙ read-fine k [] (gives []) ∙ fault-none [] (gives []) tt)
-    ∙ ap (λ (l : Knowledge). measured l (st .records)) (read-accepted k)
+    (fault-later refuses (line 15 false) (ownFault (accepted k) ∷ []) (gives []) refl ∙ read-fine refuses k [] (gives []) ∙ fault-none refuses [] (gives []) tt)
+    ∙ ap (λ (l : Knowledge). measured l (st .records)) (read-accepted emptyKnowledge k)
 
 -- the coverage, where nothing is refused
 pub coverage-exact : (R : Rules) (s t : List ℕ) (st : Store) (k : Knowledge) → openStore R s ≡ some st → parse R t ≡ accepted k → CoverageIs k (st .records) (coverageAnswer R s t)
@@ -188,7 +188,7 @@ coverage-own R s t st n o p = no-coverage n (coverageAnswer R s t) (told-is R s 
 pub coverage-refused : (R : Rules) (s t : List ℕ) (n : ℕ) → (coverageAnswer R s t ≡ Coverage.refusal n) ↔ (((n ≡ 15) × (openStore R s ≡ none)) ⊎ (((st : Store) × (openStore R s ≡ some st)) × (parse R t ≡ refused n)))
 coverage-refused R s t n = (go (openStore R s) (parse R t) refl refl, back)
   where
-    go : (o : Option Store) (p : Parsed) → openStore R s ≡ o → parse R t ≡ p → coverageAnswer R s t ≡ Coverage.refusal n → ((n ≡ 15) × (openStore R s ≡ none)) ⊎ (((st : Store) × (openStore R s ≡ some st)) × (parse R t ≡ refused n))
+    go : (o : Option Store) (p : Parsed Knowledge) → openStore R s ≡ o → parse R t ≡ p → coverageAnswer R s t ≡ Coverage.refusal n → ((n ≡ 15) × (openStore R s ≡ none)) ⊎ (((st : Store) × (openStore R s ≡ some st)) × (parse R t ≡ refused n))
     go none p e f h = let w = coverage-15 R s t e .is in inl (cc, e)
     go (some st) (refused m) e f h =
         let w = coverage-own R s t st m e f .is in

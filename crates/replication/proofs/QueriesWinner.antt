@@ -16,7 +16,7 @@ use lib.ListN.{length, take, drop}
 use lib.Seq.{take-append-seam}
 use borrow.Author.Tests.{lt-ltb, le-ltb, eq-eqb, ne-eqb}
 use Rattle.codec.specs.Number.{Bytes, beAt, put}
-use Rattle.codec.specs.Reply.{gives, firstFault}
+use Rattle.codec.specs.Reply.{gives, firstFault, refuses}
 use Rattle.codec.proofs.Numbers.{put-append}
 use Rattle.codec.proofs.Replies.{fault-here, fault-later, fault-none}
 use Rattle.layout.specs.Knowledge.{Rules, All, encode}
@@ -278,7 +278,7 @@ found s t i st b =
 told : List ℕ → List ℕ → List ℕ → Option Store → Option Batch → Part
 told s t item o p =
     orRefused (found s t (idOf 24 item) (storeOr o) (batchOr p))
-    (firstFault (line 15 (noStore o) ∷ line 16 (noBatch p) ∷ line 17 (wrongLength 24 item) ∷ []) (gives []))
+    (firstFault refuses (line 15 (noStore o) ∷ line 16 (noBatch p) ∷ line 17 (wrongLength 24 item) ∷ []) (gives []))
 
 told-is : (R : Rules) (s t item : List ℕ) (o : Option Store) (p : Option Batch) → openStore R s ≡ o → openBatch R t ≡ p → winnerPart R s t item ≡ told s t item o p
 unfolding winnerPart told found
@@ -288,33 +288,33 @@ told-15 : (s t item : List ℕ) (p : Option Batch) → told s t item none p ≡ 
 unfolding told noStore orRefused
 told-15 s t item p =
     ap (orRefused (found s t (idOf 24 item) (storeOr none) (batchOr p)))
-    (fault-here (line 15 true) (line 16 (noBatch p) ∷ line 17 (wrongLength 24 item) ∷ []) (gives []) refl)
+    (fault-here refuses (line 15 true) (line 16 (noBatch p) ∷ line 17 (wrongLength 24 item) ∷ []) (gives []) refl)
 
 told-16 : (s t item : List ℕ) (st : Store) → told s t item (some st) none ≡ Part.refusal 16
 unfolding told noStore noBatch orRefused
 told-16 s t item st =
     ap (orRefused (found s t (idOf 24 item) (storeOr (some st)) (batchOr none)))
-    (fault-later (line 15 false) (line 16 true ∷ line 17 (wrongLength 24 item) ∷ []) (gives []) refl
-    ∙ fault-here (line 16 true) (line 17 (wrongLength 24 item) ∷ []) (gives []) refl)
+    (fault-later refuses (line 15 false) (line 16 true ∷ line 17 (wrongLength 24 item) ∷ []) (gives []) refl
+    ∙ fault-here refuses (line 16 true) (line 17 (wrongLength 24 item) ∷ []) (gives []) refl)
 
-told-lines : (s t item : List ℕ) (st : Store) (b : Batch) → told s t item (some st) (some b) ≡ orRefused (found s t (idOf 24 item) st b) (firstFault (line 17 (wrongLength 24 item) ∷ []) (gives []))
+told-lines : (s t item : List ℕ) (st : Store) (b : Batch) → told s t item (some st) (some b) ≡ orRefused (found s t (idOf 24 item) st b) (firstFault refuses (line 17 (wrongLength 24 item) ∷ []) (gives []))
 unfolding told noStore noBatch storeOr batchOr
 told-lines s t item st b =
     ap (orRefused (found s t (idOf 24 item) st b))
-    (fault-later (line 15 false) (line 16 false ∷ line 17 (wrongLength 24 item) ∷ []) (gives []) refl
-    ∙ fault-later (line 16 false) (line 17 (wrongLength 24 item) ∷ []) (gives []) refl)
+    (fault-later refuses (line 15 false) (line 16 false ∷ line 17 (wrongLength 24 item) ∷ []) (gives []) refl
+    ∙ fault-later refuses (line 16 false) (line 17 (wrongLength 24 item) ∷ []) (gives []) refl)
 
 told-17 : (s t item : List ℕ) (st : Store) (b : Batch) → wrongLength 24 item ≡ true → told s t item (some st) (some b) ≡ Part.refusal 17
 unfolding orRefused
 told-17 s t item st b w =
     told-lines s t item st b
-    ∙ ap (orRefused (found s t (idOf 24 item) st b)) (fault-here (line 17 (wrongLength 24 item)) [] (gives []) w)
+    ∙ ap (orRefused (found s t (idOf 24 item) st b)) (fault-here refuses (line 17 (wrongLength 24 item)) [] (gives []) w)
 
 told-found : (s t item : List ℕ) (st : Store) (b : Batch) → wrongLength 24 item ≡ false → told s t item (some st) (some b) ≡ found s t (idOf 24 item) st b
 unfolding orRefused
 told-found s t item st b w =
     told-lines s t item st b
-    ∙ ap (orRefused (found s t (idOf 24 item) st b)) (fault-none (line 17 (wrongLength 24 item) ∷ []) (gives []) (w, tt))
+    ∙ ap (orRefused (found s t (idOf 24 item) st b)) (fault-none refuses (line 17 (wrongLength 24 item) ∷ []) (gives []) (w, tt))
 
 -- the part that the search in the store's bytes comes to, and in the batch's
 store-found : (R : Rules) (s : List ℕ) (st : Store) (i : ℕ) (x : Rec) (p : Part) → Permitted (R .limits) → Bytes s → openStore R s ≡ some st → find i (st .records) ≡ some x → p ≡ partAt ofStore s (placeOf s i (length (st .records)) (storeTable s)) → StorePart s (putRec x []) p
@@ -447,7 +447,7 @@ winner-refused R s t item n = (go (openStore R s) (openBatch R t) (wrongLength 2
 -- ---- learned
 
 learned-told : (t : List ℕ) → Option Batch → Part
-learned-told t p = orRefused (ofBatch (61 + beAt t 4 49) (beAt t 4 53)) (firstFault (line 16 (noBatch p) ∷ []) (gives []))
+learned-told t p = orRefused (ofBatch (61 + beAt t 4 49) (beAt t 4 53)) (firstFault refuses (line 16 (noBatch p) ∷ []) (gives []))
 
 learned-is : (R : Rules) (t : List ℕ) (p : Option Batch) → openBatch R t ≡ p → learnedPart R t ≡ learned-told t p
 unfolding learnedPart learned-told
@@ -456,12 +456,12 @@ learned-is R t p e = ap (learned-told t) e
 learned-none : (t : List ℕ) → learned-told t none ≡ Part.refusal 16
 unfolding learned-told noBatch orRefused
 learned-none t =
-    ap (orRefused (ofBatch (61 + beAt t 4 49) (beAt t 4 53))) (fault-here (line 16 true) [] (gives []) refl)
+    ap (orRefused (ofBatch (61 + beAt t 4 49) (beAt t 4 53))) (fault-here refuses (line 16 true) [] (gives []) refl)
 
 learned-some : (t : List ℕ) (b : Batch) → learned-told t (some b) ≡ ofBatch (61 + beAt t 4 49) (beAt t 4 53)
 unfolding learned-told noBatch orRefused
 learned-some t b =
-    ap (orRefused (ofBatch (61 + beAt t 4 49) (beAt t 4 53))) (fault-none (line 16 false ∷ []) (gives []) (refl, tt))
+    ap (orRefused (ofBatch (61 + beAt t 4 49) (beAt t 4 53))) (fault-none refuses (line 16 false ∷ []) (gives []) (refl, tt))
 
 -- the learned knowledge of a valid batch, where it stands
 pub learned-exact : (R : Rules) (t : List ℕ) (b : Batch) → Permitted (R .limits) → Bytes t → openBatch R t ≡ some b → BatchPart t (encode (b .learned)) (learnedPart R t)

@@ -27,7 +27,7 @@ use Rattle.replication.proofs.RefusalsTests.{Lacks, Covered, Ahead, Beh
 -- ---- the reply, by what opens
 
 apply-on : Rules → Option Store → Option Batch → Reply
-apply-on R o p = firstFault (applyLines R o p (applied (storeOr o) (batchOr p))) (gives (encodeStore (applied (storeOr o) (batchOr p))))
+apply-on R o p = firstFault refuses (applyLines R o p (applied (storeOr o) (batchOr p))) (gives (encodeStore (applied (storeOr o) (batchOr p))))
 
 module _ (R : Rules) (s t : List ℕ) where
   apply-is : (o : Option Store) (p : Option Batch) → openStore R s ≡ o → openBatch R t ≡ p → applyReply R s t ≡ apply-on R o p
@@ -61,7 +61,7 @@ module _ (R : Rules) (st : Store) (b : Batch) where
       told-cons (line 18 (uncovered st b || ownAhead st b)) (storeLines R (applied st b)) (rule 18 (Lacks st b ⊎ Ahead st b) (Covered st b × Behind st b))
       (rule11 R (applied st b .knowledge) ∷ rule12 R (applied st b .knowledge) ∷ rule13 R (applied st b .records) ∷ []) (means-18 st b) (told-store R (applied st b))
 
-  apply-table : (s t : List ℕ) → openStore R s ≡ some st → openBatch R t ≡ some b → applyReply R s t ≡ firstFault lines (gives (encodeStore (applied st b)))
+  apply-table : (s t : List ℕ) → openStore R s ≡ some st → openBatch R t ≡ some b → applyReply R s t ≡ firstFault refuses lines (gives (encodeStore (applied st b)))
   unfolding apply-on applyLines noStore noBatch storeOr batchOr firstFault
   apply-table s t e f = apply-is R s t (some st) (some b) e f
 

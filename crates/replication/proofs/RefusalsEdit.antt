@@ -27,10 +27,10 @@ use Rattle.replication.proofs.RefusalsTests.{Gone, Present, means-19, E
 -- ---- the replies, by what opens
 
 edit-on : Rules → Option Store → List ℕ → List ℕ → Reply
-edit-on R o item tag = firstFault (editLines R o item tag (edited o item tag)) (gives (encodeStore (edited o item tag)))
+edit-on R o item tag = firstFault refuses (editLines R o item tag (edited o item tag)) (gives (encodeStore (edited o item tag)))
 
 delete-on : Rules → Option Store → List ℕ → Reply
-delete-on R o item = firstFault (deleteLines R o item (deleted o item)) (gives (encodeStore (deleted o item)))
+delete-on R o item = firstFault refuses (deleteLines R o item (deleted o item)) (gives (encodeStore (deleted o item)))
 
 edit-no-store : (R : Rules) (s item tag : List ℕ) → openStore R s ≡ none → editReply R s item tag ≡ refuses 15
 unfolding editReply edit-on editLines noStore firstFault
@@ -71,11 +71,11 @@ module _ (R : Rules) (st : Store) (item tag : List ℕ) where
       (told-cons (line 20 (exhausted st)) (storeLines R (editedStore st item tag)) (rule 20 (Exhausted st) (Unexhausted st)) (storeRules R (editedStore st item tag)) (means-20 R st l)
       (told-store R (editedStore st item tag)))
 
-  edit-table : (s : List ℕ) → openStore R s ≡ some st → editReply R s item tag ≡ firstFault edit-lines (gives (encodeStore (editedStore st item tag)))
+  edit-table : (s : List ℕ) → openStore R s ≡ some st → editReply R s item tag ≡ firstFault refuses edit-lines (gives (encodeStore (editedStore st item tag)))
   unfolding editReply edit-on editLines edited noStore storeOr firstFault
   edit-table s e =
       ap (λ (o : Option Store). edit-on R o item tag) e
-      ∙ ap₂ (λ (i : ℕ) (g : ℕ). firstFault (line 17 (wrongLength 24 item || wrongLength 16 tag) ∷ line 20 (exhausted st) ∷ storeLines R (changed 1 i g st)) (gives (encodeStore (changed 1 i g st)))) (id-is 24 item) (id-is 16 tag)
+      ∙ ap₂ (λ (i : ℕ) (g : ℕ). firstFault refuses (line 17 (wrongLength 24 item || wrongLength 16 tag) ∷ line 20 (exhausted st) ∷ storeLines R (changed 1 i g st)) (gives (encodeStore (changed 1 i g st)))) (id-is 24 item) (id-is 16 tag)
 
 -- what is met where edit gives bytes
 pub record EditGives (R : Rules) (st : Store) (item tag bs : List ℕ) : Type 0 where
@@ -162,11 +162,11 @@ module _ (R : Rules) (st : Store) (item : List ℕ) where
       (told-cons (line 20 (exhausted st)) (storeLines R (deletedStore st item)) (rule 20 (Exhausted st) (Unexhausted st)) (storeRules R (deletedStore st item)) (means-20 R st l)
       (told-store R (deletedStore st item))))
 
-  delete-table : (s : List ℕ) → openStore R s ≡ some st → deleteReply R s item ≡ firstFault delete-lines (gives (encodeStore (deletedStore st item)))
+  delete-table : (s : List ℕ) → openStore R s ≡ some st → deleteReply R s item ≡ firstFault refuses delete-lines (gives (encodeStore (deletedStore st item)))
   unfolding deleteReply delete-on deleteLines deleted noStore storeOr firstFault
   delete-table s e =
       ap (λ (o : Option Store). delete-on R o item) e
-      ∙ ap (λ (i : ℕ). firstFault (line 17 (wrongLength 24 item) ∷ line 19 (gone (find i (st .records))) ∷ line 20 (exhausted st) ∷ storeLines R (changed 2 i 0 st)) (gives (encodeStore (changed 2 i 0 st)))) (id-is 24 item)
+      ∙ ap (λ (i : ℕ). firstFault refuses (line 17 (wrongLength 24 item) ∷ line 19 (gone (find i (st .records))) ∷ line 20 (exhausted st) ∷ storeLines R (changed 2 i 0 st)) (gives (encodeStore (changed 2 i 0 st)))) (id-is 24 item)
 
 -- what is met where delete gives bytes
 pub record DeleteGives (R : Rules) (st : Store) (item bs : List ℕ) : Type 0 where

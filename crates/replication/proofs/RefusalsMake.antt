@@ -18,10 +18,12 @@ use Rattle.layout.specs.Parse.{Parsed, accepted, refused, parse}
 use Rattle.layout.proofs.Exact.{refused-exact}
 use Rattle.layout.proofs.BackwardRefused.{refused-within}
 use Rattle.ticks.specs.Operations.{normalise, project}
+use Rattle.ticks.specs.Meaning.{emptyKnowledge}
 use Rattle.ticks.specs.Calls.{line, idOf, readAs, ownFault, wrongSpan, resultLines}
 use Rattle.ticks.proofs.Lists.{Among}
-use Rattle.ticks.proofs.ForCalls.{id-is, read-accepted}
-use Rattle.ticks.proofs.Replies.{read-fault, read-fine}
+use Rattle.ticks.proofs.ForCalls.{id-is}
+use Rattle.codec.proofs.Replies.{read-accepted}
+use Rattle.codec.proofs.Replies.{read-fault, read-fine}
 use Rattle.replication.specs.Formats.{Store, Batch, encodeBatch}
 use Rattle.replication.specs.OpenStore.{openStore}
 use Rattle.replication.specs.Operate.{made}
@@ -31,10 +33,10 @@ use Rattle.replication.proofs.RefusalsTests.{Span, NoSpan, means-span, 
 
 -- ---- the reply, by what opens and is read
 
-make-on : Rules → Option Store → Parsed → List ℕ → List ℕ → Reply
+make-on : Rules → Option Store → Parsed Knowledge → List ℕ → List ℕ → Reply
 make-on R o p first last =
     let result = made (storeOr o) (readAs p) (idOf 24 first) (idOf 24 last) in
-    firstFault
+    firstFault refuses
     (line 15 (noStore o) ∷
     ownFault p ∷
     line 17 (wrongSpan first last) ∷
@@ -51,9 +53,9 @@ make-lines R b first last =
     then (resultLines R (b .needed)) (then (resultLines R (b .learned)) (line 13 (tooManyRecords (R .limits) (b .records)) ∷ []))
 
 module _ (R : Rules) (s kn first last : List ℕ) where
-  make-is : (o : Option Store) (p : Parsed) → openStore R s ≡ o → parse R kn ≡ p → makeReply R s kn first last ≡ make-on R o p first last
+  make-is : (o : Option Store) (p : Parsed Knowledge) → openStore R s ≡ o → parse R kn ≡ p → makeReply R s kn first last ≡ make-on R o p first last
   unfolding makeReply makeLines makes make-on
-  make-is o p e f = ap (λ (x : Option Store). make-on R x (parse R kn) first last) e ∙ ap (λ (x : Parsed). make-on R o x first last) f
+  make-is o p e f = ap (λ (x : Option Store). make-on R x (parse R kn) first last) e ∙ ap (λ (x : Parsed Knowledge). make-on R o x first last) f
 
   make-no-store : openStore R s ≡ none → makeReply R s kn first last ≡ refuses 15
   unfolding make-on noStore firstFault
@@ -63,19 +65,19 @@ module _ (R : Rules) (s kn first last : List ℕ) where
   unfolding make-on noStore storeOr firstFault
   make-unread st n e f =
       let b = made st (readAs (refused n)) (idOf 24 first) (idOf 24 last) in
-      make-is (some st) (refused n) e f ∙ read-fault n (make-lines R b first last) (gives (encodeBatch b))
+      make-is (some st) (refused n) e f ∙ read-fault Knowledge refuses n (make-lines R b first last) (gives (encodeBatch b))
 
-  make-table : (st : Store) (k : Knowledge) → openStore R s ≡ some st → parse R kn ≡ accepted k → makeReply R s kn first last ≡ firstFault (make-lines R (madeBatch st k first last) first last) (gives (encodeBatch (madeBatch st k first last)))
+  make-table : (st : Store) (k : Knowledge) → openStore R s ≡ some st → parse R kn ≡ accepted k → makeReply R s kn first last ≡ firstFault refuses (make-lines R (madeBatch st k first last) first last) (gives (encodeBatch (madeBatch st k first last)))
   unfolding make-on noStore storeOr firstFault
   make-table st k e f =
       let b = made st (readAs (accepted k)) (idOf 24 first) (idOf 24 last) in
       make-is (some st) (accepted k) e f
-      ∙ (read-fine k (make-lines R b first last) (gives (encodeBatch b))
-      ∙ (ap (λ (x : Knowledge). of (made st x (idOf 24 first) (idOf 24 last))) (read-accepted k)
+      ∙ (read-fine refuses k (make-lines R b first last) (gives (encodeBatch b))
+      ∙ (ap (λ (x : Knowledge). of (made st x (idOf 24 first) (idOf 24 last))) (read-accepted emptyKnowledge k)
       ∙ ap₂ (λ (x : ℕ) (y : ℕ). of (made st k x y)) (id-is 24 first) (id-is 24 last)))
     where
       of : Batch → Reply
-      of b = firstFault (make-lines R b first last) (gives (encodeBatch b))
+      of b = firstFault refuses (make-lines R b first last) (gives (encodeBatch b))
 
 module _ (R : Rules) (st : Store) (k : Knowledge) (first last : List ℕ) where
   abbrev pub makeRules : List Rule
@@ -190,7 +192,7 @@ module _ (R : Rules) (s kn first last : List ℕ) where
   pub make-15 : Permitted (R .limits) → ((id : ℕ) → R .judge id ≡ 0) → (makeReply R s kn first last ≡ refuses 15) ↔ (openStore R s ≡ none)
   make-15 permitted accepts = (go (openStore R s) refl (parse R kn) refl, make-no-store R s kn first last)
     where
-      go : (o : Option Store) → openStore R s ≡ o → (p : Parsed) → parse R kn ≡ p → makeReply R s kn first last ≡ refuses 15 → openStore R s ≡ none
+      go : (o : Option Store) → openStore R s ≡ o → (p : Parsed Knowledge) → parse R kn ≡ p → makeReply R s kn first last ≡ refuses 15 → openStore R s ≡ none
       go none e p f h = e
       go (some st) e (refused n) f h =
           let b = refused-within 10 (omega arith) R kn (λ id. omega (arith, accepts id)) n (refused-exact R permitted kn n .1 f) in
@@ -212,7 +214,7 @@ module _ (R : Rules) (s kn first last : List ℕ) where
       once (inr (inr (inr (inr (inl e))))) = inr (inr (inr (inl e)))
       once (inr (inr (inr (inr (inr m))))) = inr (inr (inr (inr m)))
 
-      go : (o : Option Store) → openStore R s ≡ o → (p : Parsed) → parse R kn ≡ p → makeReply R s kn first last ≡ refuses n → (parse R kn ≡ refused n) ⊎ Among n (15 ∷ 17 ∷ 11 ∷ 12 ∷ 13 ∷ [])
+      go : (o : Option Store) → openStore R s ≡ o → (p : Parsed Knowledge) → parse R kn ≡ p → makeReply R s kn first last ≡ refuses n → (parse R kn ≡ refused n) ⊎ Among n (15 ∷ 17 ∷ 11 ∷ 12 ∷ 13 ∷ [])
       go none e p f h = inr (inl (sym (refuses-same (makeReply R s kn first last) 15 n (make-no-store R s kn first last e) h)))
       go (some st) e (refused m) f h = inl (f ∙ ap refused (sym (make-own st m n e f .0 h)))
       go (some st) e (accepted k) f h =

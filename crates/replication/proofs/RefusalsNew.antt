@@ -19,9 +19,9 @@ module _ (own : List ℕ) where
   abbrev fresh : List ℕ
   fresh = encodeStore (record { own = beAt own 16 0; knowledge = emptyKnowledge; records = [] })
 
-  new-table : newReply own ≡ firstFault (line 17 (wrongLength 16 own) ∷ []) (gives fresh)
+  new-table : newReply own ≡ firstFault refuses (line 17 (wrongLength 16 own) ∷ []) (gives fresh)
   unfolding newReply newStore
-  new-table = ap (λ (p : ℕ). firstFault (line 17 (wrongLength 16 own) ∷ []) (gives (encodeStore (newStore p)))) (id-is 16 own)
+  new-table = ap (λ (p : ℕ). firstFault refuses (line 17 (wrongLength 16 own) ∷ []) (gives (encodeStore (newStore p)))) (id-is 16 own)
 
   new-told : Told (line 17 (wrongLength 16 own) ∷ []) (rule 17 (length own ≡ 16 → ⊥) (length own ≡ 16) ∷ [])
   new-told = told-cons (line 17 (wrongLength 16 own)) [] (rule 17 (length own ≡ 16 → ⊥) (length own ≡ 16)) [] (means-length 16 own) told-nil

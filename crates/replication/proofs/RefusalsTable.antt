@@ -225,7 +225,7 @@ pair-back n (suc j) k (c ∷ cs) o (inr a) = inr (a .0, pair-back n j k cs (both
 
 -- ---- a call that is a table
 
-module _ (r : Reply) (ls : List Line) (cs : List Rule) (bs : List ℕ) (e : r ≡ firstFault ls (gives bs)) (t : Told ls cs) where
+module _ (r : Reply) (ls : List Line) (cs : List Rule) (bs : List ℕ) (e : r ≡ firstFault refuses ls (gives bs)) (t : Told ls cs) where
   pub refused-first : (n : ℕ) → (r ≡ refuses n) ↔ FirstOf n cs
   refused-first n = (
     (λ h. t .first n .0 (fault-exact ls bs n .0 (sym e ∙ h))),
@@ -256,7 +256,7 @@ module _ (r : Reply) (ls : List Line) (cs : List Rule) (bs : List ℕ) (e : r �
   pub given-none : (cs' : List ℕ) → (r ≡ gives cs') ↔ (NoneOf cs × (cs' ≡ bs))
   given-none cs' = (
     (λ h. let g = fault-gives ls bs cs' (sym e ∙ h) in (t .none .0 (g .0), sym (g .1))),
-    λ h. e ∙ (fault-none ls (gives bs) (t .none .1 (h .0)) ∙ ap gives (sym (h .1))),
+    λ h. e ∙ (fault-none refuses ls (gives bs) (t .none .1 (h .0)) ∙ ap gives (sym (h .1))),
   )
 
 -- a reply is no refusal with another number, and bytes are no refusal

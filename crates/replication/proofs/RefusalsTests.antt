@@ -373,14 +373,14 @@ module _ (R : Rules) (k : Knowledge) where
   pub told-result : Told (resultLines R k) (rule11 R k ∷ rule12 R k ∷ [])
   told-result =
       let ls = resultLines R k in
-      let r = firstFault ls (gives (encode k)) in
+      let r = firstFault refuses ls (gives (encode k)) in
       record {
         first = λ n. (
           (λ f. result-refuses n r (result-says R k) (fault-exact ls (encode k) n .1 f)),
           λ f. fault-exact ls (encode k) n .0 (result-refused n r (result-says R k) f),
         );
         none = (
-          (λ f. result-gives r (result-says R k) (fault-none ls (gives (encode k)) f)),
+          (λ f. result-gives r (result-says R k) (fault-none refuses ls (gives (encode k)) f)),
           λ f. fault-gives ls (encode k) (encode k) (result-given-by r (result-says R k) f) .0,
         );
       }

@@ -123,7 +123,7 @@ unfolding storeWith
 with-back own k none st e = absurd (let z : _≡_ {A = ℕ} 0 1 = cc in omega arith)
 with-back own k (some rs) st e = (cc, (cc, cc))
 
-from-back : (s : List ℕ) (p : Parsed) (st : Store) → storeFrom s p ≡ some st →
+from-back : (s : List ℕ) (p : Parsed Knowledge) (st : Store) → storeFrom s p ≡ some st →
     (beAt s 16 1 ≡ st .own) × ((p ≡ accepted (st .knowledge)) × (recsAt s (beAt s 4 21) (25 + beAt s 4 17) ≡ some (st .records)))
 unfolding storeFrom
 from-back s (refused n) st e = absurd (let z : _≡_ {A = ℕ} 0 1 = cc in omega arith)

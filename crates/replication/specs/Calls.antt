@@ -2,7 +2,7 @@
 -- store before batch or knowledge, then 17; then 18, 19, 20; then the result (for make: needed before learned)", and
 -- the bytes where no line holds. 14, the output buffer shorter than the result, is looked for last, by `answer`.
 use Rattle.codec.specs.Prelude.{ℕ, Bool, true, false, not, _||_, List, [], _∷_, Option, none, some, eqb, ltb, leb, length}
-use Rattle.codec.specs.Reply.{Reply, gives, Line, firstFault}
+use Rattle.codec.specs.Reply.{Reply, gives, Line, firstFault, refuses}
 use Rattle.layout.specs.Knowledge.{Limits, Rules, largestTick, Knowledge}
 use Rattle.layout.specs.Parse.{parse}
 use Rattle.ticks.specs.Meaning.{highest, emptyKnowledge}
@@ -65,7 +65,7 @@ storeLines R st =
 
 -- new
 unfoldable pub newReply : List ℕ → Reply
-newReply own = firstFault (line 17 (wrongLength 16 own) ∷ []) (gives (encodeStore (newStore (idOf 16 own))))
+newReply own = firstFault refuses (line 17 (wrongLength 16 own) ∷ []) (gives (encodeStore (newStore (idOf 16 own))))
 
 -- edit
 unfoldable pub editLines : Rules → Option Store → List ℕ → List ℕ → Store → List Line
@@ -82,7 +82,7 @@ unfoldable pub editReply : Rules → List ℕ → List ℕ → List ℕ → Repl
 editReply R s item tag =
     let o = openStore R s in
     let result = edited o item tag in
-    firstFault (editLines R o item tag result) (gives (encodeStore result))
+    firstFault refuses (editLines R o item tag result) (gives (encodeStore result))
 
 -- delete
 unfoldable pub deleteLines : Rules → Option Store → List ℕ → Store → List Line
@@ -100,7 +100,7 @@ unfoldable pub deleteReply : Rules → List ℕ → List ℕ → Reply
 deleteReply R s item =
     let o = openStore R s in
     let result = deleted o item in
-    firstFault (deleteLines R o item result) (gives (encodeStore result))
+    firstFault refuses (deleteLines R o item result) (gives (encodeStore result))
 
 -- make: the store, the given knowledge's own fault, the span, then needed before learned
 unfoldable pub makeLines : Rules → Option Store → List ℕ → List ℕ → List ℕ → Batch → List Line
@@ -118,7 +118,7 @@ unfoldable pub makeReply : Rules → List ℕ → List ℕ → List ℕ → List
 makeReply R s knowledge first last =
     let o = openStore R s in
     let result = makes R o knowledge first last in
-    firstFault (makeLines R o knowledge first last result) (gives (encodeBatch result))
+    firstFault refuses (makeLines R o knowledge first last result) (gives (encodeBatch result))
 
 -- apply
 unfoldable pub applyLines : Rules → Option Store → Option Batch → Store → List Line
@@ -133,4 +133,4 @@ applyReply R s batch =
     let o = openStore R s in
     let p = openBatch R batch in
     let result = applied (storeOr o) (batchOr p) in
-    firstFault (applyLines R o p result) (gives (encodeStore result))
+    firstFault refuses (applyLines R o p result) (gives (encodeStore result))

@@ -16,11 +16,11 @@ batchWith s needed learned none = none
 batchWith s needed learned (some rs) =
     some (record { first = beAt s 24 1; last = beAt s 24 25; needed = needed; learned = learned; records = rs })
 
-unfoldable pub batchAfter : List ℕ → Knowledge → Parsed → Option Batch
+unfoldable pub batchAfter : List ℕ → Knowledge → Parsed Knowledge → Option Batch
 batchAfter s needed (refused n) = none
 batchAfter s needed (accepted k) = batchWith s needed k (recsAt s (beAt s 4 57) (61 + beAt s 4 49 + beAt s 4 53))
 
-unfoldable pub batchFrom : Rules → List ℕ → Parsed → Option Batch
+unfoldable pub batchFrom : Rules → List ℕ → Parsed Knowledge → Option Batch
 batchFrom R s (refused n) = none
 batchFrom R s (accepted k) = batchAfter s k (parse R (take (beAt s 4 53) (drop (61 + beAt s 4 49) s)))
 

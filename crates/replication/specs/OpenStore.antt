@@ -15,7 +15,7 @@ unfoldable pub storeWith : ℕ → Knowledge → Option (List Rec) → Option St
 storeWith own k none = none
 storeWith own k (some rs) = some (record { own = own; knowledge = k; records = rs })
 
-unfoldable pub storeFrom : List ℕ → Parsed → Option Store
+unfoldable pub storeFrom : List ℕ → Parsed Knowledge → Option Store
 storeFrom s (refused n) = none
 storeFrom s (accepted k) = storeWith (beAt s 16 1) k (recsAt s (beAt s 4 21) (25 + beAt s 4 17))
 

@@ -93,13 +93,13 @@ winnerPart R s batch item =
     (sideOf (find i (storeOr o .records)) (find i (batchOr p .records))
     (partAt ofStore s (placeOf s i (length (storeOr o .records)) (storeTable s)))
     (partAt ofBatch batch (placeOf batch i (length (batchOr p .records)) (batchTable batch))))
-    (firstFault (line 15 (noStore o) ∷ line 16 (noBatch p) ∷ line 17 (wrongLength 24 item) ∷ []) (gives []))
+    (firstFault refuses (line 15 (noStore o) ∷ line 16 (noBatch p) ∷ line 17 (wrongLength 24 item) ∷ []) (gives []))
 
 -- "From a checked batch the learned knowledge is handed out as a part of the batch, uncopied"
 unfoldable pub learnedPart : Rules → List ℕ → Part
 learnedPart R batch =
     orRefused (ofBatch (61 + beAt batch 4 49) (beAt batch 4 53))
-    (firstFault (line 16 (noBatch (openBatch R batch)) ∷ []) (gives []))
+    (firstFault refuses (line 16 (noBatch (openBatch R batch)) ∷ []) (gives []))
 
 -- the records that a walker at a place has still to give; "it ends where no whole record of a known kind follows".
 -- A record has at least one byte, so the table's length bounds how many there can be
@@ -153,4 +153,4 @@ coverageAnswer R s knowledge =
     let rs = storeOr o .records in
     let inside = countIn (readAs p) rs in
     coveredOr (covered inside (length rs) (thousandths inside (length rs)))
-    (firstFault (line 15 (noStore o) ∷ ownFault p ∷ []) (gives []))
+    (firstFault refuses (line 15 (noStore o) ∷ ownFault p ∷ []) (gives []))

@@ -11,6 +11,7 @@ use lib.ListN.{length}
 use lib.IntN.{pos, negsuc, _-ℤ_}
 use borrow.Author.Tests.{lt-ltb, le-ltb, ltb-false, eq-eqb, eqb-true, not-false}
 use Rattle.codec.specs.Number.{beAt}
+use Rattle.codec.specs.Parsed.{readOr}
 use Rattle.codec.specs.Reply.{Reply, gives, refuses, firstFault}
 use Rattle.codec.proofs.Replies.{fault-here, fault-none}
 use Rattle.layout.specs.Knowledge.{Rules, Knowledge}
@@ -27,7 +28,7 @@ use Rattle.ticks.specs.Calls.{containNumber, containValue, leadNumber, l
 use Rattle.ticks.proofs.Equality.{clash}
 use Rattle.ticks.proofs.Algebra.{contains-exact}
 use Rattle.ticks.proofs.Search.{Covers, covers-exact}
-use Rattle.ticks.proofs.Replies.{read-fault, read-fine}
+use Rattle.codec.proofs.Replies.{read-fault, read-fine}
 
 -- 17: what it is that none of its conditions holds
 
@@ -60,42 +61,42 @@ span-exact first last =
     )
 
 -- the lines of a call on one knowledge, and of one on two, with 17 after them
-one : Parsed → Bool → Reply
-one p w = firstFault (ownFault p ∷ line 17 w ∷ []) (gives [])
+one : Parsed Knowledge → Bool → Reply
+one p w = firstFault refuses (ownFault p ∷ line 17 w ∷ []) (gives [])
 
-two : Parsed → Parsed → Bool → Reply
-two p q w = firstFault (ownFault p ∷ ownFault q ∷ line 17 w ∷ []) (gives [])
+two : Parsed Knowledge → Parsed Knowledge → Bool → Reply
+two p q w = firstFault refuses (ownFault p ∷ ownFault q ∷ line 17 w ∷ []) (gives [])
 
 last-line : (w : Bool) → Reply
-last-line w = firstFault (line 17 w ∷ []) (gives [])
+last-line w = firstFault refuses (line 17 w ∷ []) (gives [])
 
 last-wrong : (w : Bool) → w ≡ true → last-line w ≡ refuses 17
 unfolding last-line
-last-wrong w e = fault-here (line 17 w) [] (gives []) e
+last-wrong w e = fault-here refuses (line 17 w) [] (gives []) e
 
 last-right : (w : Bool) → w ≡ false → last-line w ≡ gives []
 unfolding last-line
-last-right w e = fault-none (line 17 w ∷ []) (gives []) (e, tt)
+last-right w e = fault-none refuses (line 17 w ∷ []) (gives []) (e, tt)
 
 one-refused : (n : ℕ) (w : Bool) → one (refused n) w ≡ refuses n
 unfolding one
-one-refused n w = read-fault n (line 17 w ∷ []) (gives [])
+one-refused n w = read-fault Knowledge refuses n (line 17 w ∷ []) (gives [])
 
 one-accepted : (k : Knowledge) (w : Bool) → one (accepted k) w ≡ last-line w
 unfolding one last-line
-one-accepted k w = read-fine k (line 17 w ∷ []) (gives [])
+one-accepted k w = read-fine refuses k (line 17 w ∷ []) (gives [])
 
-two-first : (n : ℕ) (q : Parsed) (w : Bool) → two (refused n) q w ≡ refuses n
+two-first : (n : ℕ) (q : Parsed Knowledge) (w : Bool) → two (refused n) q w ≡ refuses n
 unfolding two
-two-first n q w = read-fault n (ownFault q ∷ line 17 w ∷ []) (gives [])
+two-first n q w = read-fault Knowledge refuses n (ownFault q ∷ line 17 w ∷ []) (gives [])
 
 two-second : (a : Knowledge) (n : ℕ) (w : Bool) → two (accepted a) (refused n) w ≡ refuses n
 unfolding two
-two-second a n w = read-fine a (ownFault (refused n) ∷ line 17 w ∷ []) (gives []) ∙ read-fault n (line 17 w ∷ []) (gives [])
+two-second a n w = read-fine refuses a (ownFault (refused n) ∷ line 17 w ∷ []) (gives []) ∙ read-fault Knowledge refuses n (line 17 w ∷ []) (gives [])
 
 two-accepted : (a b : Knowledge) (w : Bool) → two (accepted a) (accepted b) w ≡ last-line w
 unfolding two last-line
-two-accepted a b w = read-fine a (ownFault (accepted b) ∷ line 17 w ∷ []) (gives []) ∙ read-fine b (line 17 w ∷ []) (gives [])
+two-accepted a b w = read-fine refuses a (ownFault (accepted b) ∷ line 17 w ∷ []) (gives []) ∙ read-fine refuses b (line 17 w ∷ []) (gives [])
 
 module _ {A : Type 0} (bad : ℕ → A) (found : A) where
   refused-is : (r : Reply) (n : ℕ) → r ≡ refuses n → refusedOr bad found r ≡ bad n
@@ -136,7 +137,7 @@ pub data ContainSays (R : Rules) (s item replica : List ℕ) (t : ℕ) : Contain
 
 -- the equation of each case
 module _ (R : Rules) (s item replica : List ℕ) (t : ℕ) where
-  contain-of : (p : Parsed) → parse R s ≡ p
+  contain-of : (p : Parsed Knowledge) → parse R s ≡ p
       → containAnswer R s item replica t ≡ refusedOr C.Refused (containFound (contains (readAs p) (idOf 24 item) (idOf 16 replica) t)) (one p (wrongPlace item replica))
   unfolding containAnswer one
   contain-of p e = ap (λ p. refusedOr C.Refused (containFound (contains (readAs p) (idOf 24 item) (idOf 16 replica) t)) (one p (wrongPlace item replica))) e
@@ -150,14 +151,14 @@ module _ (R : Rules) (s item replica : List ℕ) (t : ℕ) where
 
   contain-is-found : (k : Knowledge) → parse R s ≡ accepted k → wrongPlace item replica ≡ false
       → containAnswer R s item replica t ≡ containFound (contains k (idOf 24 item) (idOf 16 replica) t)
-  unfolding readAs
+  unfolding readOr
   contain-is-found k e f =
       contain-of (accepted k) e ∙ found-is C.Refused _ _ (one-accepted k (wrongPlace item replica) ∙ last-right (wrongPlace item replica) f)
 
   pub contain-says : ContainSays R s item replica t (containAnswer R s item replica t)
   contain-says = go (parse R s) refl (wrongPlace item replica) refl
     where
-      go : (p : Parsed) → parse R s ≡ p → (w : Bool) → wrongPlace item replica ≡ w → ContainSays R s item replica t (containAnswer R s item replica t)
+      go : (p : Parsed Knowledge) → parse R s ≡ p → (w : Bool) → wrongPlace item replica ≡ w → ContainSays R s item replica t (containAnswer R s item replica t)
       go (refused n) e w f = subst (ContainSays R s item replica t) (sym (contain-is-own n e)) (contain-own n e)
       go (accepted k) e true f = subst (ContainSays R s item replica t) (sym (contain-is-17 k e f)) (contain-17 k e f)
       go (accepted k) e false f = subst (ContainSays R s item replica t) (sym (contain-is-found k e f)) (contain-found k e f)
@@ -223,7 +224,7 @@ pub data LeadSays (R : Rules) (s t item replica : List ℕ) : Lead → Type 0 wh
 
 -- the equation of each case
 module _ (R : Rules) (s t item replica : List ℕ) where
-  lead-of : (p q : Parsed) → parse R s ≡ p → parse R t ≡ q
+  lead-of : (p q : Parsed Knowledge) → parse R s ≡ p → parse R t ≡ q
       → leadAnswer R s t item replica ≡ refusedOr D.Refused (D.Ahead (leadOf (readAs p) (readAs q) (idOf 24 item) (idOf 16 replica))) (two p q (wrongPlace item replica))
   unfolding leadAnswer two
   lead-of p q e f = ap₂ (λ p q. refusedOr D.Refused (D.Ahead (leadOf (readAs p) (readAs q) (idOf 24 item) (idOf 16 replica))) (two p q (wrongPlace item replica))) e f
@@ -240,14 +241,14 @@ module _ (R : Rules) (s t item replica : List ℕ) where
 
   lead-is-found : (a b : Knowledge) → parse R s ≡ accepted a → parse R t ≡ accepted b → wrongPlace item replica ≡ false
       → leadAnswer R s t item replica ≡ D.Ahead (leadOf a b (idOf 24 item) (idOf 16 replica))
-  unfolding readAs
+  unfolding readOr
   lead-is-found a b e f g =
       lead-of (accepted a) (accepted b) e f ∙ found-is D.Refused _ _ (two-accepted a b (wrongPlace item replica) ∙ last-right (wrongPlace item replica) g)
 
   pub lead-says : LeadSays R s t item replica (leadAnswer R s t item replica)
   lead-says = go (parse R s) refl (parse R t) refl (wrongPlace item replica) refl
     where
-      go : (p : Parsed) → parse R s ≡ p → (q : Parsed) → parse R t ≡ q → (w : Bool) → wrongPlace item replica ≡ w → LeadSays R s t item replica (leadAnswer R s t item replica)
+      go : (p : Parsed Knowledge) → parse R s ≡ p → (q : Parsed Knowledge) → parse R t ≡ q → (w : Bool) → wrongPlace item replica ≡ w → LeadSays R s t item replica (leadAnswer R s t item replica)
       go (refused n) e q f w g = subst (LeadSays R s t item replica) (sym (lead-is-first n e)) (lead-first n e)
       go (accepted a) e (refused n) f w g = subst (LeadSays R s t item replica) (sym (lead-is-second a n e f)) (lead-second a n e f)
       go (accepted a) e (accepted b) f true g = subst (LeadSays R s t item replica) (sym (lead-is-17 a b e f g)) (lead-17 a b e f g)
@@ -301,7 +302,7 @@ pub data CoverSays (R : Rules) (s t first last : List ℕ) : Cover → Type 0 wh
 
 -- the equation of each case
 module _ (R : Rules) (s t first last : List ℕ) where
-  cover-of : (p q : Parsed) → parse R s ≡ p → parse R t ≡ q
+  cover-of : (p q : Parsed Knowledge) → parse R s ≡ p → parse R t ≡ q
       → coverAnswer R s t first last ≡ refusedOr E.Refused (coverFound (covers (readAs p) (readAs q) (idOf 24 first) (idOf 24 last))) (two p q (wrongSpan first last))
   unfolding coverAnswer two
   cover-of p q e f = ap₂ (λ p q. refusedOr E.Refused (coverFound (covers (readAs p) (readAs q) (idOf 24 first) (idOf 24 last))) (two p q (wrongSpan first last))) e f
@@ -318,14 +319,14 @@ module _ (R : Rules) (s t first last : List ℕ) where
 
   cover-is-found : (a b : Knowledge) → parse R s ≡ accepted a → parse R t ≡ accepted b → wrongSpan first last ≡ false
       → coverAnswer R s t first last ≡ coverFound (covers a b (idOf 24 first) (idOf 24 last))
-  unfolding readAs
+  unfolding readOr
   cover-is-found a b e f g =
       cover-of (accepted a) (accepted b) e f ∙ found-is E.Refused _ _ (two-accepted a b (wrongSpan first last) ∙ last-right (wrongSpan first last) g)
 
   pub cover-says : CoverSays R s t first last (coverAnswer R s t first last)
   cover-says = go (parse R s) refl (parse R t) refl (wrongSpan first last) refl
     where
-      go : (p : Parsed) → parse R s ≡ p → (q : Parsed) → parse R t ≡ q → (w : Bool) → wrongSpan first last ≡ w → CoverSays R s t first last (coverAnswer R s t first last)
+      go : (p : Parsed Knowledge) → parse R s ≡ p → (q : Parsed Knowledge) → parse R t ≡ q → (w : Bool) → wrongSpan first last ≡ w → CoverSays R s t first last (coverAnswer R s t first last)
       go (refused n) e q f w g = subst (CoverSays R s t first last) (sym (cover-is-first n e)) (cover-first n e)
       go (accepted a) e (refused n) f w g = subst (CoverSays R s t first last) (sym (cover-is-second a n e f)) (cover-second a n e f)
       go (accepted a) e (accepted b) f true g = subst (CoverSays R s t first last) (sym (cover-is-17 a b e f g)) (cover-17 a b e f g)

@@ -32,10 +32,10 @@ gave n bs e = let z : _≡_ {A = ℕ} 0 1 = cc in absurd (omega arith)
 gave-same : (xs ys : List ℕ) → gives xs ≡ gives ys → xs ≡ ys
 gave-same xs ys e = cc
 
-pub accepted-same : (a b : Knowledge) (p : Parsed) → p ≡ accepted a → p ≡ accepted b → a ≡ b
+pub accepted-same : (a b : Knowledge) (p : Parsed Knowledge) → p ≡ accepted a → p ≡ accepted b → a ≡ b
 accepted-same a b p e f = cc
 
-pub not-refused : (k : Knowledge) (n : ℕ) (p : Parsed) {A : Type 0} → p ≡ accepted k → p ≡ refused n → A
+pub not-refused : (k : Knowledge) (n : ℕ) (p : Parsed Knowledge) {A : Type 0} → p ≡ accepted k → p ≡ refused n → A
 not-refused k n p e f = let z : _≡_ {A = ℕ} 0 1 = cc in absurd (omega arith)
 
 found-contained : (x : Bool) → (containFound x ≡ C.Contained) ↔ (x ≡ true)

@@ -36,22 +36,6 @@ span-right first last h =
     let b = or-false (wrongLength 24 last) (ltb (idOf 24 last) (idOf 24 first)) (a .1) in
     (length-right 24 first (a .0), (length-right 24 last (b .0), ltb-false (idOf 24 last) (idOf 24 first) (b .1)))
 
-pub read-accepted : (k : Knowledge) → readAs (accepted k) ≡ k
-unfolding readAs
-read-accepted k = refl
-
-pub fault-accepted : (k : Knowledge) → ownFault (accepted k) .holds ≡ false
-unfolding ownFault
-fault-accepted k = refl
-
-pub fault-refused : (n : ℕ) → ownFault (refused n) .holds ≡ true
-unfolding ownFault
-fault-refused n = refl
-
-pub fault-number : (n : ℕ) → ownFault (refused n) .number ≡ n
-unfolding ownFault
-fault-number n = refl
-
 -- a resulting knowledge within the limits
 pub record Within (R : Rules) (k : Knowledge) : Type 0 where
   pub replicas : tooManyReplicas (R .limits) k ≡ false

@@ -5,8 +5,9 @@ use mathlib.Core.Path.{_≡_, refl, sym, _∙_, ap, ap₂, subst}
 use mathlib.Core.Bool.{Bool, true, false}
 use mathlib.Core.List.{List, [], _∷_}
 use Rattle.codec.specs.Number.{Bytes}
+use Rattle.codec.specs.Parsed.{readOr}
 use Rattle.codec.specs.Reply.{Reply, gives, refuses, Line, firstFault}
-use Rattle.codec.proofs.Replies.{fault-here, fault-later, fault-none}
+use Rattle.codec.proofs.Replies.{fault-here, fault-later, fault-none, read-fault, read-fine}
 use Rattle.layout.specs.Knowledge.{Rules, Knowledge, Lawful, encode}
 use Rattle.layout.specs.Permitted.{Permitted}
 use Rattle.layout.specs.Parse.{Parsed, accepted, refused, parse}
@@ -18,16 +19,6 @@ use Rattle.ticks.specs.Calls.{idOf, readAs, line, ownFault, wrongSpan, r
 pub read-lawful : (R : Rules) (s : List ℕ) (k : Knowledge) → Permitted (R .limits) → Bytes s → parse R s ≡ accepted k → Lawful R k
 read-lawful R s k m b e = exact R m s k b .0 e .1
 
--- The lines
-
-pub read-fault : (n : ℕ) (ls : List Line) (r : Reply) → firstFault (ownFault (refused n) ∷ ls) r ≡ refuses n
-unfolding ownFault
-read-fault n ls r = fault-here (line n true) ls r refl
-
-pub read-fine : (k : Knowledge) (ls : List Line) (r : Reply) → firstFault (ownFault (accepted k) ∷ ls) r ≡ firstFault ls r
-unfolding ownFault
-read-fine k ls r = fault-later (line 0 false) ls r refl
-
 -- Results
 
 -- 11 over the most replicas; then 12 over the most ranges; or the bytes of the result
@@ -36,7 +27,7 @@ pub data ResultSays (R : Rules) (k : Knowledge) : Reply → Type 0 where
   over-ranges : tooManyReplicas (R .limits) k ≡ false → tooManyRanges (R .limits) k ≡ true → ResultSays R k (refuses 12)
   result-given : tooManyReplicas (R .limits) k ≡ false → tooManyRanges (R .limits) k ≡ false → ResultSays R k (gives (encode k))
 
-pub result-says : (R : Rules) (k : Knowledge) → ResultSays R k (firstFault (resultLines R k) (gives (encode k)))
+pub result-says : (R : Rules) (k : Knowledge) → ResultSays R k (firstFault refuses (resultLines R k) (gives (encode k)))
 unfolding resultLines
 result-says R k = go (tooManyReplicas (R .limits) k) refl (tooManyRanges (R .limits) k) refl
   where
@@ -46,14 +37,14 @@ result-says R k = go (tooManyReplicas (R .limits) k) refl (tooManyRanges (R .lim
     lines : List Line
     lines = line 11 (tooManyReplicas (R .limits) k) ∷ twelve
 
-    go : (t : Bool) → tooManyReplicas (R .limits) k ≡ t → (u : Bool) → tooManyRanges (R .limits) k ≡ u → ResultSays R k (firstFault lines (gives (encode k)))
-    go true e u f = subst (ResultSays R k) (sym (fault-here (line 11 (tooManyReplicas (R .limits) k)) twelve (gives (encode k)) e)) (over-replicas e)
+    go : (t : Bool) → tooManyReplicas (R .limits) k ≡ t → (u : Bool) → tooManyRanges (R .limits) k ≡ u → ResultSays R k (firstFault refuses lines (gives (encode k)))
+    go true e u f = subst (ResultSays R k) (sym (fault-here refuses (line 11 (tooManyReplicas (R .limits) k)) twelve (gives (encode k)) e)) (over-replicas e)
     go false e true f =
         subst (ResultSays R k)
-        (sym (fault-later (line 11 (tooManyReplicas (R .limits) k)) twelve (gives (encode k)) e
-        ∙ fault-here (line 12 (tooManyRanges (R .limits) k)) [] (gives (encode k)) f))
+        (sym (fault-later refuses (line 11 (tooManyReplicas (R .limits) k)) twelve (gives (encode k)) e
+        ∙ fault-here refuses (line 12 (tooManyRanges (R .limits) k)) [] (gives (encode k)) f))
         (over-ranges e f)
-    go false e false f = subst (ResultSays R k) (sym (fault-none lines (gives (encode k)) (e, (f, tt)))) (result-given e f)
+    go false e false f = subst (ResultSays R k) (sym (fault-none refuses lines (gives (encode k)) (e, (f, tt)))) (result-given e f)
 
 -- Normalise: the knowledge's own fault, or the result's line or bytes
 
@@ -61,25 +52,25 @@ pub data NormaliseSays (R : Rules) (s : List ℕ) : Reply → Type 0 where
   normalise-own : (n : ℕ) → parse R s ≡ refused n → NormaliseSays R s (refuses n)
   normalise-result : (k : Knowledge) (r : Reply) → parse R s ≡ accepted k → ResultSays R (normalise k) r → NormaliseSays R s r
 
-normalise-of : Rules → Parsed → Reply
-normalise-of R p = firstFault (ownFault p ∷ resultLines R (normalise (readAs p))) (gives (encode (normalise (readAs p))))
+normalise-of : Rules → Parsed Knowledge → Reply
+normalise-of R p = firstFault refuses (ownFault p ∷ resultLines R (normalise (readAs p))) (gives (encode (normalise (readAs p))))
 
-normalise-reply : (R : Rules) (s : List ℕ) (p : Parsed) → parse R s ≡ p → normaliseReply R s ≡ normalise-of R p
+normalise-reply : (R : Rules) (s : List ℕ) (p : Parsed Knowledge) → parse R s ≡ p → normaliseReply R s ≡ normalise-of R p
 unfolding normaliseReply normalise-of
 normalise-reply R s p e = ap (normalise-of R) e
 
 pub normalise-says : (R : Rules) (s : List ℕ) → NormaliseSays R s (normaliseReply R s)
-unfolding normalise-of readAs
+unfolding normalise-of readOr
 normalise-says R s = go (parse R s) refl
   where
-    go : (p : Parsed) → parse R s ≡ p → NormaliseSays R s (normaliseReply R s)
+    go : (p : Parsed Knowledge) → parse R s ≡ p → NormaliseSays R s (normaliseReply R s)
     go (refused n) e =
         let k = normalise (readAs (refused n)) in
-        subst (NormaliseSays R s) (sym (normalise-reply R s (refused n) e ∙ read-fault n (resultLines R k) (gives (encode k)))) (normalise-own n e)
+        subst (NormaliseSays R s) (sym (normalise-reply R s (refused n) e ∙ read-fault Knowledge refuses n (resultLines R k) (gives (encode k)))) (normalise-own n e)
     go (accepted k) e =
-        let result = firstFault (resultLines R (normalise k)) (gives (encode (normalise k))) in
+        let result = firstFault refuses (resultLines R (normalise k)) (gives (encode (normalise k))) in
         subst (NormaliseSays R s)
-        (sym (normalise-reply R s (accepted k) e ∙ read-fine k (resultLines R (normalise k)) (gives (encode (normalise k)))))
+        (sym (normalise-reply R s (accepted k) e ∙ read-fine refuses k (resultLines R (normalise k)) (gives (encode (normalise k)))))
         (normalise-result k result e (result-says R (normalise k)))
 
 -- Merge: the first knowledge's own fault, then the second's
@@ -89,35 +80,35 @@ pub data MergeSays (R : Rules) (s t : List ℕ) : Reply → Type 0 where
   merge-second : (a : Knowledge) (n : ℕ) → parse R s ≡ accepted a → parse R t ≡ refused n → MergeSays R s t (refuses n)
   merge-result : (a b : Knowledge) (r : Reply) → parse R s ≡ accepted a → parse R t ≡ accepted b → ResultSays R (merge a b) r → MergeSays R s t r
 
-merge-of : Rules → Parsed → Parsed → Reply
+merge-of : Rules → Parsed Knowledge → Parsed Knowledge → Reply
 merge-of R p q =
-    firstFault (ownFault p ∷ ownFault q ∷ resultLines R (merge (readAs p) (readAs q))) (gives (encode (merge (readAs p) (readAs q))))
+    firstFault refuses (ownFault p ∷ ownFault q ∷ resultLines R (merge (readAs p) (readAs q))) (gives (encode (merge (readAs p) (readAs q))))
 
-merge-reply : (R : Rules) (s t : List ℕ) (p q : Parsed) → parse R s ≡ p → parse R t ≡ q → mergeReply R s t ≡ merge-of R p q
+merge-reply : (R : Rules) (s t : List ℕ) (p q : Parsed Knowledge) → parse R s ≡ p → parse R t ≡ q → mergeReply R s t ≡ merge-of R p q
 unfolding mergeReply merge-of
 merge-reply R s t p q e f = ap₂ (merge-of R) e f
 
 pub merge-says : (R : Rules) (s t : List ℕ) → MergeSays R s t (mergeReply R s t)
-unfolding merge-of readAs
+unfolding merge-of readOr
 merge-says R s t = go (parse R s) refl (parse R t) refl
   where
-    go : (p : Parsed) → parse R s ≡ p → (q : Parsed) → parse R t ≡ q → MergeSays R s t (mergeReply R s t)
+    go : (p : Parsed Knowledge) → parse R s ≡ p → (q : Parsed Knowledge) → parse R t ≡ q → MergeSays R s t (mergeReply R s t)
     go (refused n) e q f =
         let k = merge (readAs (refused n)) (readAs q) in
         subst (MergeSays R s t)
-        (sym (merge-reply R s t (refused n) q e f ∙ read-fault n (ownFault q ∷ resultLines R k) (gives (encode k)))) (merge-first n e)
+        (sym (merge-reply R s t (refused n) q e f ∙ read-fault Knowledge refuses n (ownFault q ∷ resultLines R k) (gives (encode k)))) (merge-first n e)
     go (accepted a) e (refused n) f =
         let k = merge (readAs (accepted a)) (readAs (refused n)) in
         subst (MergeSays R s t)
         (sym (merge-reply R s t (accepted a) (refused n) e f
-        ∙ read-fine a (ownFault (refused n) ∷ resultLines R k) (gives (encode k)) ∙ read-fault n (resultLines R k) (gives (encode k))))
+        ∙ read-fine refuses a (ownFault (refused n) ∷ resultLines R k) (gives (encode k)) ∙ read-fault Knowledge refuses n (resultLines R k) (gives (encode k))))
         (merge-second a n e f)
     go (accepted a) e (accepted b) f =
         let k = merge a b in
         subst (MergeSays R s t)
         (sym (merge-reply R s t (accepted a) (accepted b) e f
-        ∙ read-fine a (ownFault (accepted b) ∷ resultLines R k) (gives (encode k)) ∙ read-fine b (resultLines R k) (gives (encode k))))
-        (merge-result a b (firstFault (resultLines R k) (gives (encode k))) e f (result-says R k))
+        ∙ read-fine refuses a (ownFault (accepted b) ∷ resultLines R k) (gives (encode k)) ∙ read-fine refuses b (resultLines R k) (gives (encode k))))
+        (merge-result a b (firstFault refuses (resultLines R k) (gives (encode k))) e f (result-says R k))
 
 -- Project: the knowledge's own fault, then 17
 
@@ -127,34 +118,34 @@ pub data ProjectSays (R : Rules) (s first last : List ℕ) : Reply → Type 0 wh
   project-result : (k : Knowledge) (r : Reply) → parse R s ≡ accepted k → wrongSpan first last ≡ false
       → ResultSays R (project (idOf 24 first) (idOf 24 last) k) r → ProjectSays R s first last r
 
-project-of : Rules → List ℕ → List ℕ → Parsed → Reply
+project-of : Rules → List ℕ → List ℕ → Parsed Knowledge → Reply
 project-of R first last p =
-    firstFault (ownFault p ∷ line 17 (wrongSpan first last) ∷ resultLines R (project (idOf 24 first) (idOf 24 last) (readAs p)))
+    firstFault refuses (ownFault p ∷ line 17 (wrongSpan first last) ∷ resultLines R (project (idOf 24 first) (idOf 24 last) (readAs p)))
     (gives (encode (project (idOf 24 first) (idOf 24 last) (readAs p))))
 
-project-reply : (R : Rules) (s first last : List ℕ) (p : Parsed) → parse R s ≡ p → projectReply R s first last ≡ project-of R first last p
+project-reply : (R : Rules) (s first last : List ℕ) (p : Parsed Knowledge) → parse R s ≡ p → projectReply R s first last ≡ project-of R first last p
 unfolding projectReply project-of
 project-reply R s first last p e = ap (project-of R first last) e
 
 pub project-says : (R : Rules) (s first last : List ℕ) → ProjectSays R s first last (projectReply R s first last)
-unfolding project-of readAs
+unfolding project-of readOr
 project-says R s first last = go (parse R s) refl (wrongSpan first last) refl
   where
-    go : (p : Parsed) → parse R s ≡ p → (t : Bool) → wrongSpan first last ≡ t → ProjectSays R s first last (projectReply R s first last)
+    go : (p : Parsed Knowledge) → parse R s ≡ p → (t : Bool) → wrongSpan first last ≡ t → ProjectSays R s first last (projectReply R s first last)
     go (refused n) e t f =
         let k = project (idOf 24 first) (idOf 24 last) (readAs (refused n)) in
         subst (ProjectSays R s first last)
-        (sym (project-reply R s first last (refused n) e ∙ read-fault n (line 17 (wrongSpan first last) ∷ resultLines R k) (gives (encode k))))
+        (sym (project-reply R s first last (refused n) e ∙ read-fault Knowledge refuses n (line 17 (wrongSpan first last) ∷ resultLines R k) (gives (encode k))))
         (project-own n e)
     go (accepted a) e true f =
         let k = project (idOf 24 first) (idOf 24 last) a in
         subst (ProjectSays R s first last)
-        (sym (project-reply R s first last (accepted a) e ∙ read-fine a (line 17 (wrongSpan first last) ∷ resultLines R k) (gives (encode k))
-        ∙ fault-here (line 17 (wrongSpan first last)) (resultLines R k) (gives (encode k)) f))
+        (sym (project-reply R s first last (accepted a) e ∙ read-fine refuses a (line 17 (wrongSpan first last) ∷ resultLines R k) (gives (encode k))
+        ∙ fault-here refuses (line 17 (wrongSpan first last)) (resultLines R k) (gives (encode k)) f))
         (project-17 a e f)
     go (accepted a) e false f =
         let k = project (idOf 24 first) (idOf 24 last) a in
         subst (ProjectSays R s first last)
-        (sym (project-reply R s first last (accepted a) e ∙ read-fine a (line 17 (wrongSpan first last) ∷ resultLines R k) (gives (encode k))
-        ∙ fault-later (line 17 (wrongSpan first last)) (resultLines R k) (gives (encode k)) f))
-        (project-result a (firstFault (resultLines R k) (gives (encode k))) e f (result-says R k))
+        (sym (project-reply R s first last (accepted a) e ∙ read-fine refuses a (line 17 (wrongSpan first last) ∷ resultLines R k) (gives (encode k))
+        ∙ fault-later refuses (line 17 (wrongSpan first last)) (resultLines R k) (gives (encode k)) f))
+        (project-result a (firstFault refuses (resultLines R k) (gives (encode k))) e f (result-says R k))

@@ -5,8 +5,11 @@ use Rattle.codec.specs.Prelude.{ℕ, Bool, true, false, not, _||_, List, [], _�
 use lib.IntN.{ℤ, pos, _-ℤ_}
 use Rattle.codec.specs.Number.{beAt}
 use Rattle.codec.specs.Reply.{Reply, gives, refuses, Line, firstFault}
+use Rattle.codec.specs.Parsed.{Parsed}
+pub use Rattle.codec.specs.Parsed.{line}
+unfoldable pub use Rattle.codec.specs.Parsed.{ownFault, readOr}
 use Rattle.layout.specs.Knowledge.{Rules, Knowledge, encode}
-use Rattle.layout.specs.Parse.{Parsed, accepted, refused, parse}
+use Rattle.layout.specs.Parse.{parse}
 use Rattle.ticks.specs.Meaning.{known, contains, emptyKnowledge}
 use Rattle.ticks.specs.Operations.{normalise, merge, project, covers, tooManyReplicas, tooManyRanges}
 use Rattle.ticks.specs.declared.Contain.{Contain}
@@ -50,17 +53,8 @@ unfoldable pub idOf : ℕ → List ℕ → ℕ
 idOf n s = beAt s n 0
 
 -- the knowledge that a reading gives; where it refuses, the value is of no account
-unfoldable pub readAs : Parsed → Knowledge
-readAs (accepted k) = k
-readAs (refused n) = emptyKnowledge
-
-abbrev pub line : ℕ → Bool → Line
-line n b = record { number = n; holds = b }
-
--- the knowledge's own fault
-unfoldable pub ownFault : Parsed → Line
-ownFault (accepted k) = line 0 false
-ownFault (refused n) = line n true
+abbrev pub readAs : Parsed Knowledge → Knowledge
+readAs p = readOr emptyKnowledge p
 
 -- 17: an item id, replica id or tag not 24, 16 or 16 bytes long, or first above last
 unfoldable pub wrongLength : ℕ → List ℕ → Bool
@@ -90,7 +84,7 @@ unfoldable pub containAnswer : Rules → List ℕ → List ℕ → List ℕ → 
 containAnswer R s item replica t =
     let p = parse R s in
     refusedOr C.Refused (containFound (contains (readAs p) (idOf 24 item) (idOf 16 replica) t))
-    (firstFault (ownFault p ∷ line 17 (wrongPlace item replica) ∷ []) (gives []))
+    (firstFault refuses (ownFault p ∷ line 17 (wrongPlace item replica) ∷ []) (gives []))
 
 -- "Lead: for an item and a replica, the first's tick minus the second's, a signed number, 0 for absent."
 unfoldable pub leadOf : Knowledge → Knowledge → ℕ → ℕ → ℤ
@@ -101,7 +95,7 @@ leadAnswer R s t item replica =
     let p = parse R s in
     let q = parse R t in
     refusedOr D.Refused (D.Ahead (leadOf (readAs p) (readAs q) (idOf 24 item) (idOf 16 replica)))
-    (firstFault (ownFault p ∷ ownFault q ∷ line 17 (wrongPlace item replica) ∷ []) (gives []))
+    (firstFault refuses (ownFault p ∷ ownFault q ∷ line 17 (wrongPlace item replica) ∷ []) (gives []))
 
 -- Cover: does the first knowledge know at least as much as the second throughout the span
 unfoldable pub coverAnswer : Rules → List ℕ → List ℕ → List ℕ → List ℕ → Cover
@@ -109,7 +103,7 @@ coverAnswer R s t first last =
     let p = parse R s in
     let q = parse R t in
     refusedOr E.Refused (coverFound (covers (readAs p) (readAs q) (idOf 24 first) (idOf 24 last)))
-    (firstFault (ownFault p ∷ ownFault q ∷ line 17 (wrongSpan first last) ∷ []) (gives []))
+    (firstFault refuses (ownFault p ∷ ownFault q ∷ line 17 (wrongSpan first last) ∷ []) (gives []))
 
 -- the lines of a result: 11 over the most replicas, 12 over the most ranges
 unfoldable pub resultLines : Rules → Knowledge → List Line
@@ -119,17 +113,17 @@ unfoldable pub normaliseReply : Rules → List ℕ → Reply
 normaliseReply R s =
     let p = parse R s in
     let k = normalise (readAs p) in
-    firstFault (ownFault p ∷ resultLines R k) (gives (encode k))
+    firstFault refuses (ownFault p ∷ resultLines R k) (gives (encode k))
 
 unfoldable pub mergeReply : Rules → List ℕ → List ℕ → Reply
 mergeReply R s t =
     let p = parse R s in
     let q = parse R t in
     let k = merge (readAs p) (readAs q) in
-    firstFault (ownFault p ∷ ownFault q ∷ resultLines R k) (gives (encode k))
+    firstFault refuses (ownFault p ∷ ownFault q ∷ resultLines R k) (gives (encode k))
 
 unfoldable pub projectReply : Rules → List ℕ → List ℕ → List ℕ → Reply
 projectReply R s first last =
     let p = parse R s in
     let k = project (idOf 24 first) (idOf 24 last) (readAs p) in
-    firstFault (ownFault p ∷ line 17 (wrongSpan first last) ∷ resultLines R k) (gives (encode k))
+    firstFault refuses (ownFault p ∷ line 17 (wrongSpan first last) ∷ resultLines R k) (gives (encode k))
