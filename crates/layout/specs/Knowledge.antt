@@ -15,9 +15,12 @@ pub record Rules : Type 0 where
   pub limits : Limits
   pub judge : ℕ → ℕ
 
+abbrev pub anyId : Limits → Rules  -- limits alone: every replica id is acceptable
+anyId L = record { limits = L; judge = λ id. 0 }
+
 -- "Limits: r 0 to 16, v 1 to 65, g 1 to 64" (a vector for each range, and vector 0), records "at most 256"
 abbrev pub basic : Rules
-basic = record { limits = record { replicas = 16; ranges = 64; records = 256 }; judge = λ id. 0 }
+basic = anyId (record { replicas = 16; ranges = 64; records = 256 })
 
 abbrev pub largestTick : ℕ  -- 2^63 − 1
 largestTick = 9223372036854775807

@@ -13,7 +13,7 @@ use native.Mathlib.Omega.{arith}
 use lib.Dec.{leb}
 use lib.ListN.{length}
 use borrow.Author.Tests.{leb-true, leb-false, not-false}
-use Rattle.layout.specs.Knowledge.{Rules, Knowledge}
+use Rattle.layout.specs.Knowledge.{Limits, anyId, Knowledge}
 use Rattle.layout.specs.Permitted.{Permitted}
 use Rattle.ticks.specs.Meaning.{highest, known, contains}
 use Rattle.ticks.specs.Operations.{merge, covers}
@@ -62,7 +62,7 @@ greater-joined (some x) (some y) = refl
 
 -- ---- the store after an apply
 
-module _ (R : Rules) (s t bs : List ℕ) (vs : List Rec) (k : Ticks) (p : ℕ) (b : Remembered) (f : StoreFollows R s vs k p) (g : BatchFollows R t vs b) (apart : Apart vs) (covered : covers (f .st .knowledge) (g .b .needed) (g .b .first) (g .b .last) ≡ true) where
+module _ (L : Limits) (s t bs : List ℕ) (vs : List Rec) (k : Ticks) (p : ℕ) (b : Remembered) (f : StoreFollows L s vs k p) (g : BatchFollows L t vs b) (apart : Apart vs) (covered : covers (f .st .knowledge) (g .b .needed) (g .b .first) (g .b .last) ≡ true) where
   new-ticks : (i q : ℕ) → i ≤ highest → known (merge (f .st .knowledge) (g .b .learned)) i q ≡ learns b k i q
   new-ticks i q h =
       known-merge (f .st .knowledge) (g .b .learned) i q h
@@ -147,14 +147,14 @@ module _ (R : Rules) (s t bs : List ℕ) (vs : List Rec) (k : Ticks) (p : ℕ) (
         | above a ↦ still i (λ u v. omega arith) (λ q. learns-above b k i q (omega (arith, g .last, a)))
       ]))
 
-  pub applied-follows : Room R (applied (f .st) (g .b)) → bs ≡ encodeStore (applied (f .st) (g .b)) → StoreFollows R bs vs (learns b k) p
+  pub applied-follows : Room L (applied (f .st) (g .b)) → bs ≡ encodeStore (applied (f .st) (g .b)) → StoreFollows L bs vs (learns b k) p
   unfolding applied
   applied-follows room bytes =
       record {
         st = applied (f .st) (g .b);
         bytes = bytes;
         own = f .own;
-        form = merge-form R (f .st .knowledge) (g .b .learned) (f .form) (g .learned) (room .knowledge);
+        form = merge-form L (f .st .knowledge) (g .b .learned) (f .form) (g .learned) (room .knowledge);
         count = room .records;
         ticks = new-ticks;
         rising = join-rising 0 (f .st .records) (g .b .records) (f .rising) (g .rising);
@@ -163,8 +163,8 @@ module _ (R : Rules) (s t bs : List ℕ) (vs : List Rec) (k : Ticks) (p : ℕ) (
 
 -- ---- the whole step
 
-module _ (R : Rules) (w : World) (m : State) (f : Follows R w m) (who : ℕ) (small : who < 256 ^ 16) (t bs : List ℕ) (b : Remembered) (g : BatchFollows R t (m .versions) b) where
-  pub apply-follows : Good (applies who (some b) m) → ApplyMet R (f .stores who small .st) (g .b) bs → Follows R (stored who bs w) (applies who (some b) m)
+module _ (L : Limits) (w : World) (m : State) (f : Follows L w m) (who : ℕ) (small : who < 256 ^ 16) (t bs : List ℕ) (b : Remembered) (g : BatchFollows L t (m .versions) b) where
+  pub apply-follows : Good (applies who (some b) m) → ApplyMet L (f .stores who small .st) (g .b) bs → Follows L (stored who bs w) (applies who (some b) m)
   unfolding stored applies
   apply-follows good h =
       record {
@@ -177,17 +177,17 @@ module _ (R : Rules) (w : World) (m : State) (f : Follows R w m) (who : ℕ) (sm
       after : ℕ → Ticks
       after q = withTicks who (learns b (m .ticks who)) (m .ticks) q
 
-      taker : (q : ℕ) → q ≡ who → StoreFollows R (putAt who bs (w .stores) q) (m .versions) (after q) q
+      taker : (q : ℕ) → q ≡ who → StoreFollows L (putAt who bs (w .stores) q) (m .versions) (after q) q
       taker q e =
-          subst (λ (x : ℕ). StoreFollows R (putAt who bs (w .stores) x) (m .versions) (after x) x) (sym e)
-          (subst (λ (s : List ℕ). StoreFollows R s (m .versions) (after who) who) (sym (put-same who who bs (w .stores) refl))
-          (store-moved R bs (m .versions) (learns b (m .ticks who)) (after who) who
+          subst (λ (x : ℕ). StoreFollows L (putAt who bs (w .stores) x) (m .versions) (after x) x) (sym e)
+          (subst (λ (s : List ℕ). StoreFollows L s (m .versions) (after who) who) (sym (put-same who who bs (w .stores) refl))
+          (store-moved L bs (m .versions) (learns b (m .ticks who)) (after who) who
           (λ i p. ap (λ (k : Ticks). k i p) (sym (with-same who who (learns b (m .ticks who)) (m .ticks) refl)))
-          (applied-follows R (w .stores who) t bs (m .versions) (m .ticks who) who b (f .stores who small) g (f .good .apart) (h .covered) (h .room) (h .bytes))))
+          (applied-follows L (w .stores who) t bs (m .versions) (m .ticks who) who b (f .stores who small) g (f .good .apart) (h .covered) (h .room) (h .bytes))))
 
-      other : (q : ℕ) → q < 256 ^ 16 → (q ≡ who → ⊥) → StoreFollows R (putAt who bs (w .stores) q) (m .versions) (after q) q
+      other : (q : ℕ) → q < 256 ^ 16 → (q ≡ who → ⊥) → StoreFollows L (putAt who bs (w .stores) q) (m .versions) (after q) q
       other q l n =
-          subst (λ (s : List ℕ). StoreFollows R s (m .versions) (after q) q) (sym (put-other who q bs (w .stores) n))
-          (store-moved R (w .stores q) (m .versions) (m .ticks q) (after q) q
+          subst (λ (s : List ℕ). StoreFollows L s (m .versions) (after q) q) (sym (put-other who q bs (w .stores) n))
+          (store-moved L (w .stores q) (m .versions) (m .ticks q) (after q) q
           (λ i p. ap (λ (k : Ticks). k i p) (sym (with-other who q (learns b (m .ticks who)) (m .ticks) (λ e. n (sym e)))))
           (f .stores q l))

@@ -12,7 +12,7 @@ use native.Mathlib.Omega.{arith}
 use lib.Dec.{eqb, ltb}
 use lib.ListN.{length}
 use borrow.Author.Tests.{eq-eqb, ne-eqb, eqb-true, eqb-false, ltb-true, ltb-false}
-use Rattle.layout.specs.Knowledge.{Rules, largestTick, Knowledge, Rising}
+use Rattle.layout.specs.Knowledge.{Limits, anyId, largestTick, Knowledge, Rising}
 use Rattle.layout.specs.Permitted.{Permitted}
 use Rattle.ticks.specs.Meaning.{highest, known}
 use Rattle.ticks.specs.Operations.{raise, largest}
@@ -77,8 +77,8 @@ record-proper kind item who t tag (some r) k i g b l =
 
 -- ---- ticks that stay while a version is made that they do not contain
 
-pub store-later : (R : Rules) (s : List ℕ) (vs : List Rec) (k : Ticks) (p : ℕ) (v : Rec) → holds k v ≡ false → StoreFollows R s vs k p → StoreFollows R s (vs ++ (v ∷ [])) k p
-store-later R s vs k p v h f =
+pub store-later : (L : Limits) (s : List ℕ) (vs : List Rec) (k : Ticks) (p : ℕ) (v : Rec) → holds k v ≡ false → StoreFollows L s vs k p → StoreFollows L s (vs ++ (v ∷ [])) k p
+store-later L s vs k p v h f =
     record {
       st = f .st;
       bytes = f .bytes;
@@ -91,8 +91,8 @@ store-later R s vs k p v h f =
     }
 
 -- ticks written otherwise
-pub store-moved : (R : Rules) (s : List ℕ) (vs : List Rec) (k l : Ticks) (p : ℕ) → ((i q : ℕ) → k i q ≡ l i q) → StoreFollows R s vs k p → StoreFollows R s vs l p
-store-moved R s vs k l p e f =
+pub store-moved : (L : Limits) (s : List ℕ) (vs : List Rec) (k l : Ticks) (p : ℕ) → ((i q : ℕ) → k i q ≡ l i q) → StoreFollows L s vs k p → StoreFollows L s vs l p
+store-moved L s vs k l p e f =
     record {
       st = f .st;
       bytes = f .bytes;
@@ -104,8 +104,8 @@ store-moved R s vs k l p e f =
       records = λ i. f .records i ∙ greatest-equal vs k l i (λ q. e i q);
     }
 
-batch-later : (R : Rules) (s : List ℕ) (vs : List Rec) (m : Remembered) (v : Rec) → holds (m .ticks) v ≡ false → BatchFollows R s vs m → BatchFollows R s (vs ++ (v ∷ [])) m
-batch-later R s vs m v h f =
+batch-later : (L : Limits) (s : List ℕ) (vs : List Rec) (m : Remembered) (v : Rec) → holds (m .ticks) v ≡ false → BatchFollows L s vs m → BatchFollows L s (vs ++ (v ∷ [])) m
+batch-later L s vs m v h f =
     record {
       b = f .b;
       bytes = f .bytes;
@@ -123,17 +123,17 @@ batch-later R s vs m v h f =
           λ i. f .records i ∙ ap (kept (f .b .first) (f .b .last) (f .b .needed)) (sym (greatest-added-lacks vs v (m .ticks) i h));
     }
 
-paired-later : (R : Rules) (vs : List Rec) (v : Rec) (ss : List (List ℕ)) (ms : List Remembered) → ((b : Remembered) → Mem b ms → holds (b .ticks) v ≡ false) → Paired R vs ss ms → Paired R (vs ++ (v ∷ [])) ss ms
-paired-later R vs v [] [] h p = tt
-paired-later R vs v [] (m ∷ ms) h p = absurd p
-paired-later R vs v (s ∷ ss) [] h p = absurd p
-paired-later R vs v (s ∷ ss) (m ∷ ms) h p =
-    (batch-later R s vs m v (h m (inl refl)) (p .0), paired-later R vs v ss ms (λ b l. h b (inr l)) (p .1))
+paired-later : (L : Limits) (vs : List Rec) (v : Rec) (ss : List (List ℕ)) (ms : List Remembered) → ((b : Remembered) → Mem b ms → holds (b .ticks) v ≡ false) → Paired L vs ss ms → Paired L (vs ++ (v ∷ [])) ss ms
+paired-later L vs v [] [] h p = tt
+paired-later L vs v [] (m ∷ ms) h p = absurd p
+paired-later L vs v (s ∷ ss) [] h p = absurd p
+paired-later L vs v (s ∷ ss) (m ∷ ms) h p =
+    (batch-later L s vs m v (h m (inl refl)) (p .0), paired-later L vs v ss ms (λ b l. h b (inr l)) (p .1))
 
 -- ---- the largest tick
 
-pub largest-same : (R : Rules) (kn : Knowledge) (k : Ticks) → Form R kn → ((i q : ℕ) → i ≤ highest → known kn i q ≡ k i q) → ((i q : ℕ) → 256 ^ 16 ≤ q → k i q ≡ 0) → largestKnown k ≡ largest kn
-largest-same R kn k f same zero-out =
+pub largest-same : (L : Limits) (kn : Knowledge) (k : Ticks) → Form L kn → ((i q : ℕ) → i ≤ highest → known kn i q ≡ k i q) → ((i q : ℕ) → 256 ^ 16 ≤ q → k i q ≡ 0) → largestKnown k ≡ largest kn
+largest-same L kn k f same zero-out =
     largest-known-is k (largest kn)
     (λ i p a b. rw (← same i p (below-top i a)) (largest-bounds kn i p))
     (⊎-elim (λ e. inl e) (λ z. near (z .0) (z .1 .0) (z .1 .1 .0) (z .1 .1 .1)) (largest-attained kn (normal-sound kn (f .normal))))
@@ -184,7 +184,7 @@ module _ (vs : List Rec) (k : Ticks) (who t : ℕ) (h : Before vs k who t) where
 
 -- ---- the maker's store
 
-module _ (R : Rules) (accepts : (id : ℕ) → R .judge id ≡ 0) (s bs : List ℕ) (vs : List Rec) (k : Ticks) (kind who item tag t : ℕ) (f : StoreFollows R s vs k who) (small : who < 256 ^ 16) (h : Before vs k who t) (next : nextTick (f .st) ≡ t) (top : t ≤ largestTick) (one : 1 ≤ t) where
+module _ (L : Limits) (s bs : List ℕ) (vs : List Rec) (k : Ticks) (kind who item tag t : ℕ) (f : StoreFollows L s vs k who) (small : who < 256 ^ 16) (h : Before vs k who t) (next : nextTick (f .st) ≡ t) (top : t ≤ largestTick) (one : 1 ≤ t) where
   new-version : changedRec kind item (f .st .own) (nextTick (f .st)) tag (find item (f .st .records)) ≡ recordOf kind item who t tag (greatest vs k item)
   new-version =
       ap (λ (p : ℕ). changedRec kind item p (nextTick (f .st)) tag (find item (f .st .records))) (f .own)
@@ -192,7 +192,7 @@ module _ (R : Rules) (accepts : (id : ℕ) → R .judge id ≡ 0) (s bs : List �
       ∙ ap (λ (o : Option Rec). changedRec kind item who t tag o) (f .records item)
       ∙ changed-record kind item who t tag (greatest vs k item)
 
-  pub changed-follows : Room R (changed kind item tag (f .st)) → bs ≡ encodeStore (changed kind item tag (f .st)) → StoreFollows R bs (vs ++ (recordOf kind item who t tag (greatest vs k item) ∷ [])) (ownTick who t k) who
+  pub changed-follows : Room L (changed kind item tag (f .st)) → bs ≡ encodeStore (changed kind item tag (f .st)) → StoreFollows L bs (vs ++ (recordOf kind item who t tag (greatest vs k item) ∷ [])) (ownTick who t k) who
   unfolding changed
   changed-follows room bytes =
       record {
@@ -200,8 +200,8 @@ module _ (R : Rules) (accepts : (id : ℕ) → R .judge id ≡ 0) (s bs : List �
         bytes = bytes;
         own = f .own;
         form =
-            raise-form R (f .st .own) (nextTick (f .st)) (f .st .knowledge) (f .form)
-            (record { size = rw (f .own) small; acceptable = accepts (f .st .own) }) (rw next top) (room .knowledge);
+            raise-form L (f .st .own) (nextTick (f .st)) (f .st .knowledge) (f .form)
+            (record { size = rw (f .own) small; acceptable = refl }) (rw next top) (room .knowledge);
         count = room .records;
         ticks = new-ticks;
         rising = replace-rising (changedRec kind item (f .st .own) (nextTick (f .st)) tag (find item (f .st .records))) 0 (f .st .records) (omega arith) (f .rising);
@@ -255,14 +255,14 @@ module _ (m : State) (good : Good m) (proper : (r : Rec) → Mem r (m .versions)
       let l : k (v .item) (v .changeReplica) ≤ m .ticks who 0 who = subst (λ p. k (v .item) (v .changeReplica) ≤ m .ticks p 0 p) a (h (v .item) (v .changeReplica) 0) in
       omega (arith, c .1, b, l, own-below 0))
 
-module _ (R : Rules) (accepts : (id : ℕ) → R .judge id ≡ 0) (w : World) (m : State) (f : Follows R w m) (kind who item tag : ℕ) (small : who < 256 ^ 16) where
+module _ (L : Limits) (w : World) (m : State) (f : Follows L w m) (kind who item tag : ℕ) (small : who < 256 ^ 16) where
   next-tick : nextTick (f .stores who small .st) ≡ 1 + largestKnown (m .ticks who)
   unfolding nextTick
   next-tick =
       let s = f .stores who small in
-      ap (λ (n : ℕ). 1 + n) (sym (largest-same R (s .st .knowledge) (m .ticks who) (s .form) (s .ticks) (λ i q h. f .good .strangers who i q h)))
+      ap (λ (n : ℕ). 1 + n) (sym (largest-same L (s .st .knowledge) (m .ticks who) (s .form) (s .ticks) (λ i q h. f .good .strangers who i q h)))
 
-  pub change-follows : (bs : List ℕ) → Good (changes kind who item tag m) → (kind ≡ 1) ⊎ (kind ≡ 2) → item ≤ highest → tag < 256 ^ 16 → (kind ≡ 2 → tag ≡ 0) → largest (f .stores who small .st .knowledge) < largestTick → Room R (changed kind item tag (f .stores who small .st)) → bs ≡ encodeStore (changed kind item tag (f .stores who small .st)) → Follows R (stored who bs w) (changes kind who item tag m)
+  pub change-follows : (bs : List ℕ) → Good (changes kind who item tag m) → (kind ≡ 1) ⊎ (kind ≡ 2) → item ≤ highest → tag < 256 ^ 16 → (kind ≡ 2 → tag ≡ 0) → largest (f .stores who small .st .knowledge) < largestTick → Room L (changed kind item tag (f .stores who small .st)) → bs ≡ encodeStore (changed kind item tag (f .stores who small .st)) → Follows L (stored who bs w) (changes kind who item tag m)
   unfolding stored changes
   change-follows bs good kinds top16 tag16 bare below room bytes =
       record {
@@ -270,7 +270,7 @@ module _ (R : Rules) (accepts : (id : ℕ) → R .judge id ≡ 0) (w : World) (m
         proper = λ r l. ⊎-elim (λ (o : Mem r (m .versions)). f .proper r o) (λ (e : r ≡ new). rw e new-proper) (mem-added r new (m .versions) l);
         stores = λ q l. ⊎-elim (λ (e : q ≡ who). maker q e) (λ (n : q ≡ who → ⊥). other q l n) (same? q who);
         batches =
-            paired-later R (m .versions) new (w .batches) (m .batches)
+            paired-later L (m .versions) new (w .batches) (m .batches)
             (λ b l. new-lacked m (f .good) (f .proper) who small new (b .ticks) (stamp .replica) (stamp .tick) (λ i p j. f .good .remembered b l p i j))
             (f .batches);
       }
@@ -278,7 +278,7 @@ module _ (R : Rules) (accepts : (id : ℕ) → R .judge id ≡ 0) (w : World) (m
       next-is : largestKnown (m .ticks who) ≡ largest (f .stores who small .st .knowledge)
       next-is =
           let s = f .stores who small in
-          largest-same R (s .st .knowledge) (m .ticks who) (s .form) (s .ticks) (λ i q h. f .good .strangers who i q h)
+          largest-same L (s .st .knowledge) (m .ticks who) (s .form) (s .ticks) (λ i q h. f .good .strangers who i q h)
 
       new : Rec
       new = recordOf kind item who (1 + largestKnown (m .ticks who)) tag (greatest (m .versions) (m .ticks who) item)
@@ -294,20 +294,20 @@ module _ (R : Rules) (accepts : (id : ℕ) → R .judge id ≡ 0) (w : World) (m
       after : ℕ → Ticks
       after q = withTicks who (ownTick who (1 + largestKnown (m .ticks who)) (m .ticks who)) (m .ticks) q
 
-      maker : (q : ℕ) → q ≡ who → StoreFollows R (putAt who bs (w .stores) q) (m .versions ++ (new ∷ [])) (after q) q
+      maker : (q : ℕ) → q ≡ who → StoreFollows L (putAt who bs (w .stores) q) (m .versions ++ (new ∷ [])) (after q) q
       maker q e =
-          subst (λ (x : ℕ). StoreFollows R (putAt who bs (w .stores) x) (m .versions ++ (new ∷ [])) (after x) x) (sym e)
-          (subst (λ (s : List ℕ). StoreFollows R s (m .versions ++ (new ∷ [])) (after who) who) (sym (put-same who who bs (w .stores) refl))
-          (store-moved R bs (m .versions ++ (new ∷ [])) (ownTick who (1 + largestKnown (m .ticks who)) (m .ticks who)) (after who) who
+          subst (λ (x : ℕ). StoreFollows L (putAt who bs (w .stores) x) (m .versions ++ (new ∷ [])) (after x) x) (sym e)
+          (subst (λ (s : List ℕ). StoreFollows L s (m .versions ++ (new ∷ [])) (after who) who) (sym (put-same who who bs (w .stores) refl))
+          (store-moved L bs (m .versions ++ (new ∷ [])) (ownTick who (1 + largestKnown (m .ticks who)) (m .ticks who)) (after who) who
           (λ i p. ap (λ (k : Ticks). k i p) (sym (with-same who who (ownTick who (1 + largestKnown (m .ticks who)) (m .ticks who)) (m .ticks) refl)))
-          (changed-follows R accepts (w .stores who) bs (m .versions) (m .ticks who) kind who item tag (1 + largestKnown (m .ticks who)) (f .stores who small) small
+          (changed-follows L (w .stores who) bs (m .versions) (m .ticks who) kind who item tag (1 + largestKnown (m .ticks who)) (f .stores who small) small
           (before m (f .good) (f .proper) who small) next-tick (omega (arith, next-is, below)) (omega arith) room bytes)))
 
-      other : (q : ℕ) → q < 256 ^ 16 → (q ≡ who → ⊥) → StoreFollows R (putAt who bs (w .stores) q) (m .versions ++ (new ∷ [])) (after q) q
+      other : (q : ℕ) → q < 256 ^ 16 → (q ≡ who → ⊥) → StoreFollows L (putAt who bs (w .stores) q) (m .versions ++ (new ∷ [])) (after q) q
       other q l n =
-          subst (λ (s : List ℕ). StoreFollows R s (m .versions ++ (new ∷ [])) (after q) q) (sym (put-other who q bs (w .stores) n))
-          (store-moved R (w .stores q) (m .versions ++ (new ∷ [])) (m .ticks q) (after q) q
+          subst (λ (s : List ℕ). StoreFollows L s (m .versions ++ (new ∷ [])) (after q) q) (sym (put-other who q bs (w .stores) n))
+          (store-moved L (w .stores q) (m .versions ++ (new ∷ [])) (m .ticks q) (after q) q
           (λ i p. ap (λ (k : Ticks). k i p) (sym (with-other who q (ownTick who (1 + largestKnown (m .ticks who)) (m .ticks who)) (m .ticks) (λ e. n (sym e)))))
-          (store-later R (w .stores q) (m .versions) (m .ticks q) q new
+          (store-later L (w .stores q) (m .versions) (m .ticks q) q new
           (new-lacked m (f .good) (f .proper) who small new (m .ticks q) (stamp .replica) (stamp .tick) (λ i p j. f .good .replicas q p i j))
           (f .stores q l)))

@@ -11,7 +11,7 @@ use mathlib.Core.List.{List, [], _∷_}
 use mathlib.Core.Option.{Option, none, some}
 use native.Mathlib.Omega.{arith}
 use lib.ListN.{length}
-use Rattle.layout.specs.Knowledge.{Rules, largestTick, Knowledge, All, Rising}
+use Rattle.layout.specs.Knowledge.{Limits, anyId, largestTick, Knowledge, All, Rising}
 use Rattle.layout.specs.Permitted.{Permitted}
 use Rattle.ticks.specs.Meaning.{highest, known, contains}
 use Rattle.ticks.proofs.Unique.{normal-sound}
@@ -32,6 +32,7 @@ use Rattle.replication.proofs.StoreBytes.{FitsStore, store-open, ValidS
 use Rattle.replication.proofs.BatchBytes.{FitsBatch, batch-open, ValidBatch, valid-batch}
 use Rattle.replication.proofs.AgreeForm.{Form, form-normal, form-projected}
 use Rattle.replication.proofs.MachineLaws.{Made, Good}
+use Rattle.codec.specs.Parsed.{accepted}
 
 -- ---- versions
 
@@ -72,21 +73,21 @@ versions-in kn k r same c s =
 
 -- ---- stores
 
-pub record StoreFollows (R : Rules) (s : List ℕ) (vs : List Rec) (k : Ticks) (p : ℕ) : Type 0 where
+pub record StoreFollows (L : Limits) (s : List ℕ) (vs : List Rec) (k : Ticks) (p : ℕ) : Type 0 where
   pub st : Store
   pub bytes : s ≡ encodeStore st
   pub own : st .own ≡ p
-  pub form : Form R (st .knowledge)
-  pub count : length (st .records) ≤ R .limits .records
+  pub form : Form L (st .knowledge)
+  pub count : length (st .records) ≤ L .records
   pub ticks : (i q : ℕ) → i ≤ highest → known (st .knowledge) i q ≡ k i q
   pub rising : Rising 0 (items (st .records))
   pub records : (i : ℕ) → find i (st .records) ≡ greatest vs k i
 
-module _ (R : Rules) (permitted : Permitted (R .limits)) (s : List ℕ) (vs : List Rec) (k : Ticks) (p : ℕ) (f : StoreFollows R s vs k p) (small : p < 256 ^ 16) (g : Grounds vs k) (alike : (i j : ℕ) → k i p ≡ k j p) where
+module _ (L : Limits) (permitted : Permitted L) (s : List ℕ) (vs : List Rec) (k : Ticks) (p : ℕ) (f : StoreFollows L s vs k p) (small : p < 256 ^ 16) (g : Grounds vs k) (alike : (i j : ℕ) → k i p ≡ k j p) where
   store-sure : (i : ℕ) (r : Rec) → find i (f .st .records) ≡ some r → Contained k r × Sure k r
   store-sure i r e = greatest-sure vs k i r g (sym (f .records i) ∙ e) .1
 
-  store-fits : FitsStore R (f .st)
+  store-fits : FitsStore L (f .st)
   store-fits =
       record {
         own = rw (f .own) small;
@@ -95,11 +96,11 @@ module _ (R : Rules) (permitted : Permitted (R .limits)) (s : List ℕ) (vs : Li
         records = all-find FitsRec 0 (f .st .records) (f .rising) (λ i r e. store-sure i r e .1 .fits);
       }
 
-  store-valid : ValidStore (R .limits) (f .st)
+  store-valid : ValidStore L (f .st)
   store-valid =
       record {
         count = f .count;
-        normal = form-normal R (f .st .knowledge) (f .form);
+        normal = form-normal L (f .st .knowledge) (f .form);
         alike =
             alike-exact (f .st .knowledge) (f .st .own) (normal-sound (f .st .knowledge) (f .form .normal)) .1
             (record { known = λ i j a b. f .ticks i (f .st .own) a ∙ (rw (f .own) (alike i j) ∙ sym (f .ticks j (f .st .own) b)) });
@@ -113,9 +114,9 @@ module _ (R : Rules) (permitted : Permitted (R .limits)) (s : List ℕ) (vs : Li
             );
       }
 
-  pub store-opens : openStore R s ≡ some (f .st)
+  pub store-opens : openStore L s ≡ accepted (f .st)
   store-opens =
-      ap (openStore R) (f .bytes) ∙ store-open R (f .st) permitted store-fits (valid-store (R .limits) (f .st) .1 store-valid)
+      ap (openStore L) (f .bytes) ∙ store-open L (f .st) permitted store-fits (valid-store L (f .st) .1 store-valid)
 
   pub store-bounded : (i : ℕ) → highest < i → find i (f .st .records) ≡ none
   store-bounded i h = go (find i (f .st .records)) refl
@@ -128,18 +129,18 @@ module _ (R : Rules) (permitted : Permitted (R .limits)) (s : List ℕ) (vs : Li
 
 -- ---- batches
 
-pub record BatchFollows (R : Rules) (s : List ℕ) (vs : List Rec) (m : Remembered) : Type 0 where
+pub record BatchFollows (L : Limits) (s : List ℕ) (vs : List Rec) (m : Remembered) : Type 0 where
   pub b : Batch
   pub bytes : s ≡ encodeBatch b
   pub first : b .first ≡ m .first
   pub last : b .last ≡ m .last
   pub span : b .first ≤ b .last
   pub top : b .last ≤ highest
-  pub needed : Form R (b .needed)
-  pub learned : Form R (b .learned)
+  pub needed : Form L (b .needed)
+  pub learned : Form L (b .learned)
   pub inside : (i q : ℕ) → b .first ≤ i → i ≤ b .last → known (b .learned) i q ≡ m .ticks i q
   pub outside : (i q : ℕ) → i ≤ highest → (i < b .first) ⊎ (b .last < i) → known (b .learned) i q ≡ 0
-  pub count : length (b .records) ≤ R .limits .records
+  pub count : length (b .records) ≤ L .records
   pub rising : Rising 0 (items (b .records))
   pub records : (i : ℕ) → find i (b .records) ≡ kept (b .first) (b .last) (b .needed) (greatest vs (m .ticks) i)
 
@@ -161,7 +162,7 @@ kept-some f l n (some x) r e = go (both (inSpan f l (x .item)) (lacksChange n x)
         let z : _≡_ {A = ℕ} 0 1 = cc in
         absurd (omega arith)
 
-module _ (R : Rules) (permitted : Permitted (R .limits)) (s : List ℕ) (vs : List Rec) (m : Remembered) (f : BatchFollows R s vs m) (g : Grounds vs (m .ticks)) where
+module _ (L : Limits) (permitted : Permitted L) (s : List ℕ) (vs : List Rec) (m : Remembered) (f : BatchFollows L s vs m) (g : Grounds vs (m .ticks)) where
   -- of a record in the table: it is contained, sure, in the span, and needed lacks it
   batch-sure : (i : ℕ) (r : Rec) → find i (f .b .records) ≡ some r → Contained (m .ticks) r × (Sure (m .ticks) r × ((inSpan (f .b .first) (f .b .last) (r .item) ≡ true) × (lacksChange (f .b .needed) r ≡ true)))
   batch-sure i r e =
@@ -169,7 +170,7 @@ module _ (R : Rules) (permitted : Permitted (R .limits)) (s : List ℕ) (vs : Li
       let q = greatest-sure vs (m .ticks) i r g (h .0) in
       (q .1 .0, (q .1 .1, h .1))
 
-  batch-fits : FitsBatch R (f .b)
+  batch-fits : FitsBatch L (f .b)
   batch-fits =
       record {
         first = top-below (f .b .first) (omega (arith, f .span, f .top));
@@ -190,14 +191,14 @@ module _ (R : Rules) (permitted : Permitted (R .limits)) (s : List ℕ) (vs : Li
       (versions-in (f .b .learned) (m .ticks) r (λ p. f .inside (r .item) p (sp .0) (sp .1)) (q .0) (q .1 .0))
       (q .1 .1 .1))
 
-  batch-valid : ValidBatch (R .limits) (f .b)
+  batch-valid : ValidBatch L (f .b)
   batch-valid =
       record {
         count = f .count;
         span = f .span;
-        needed = form-normal R (f .b .needed) (f .needed);
-        learned = form-normal R (f .b .learned) (f .learned);
-        projected = form-projected R (f .b .first) (f .b .last) (f .b .learned) (f .learned) (f .outside);
+        needed = form-normal L (f .b .needed) (f .needed);
+        learned = form-normal L (f .b .learned) (f .learned);
+        projected = form-projected L (f .b .first) (f .b .last) (f .b .learned) (f .learned) (f .outside);
         records =
             valid-recs (carried (f .b)) 0 (f .b .records) .1 (
               f .rising,
@@ -206,9 +207,9 @@ module _ (R : Rules) (permitted : Permitted (R .limits)) (s : List ℕ) (vs : Li
             );
       }
 
-  pub batch-opens : openBatch R s ≡ some (f .b)
+  pub batch-opens : openBatch L s ≡ accepted (f .b)
   batch-opens =
-      ap (openBatch R) (f .bytes) ∙ batch-open R (f .b) permitted batch-fits (valid-batch (R .limits) (f .b) .1 batch-valid)
+      ap (openBatch L) (f .bytes) ∙ batch-open L (f .b) permitted batch-fits (valid-batch L (f .b) .1 batch-valid)
 
 -- ---- world and machine
 
@@ -216,17 +217,17 @@ module _ (R : Rules) (permitted : Permitted (R .limits)) (s : List ℕ) (vs : Li
 unfoldable pub stored : ℕ → List ℕ → World → World
 stored who bs w = record { stores = putAt who bs (w .stores); batches = w .batches }
 
-abbrev pub Paired : Rules → List Rec → List (List ℕ) → List Remembered → Type 0
-Paired R vs [] [] = Unit {0}
-Paired R vs [] (m ∷ ms) = ⊥
-Paired R vs (s ∷ ss) [] = ⊥
-Paired R vs (s ∷ ss) (m ∷ ms) = BatchFollows R s vs m × Paired R vs ss ms
+abbrev pub Paired : Limits → List Rec → List (List ℕ) → List Remembered → Type 0
+Paired L vs [] [] = Unit {0}
+Paired L vs [] (m ∷ ms) = ⊥
+Paired L vs (s ∷ ss) [] = ⊥
+Paired L vs (s ∷ ss) (m ∷ ms) = BatchFollows L s vs m × Paired L vs ss ms
 
-pub record Follows (R : Rules) (w : World) (m : State) : Type 0 where
+pub record Follows (L : Limits) (w : World) (m : State) : Type 0 where
   pub good : Good m
   pub proper : (r : Rec) → Mem r (m .versions) → Proper r
-  pub stores : (p : ℕ) → p < 256 ^ 16 → StoreFollows R (w .stores p) (m .versions) (m .ticks p) p
-  pub batches : Paired R (m .versions) (w .batches) (m .batches)
+  pub stores : (p : ℕ) → p < 256 ^ 16 → StoreFollows L (w .stores p) (m .versions) (m .ticks p) p
+  pub batches : Paired L (m .versions) (w .batches) (m .batches)
 
 sure-of : (m : State) (k : Ticks) (r : Rec) → Proper r → Made m r → r .createTick ≤ k (r .item) (r .createReplica) → Sure k r
 sure-of m k r p d h =
@@ -262,9 +263,9 @@ module _ (m : State) (good : Good m) (proper : (r : Rec) → Mem r (m .versions)
   pub own-alike : (p i j : ℕ) → m .ticks p i p ≡ m .ticks p j p
   own-alike p i j = omega (arith, good .replicas p p i j, good .replicas p p j i)
 
-module _ (R : Rules) (permitted : Permitted (R .limits)) (w : World) (m : State) (f : Follows R w m) where
-  pub opens : (p : ℕ) (small : p < 256 ^ 16) → openStore R (w .stores p) ≡ some (f .stores p small .st)
+module _ (L : Limits) (permitted : Permitted L) (w : World) (m : State) (f : Follows L w m) where
+  pub opens : (p : ℕ) (small : p < 256 ^ 16) → openStore L (w .stores p) ≡ accepted (f .stores p small .st)
   opens p small =
-      store-opens R permitted (w .stores p) (m .versions) (m .ticks p) p (f .stores p small) small
+      store-opens L permitted (w .stores p) (m .versions) (m .ticks p) p (f .stores p small) small
       (grounds-store m (f .good) (f .proper) p)
       (own-alike m (f .good) (f .proper) p)

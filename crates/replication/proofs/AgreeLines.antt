@@ -12,11 +12,11 @@ use lib.ListN.{length}
 use borrow.Author.Tests.{leb-true, leb-false, ltb-true, ltb-false, eqb-true, not-false}
 use Rattle.codec.specs.Reply.{Reply, gives, refuses, Line, firstFault}
 use Rattle.codec.proofs.Replies.{None, fault-gives}
-use Rattle.layout.specs.Knowledge.{Limits, Rules, largestTick, Knowledge}
+use Rattle.layout.specs.Knowledge.{Limits, Rules, largestTick, Knowledge, anyId}
 use Rattle.layout.specs.Parse.{Parsed, accepted, refused, parse}
 use Rattle.ticks.specs.Meaning.{emptyKnowledge, highest}
 use Rattle.ticks.specs.Operations.{covers, coversFor, largest, tooManyReplicas, tooManyRanges}
-use Rattle.ticks.specs.Calls.{line, idOf, readAs, ownFault, wrongLength, wrongSpan, resultLines}
+use Rattle.ticks.specs.Calls.{line, idOf, readAs, ownFault, wrongLength, wrongSpan, resultLines, readOr}
 use Rattle.ticks.proofs.ForCalls.{or-false, length-right, span-right, Within, within-lines}
 use Rattle.codec.proofs.Replies.{read-accepted, fault-refused}
 use Rattle.replication.specs.Formats.{Rec, Store, encodeStore, Batch, encodeBatch, find}
@@ -24,7 +24,7 @@ use Rattle.replication.specs.Reading.{live, tombstone}
 use Rattle.replication.specs.Operate.{changed, made, applied}
 use Rattle.replication.specs.OpenStore.{openStore}
 use Rattle.replication.specs.OpenBatch.{openBatch}
-use Rattle.replication.specs.Calls.{then, noStore, storeOr, noBatch, batchOr, uncovered, ownAhead, gone, exhausted, tooManyRecords, storeLines, editLines, edited, editReply, deleteLines, deleted, deleteReply, makeLines, makes, makeReply, applyLines, applyReply}
+use Rattle.replication.specs.Calls.{then, storeOr, batchOr, uncovered, ownAhead, gone, exhausted, tooManyRecords, storeLines, editLines, edited, editReply, deleteLines, deleted, deleteReply, makeLines, makes, makeReply, applyLines, applyReply}
 use Rattle.replication.specs.Lists.{outcome}
 
 -- ---- the buffer
@@ -61,15 +61,15 @@ unfolding tooManyRecords
 count-right L rs h = ltb-false (L .records) (length rs) h
 
 -- a resulting store within the limits
-pub record Room (R : Rules) (st : Store) : Type 0 where
-  pub knowledge : Within R (st .knowledge)
-  pub records : length (st .records) ≤ R .limits .records
+pub record Room (L : Limits) (st : Store) : Type 0 where
+  pub knowledge : Within L (st .knowledge)
+  pub records : length (st .records) ≤ L .records
 
-room-lines : (R : Rules) (st : Store) → None (storeLines R st) → Room R st
+room-lines : (L : Limits) (st : Store) → None (storeLines L st) → Room L st
 unfolding storeLines
-room-lines R st h =
-    let p = none-then (resultLines R (st .knowledge)) (line 13 (tooManyRecords (R .limits) (st .records)) ∷ []) h in
-    record { knowledge = within-lines R (st .knowledge) (p .0); records = count-right (R .limits) (st .records) (p .1 .0) }
+room-lines L st h =
+    let p = none-then (resultLines L (st .knowledge)) (line 13 (tooManyRecords L (st .records)) ∷ []) h in
+    record { knowledge = within-lines L (st .knowledge) (p .0); records = count-right L (st .records) (p .1 .0) }
 
 exhausted-below : (st : Store) → exhausted st ≡ false → largest (st .knowledge) < largestTick
 unfolding exhausted
@@ -77,55 +77,55 @@ exhausted-below st h = leb-false largestTick (largest (st .knowledge)) h
 
 -- ---- edit
 
-pub record EditMet (R : Rules) (st : Store) (item tag bs : List ℕ) : Type 0 where
+pub record EditMet (L : Limits) (st : Store) (item tag bs : List ℕ) : Type 0 where
   pub item24 : length item ≡ 24
   pub tag16 : length tag ≡ 16
   pub below : largest (st .knowledge) < largestTick
-  pub room : Room R (changed live (idOf 24 item) (idOf 16 tag) st)
+  pub room : Room L (changed live (idOf 24 item) (idOf 16 tag) st)
   pub bytes : bs ≡ encodeStore (changed live (idOf 24 item) (idOf 16 tag) st)
 
-pub edit-reply : (R : Rules) (s item tag : List ℕ) (st : Store) → openStore R s ≡ some st → editReply R s item tag ≡ firstFault refuses (editLines R (some st) item tag (changed live (idOf 24 item) (idOf 16 tag) st)) (gives (encodeStore (changed live (idOf 24 item) (idOf 16 tag) st)))
-unfolding editReply edited storeOr
-edit-reply R s item tag st e =
-    ap (λ (o : Option Store). firstFault refuses (editLines R o item tag (edited o item tag)) (gives (encodeStore (edited o item tag)))) e
+pub edit-reply : (L : Limits) (s item tag : List ℕ) (st : Store) → openStore L s ≡ accepted st → editReply L s item tag ≡ firstFault refuses (editLines L (accepted st) item tag (changed live (idOf 24 item) (idOf 16 tag) st)) (gives (encodeStore (changed live (idOf 24 item) (idOf 16 tag) st)))
+unfolding editReply edited readOr ownFault
+edit-reply L s item tag st e =
+    ap (λ (o : Parsed Store). firstFault refuses (editLines L o item tag (edited o item tag)) (gives (encodeStore (edited o item tag)))) e
 
-edit-lines : (R : Rules) (st : Store) (item tag bs : List ℕ) (result : Store) → None (editLines R (some st) item tag result) → (length item ≡ 24) × ((length tag ≡ 16) × ((largest (st .knowledge) < largestTick) × Room R result))
-unfolding editLines storeOr
-edit-lines R st item tag bs result h =
+edit-lines : (L : Limits) (st : Store) (item tag bs : List ℕ) (result : Store) → None (editLines L (accepted st) item tag result) → (length item ≡ 24) × ((length tag ≡ 16) × ((largest (st .knowledge) < largestTick) × Room L result))
+unfolding editLines readOr ownFault
+edit-lines L st item tag bs result h =
     let w = or-false (wrongLength 24 item) (wrongLength 16 tag) (h .1 .0) in
-    (length-right 24 item (w .0), (length-right 16 tag (w .1), (exhausted-below st (h .1 .1 .0), room-lines R result (h .1 .1 .1))))
+    (length-right 24 item (w .0), (length-right 16 tag (w .1), (exhausted-below st (h .1 .1 .0), room-lines L result (h .1 .1 .1))))
 
-pub edit-met : (R : Rules) (s item tag : List ℕ) (st : Store) (room : ℕ) (bs : List ℕ) → openStore R s ≡ some st → outcome (editReply R s item tag) room ≡ some bs → EditMet R st item tag bs
-edit-met R s item tag st room bs o e =
+pub edit-met : (L : Limits) (s item tag : List ℕ) (st : Store) (room : ℕ) (bs : List ℕ) → openStore L s ≡ accepted st → outcome (editReply L s item tag) room ≡ some bs → EditMet L st item tag bs
+edit-met L s item tag st room bs o e =
     let result = changed live (idOf 24 item) (idOf 16 tag) st in
-    let m = outcome-lines (editLines R (some st) item tag result) (encodeStore result) bs room (ap (λ (r : Reply). outcome r room) (sym (edit-reply R s item tag st o)) ∙ e) in
-    let l = edit-lines R st item tag bs result (m .0) in
+    let m = outcome-lines (editLines L (accepted st) item tag result) (encodeStore result) bs room (ap (λ (r : Reply). outcome r room) (sym (edit-reply L s item tag st o)) ∙ e) in
+    let l = edit-lines L st item tag bs result (m .0) in
     record { item24 = l .0; tag16 = l .1 .0; below = l .1 .1 .0; room = l .1 .1 .1; bytes = sym (m .1) }
 
 -- ---- delete
 
-pub record DeleteMet (R : Rules) (st : Store) (item bs : List ℕ) : Type 0 where
+pub record DeleteMet (L : Limits) (st : Store) (item bs : List ℕ) : Type 0 where
   pub item24 : length item ≡ 24
   pub there : gone (find (idOf 24 item) (st .records)) ≡ false
   pub below : largest (st .knowledge) < largestTick
-  pub room : Room R (changed tombstone (idOf 24 item) 0 st)
+  pub room : Room L (changed tombstone (idOf 24 item) 0 st)
   pub bytes : bs ≡ encodeStore (changed tombstone (idOf 24 item) 0 st)
 
-pub delete-reply : (R : Rules) (s item : List ℕ) (st : Store) → openStore R s ≡ some st → deleteReply R s item ≡ firstFault refuses (deleteLines R (some st) item (changed tombstone (idOf 24 item) 0 st)) (gives (encodeStore (changed tombstone (idOf 24 item) 0 st)))
-unfolding deleteReply deleted storeOr
-delete-reply R s item st e =
-    ap (λ (o : Option Store). firstFault refuses (deleteLines R o item (deleted o item)) (gives (encodeStore (deleted o item)))) e
+pub delete-reply : (L : Limits) (s item : List ℕ) (st : Store) → openStore L s ≡ accepted st → deleteReply L s item ≡ firstFault refuses (deleteLines L (accepted st) item (changed tombstone (idOf 24 item) 0 st)) (gives (encodeStore (changed tombstone (idOf 24 item) 0 st)))
+unfolding deleteReply deleted readOr ownFault
+delete-reply L s item st e =
+    ap (λ (o : Parsed Store). firstFault refuses (deleteLines L o item (deleted o item)) (gives (encodeStore (deleted o item)))) e
 
-delete-lines : (R : Rules) (st : Store) (item : List ℕ) (result : Store) → None (deleteLines R (some st) item result) → (length item ≡ 24) × ((gone (find (idOf 24 item) (st .records)) ≡ false) × ((largest (st .knowledge) < largestTick) × Room R result))
-unfolding deleteLines storeOr
-delete-lines R st item result h =
-    (length-right 24 item (h .1 .0), (h .1 .1 .0, (exhausted-below st (h .1 .1 .1 .0), room-lines R result (h .1 .1 .1 .1))))
+delete-lines : (L : Limits) (st : Store) (item : List ℕ) (result : Store) → None (deleteLines L (accepted st) item result) → (length item ≡ 24) × ((gone (find (idOf 24 item) (st .records)) ≡ false) × ((largest (st .knowledge) < largestTick) × Room L result))
+unfolding deleteLines readOr ownFault
+delete-lines L st item result h =
+    (length-right 24 item (h .1 .0), (h .1 .1 .0, (exhausted-below st (h .1 .1 .1 .0), room-lines L result (h .1 .1 .1 .1))))
 
-pub delete-met : (R : Rules) (s item : List ℕ) (st : Store) (room : ℕ) (bs : List ℕ) → openStore R s ≡ some st → outcome (deleteReply R s item) room ≡ some bs → DeleteMet R st item bs
-delete-met R s item st room bs o e =
+pub delete-met : (L : Limits) (s item : List ℕ) (st : Store) (room : ℕ) (bs : List ℕ) → openStore L s ≡ accepted st → outcome (deleteReply L s item) room ≡ some bs → DeleteMet L st item bs
+delete-met L s item st room bs o e =
     let result = changed tombstone (idOf 24 item) 0 st in
-    let m = outcome-lines (deleteLines R (some st) item result) (encodeStore result) bs room (ap (λ (r : Reply). outcome r room) (sym (delete-reply R s item st o)) ∙ e) in
-    let l = delete-lines R st item result (m .0) in
+    let m = outcome-lines (deleteLines L (accepted st) item result) (encodeStore result) bs room (ap (λ (r : Reply). outcome r room) (sym (delete-reply L s item st o)) ∙ e) in
+    let l = delete-lines L st item result (m .0) in
     record { item24 = l .0; there = l .1 .0; below = l .1 .1 .0; room = l .1 .1 .1; bytes = sym (m .1) }
 
 -- ---- make
@@ -136,15 +136,15 @@ pub record MakeMet (R : Rules) (st : Store) (knowledge first last bs : List ℕ)
   pub first24 : length first ≡ 24
   pub last24 : length last ≡ 24
   pub span : idOf 24 first ≤ idOf 24 last
-  pub needed : Within R (made st given (idOf 24 first) (idOf 24 last) .needed)
-  pub learned : Within R (made st given (idOf 24 first) (idOf 24 last) .learned)
+  pub needed : Within (R .limits) (made st given (idOf 24 first) (idOf 24 last) .needed)
+  pub learned : Within (R .limits) (made st given (idOf 24 first) (idOf 24 last) .learned)
   pub records : length (made st given (idOf 24 first) (idOf 24 last) .records) ≤ R .limits .records
   pub bytes : bs ≡ encodeBatch (made st given (idOf 24 first) (idOf 24 last))
 
-pub make-reply : (R : Rules) (s knowledge first last : List ℕ) (st : Store) → openStore R s ≡ some st → makeReply R s knowledge first last ≡ firstFault refuses (makeLines R (some st) knowledge first last (makes R (some st) knowledge first last)) (gives (encodeBatch (makes R (some st) knowledge first last)))
+pub make-reply : (R : Rules) (s knowledge first last : List ℕ) (st : Store) → openStore (R .limits) s ≡ accepted st → makeReply R s knowledge first last ≡ firstFault refuses (makeLines R (accepted st) knowledge first last (makes R (accepted st) knowledge first last)) (gives (encodeBatch (makes R (accepted st) knowledge first last)))
 unfolding makeReply
 make-reply R s knowledge first last st e =
-    ap (λ (o : Option Store). firstFault refuses (makeLines R o knowledge first last (makes R o knowledge first last)) (gives (encodeBatch (makes R o knowledge first last)))) e
+    ap (λ (o : Parsed Store). firstFault refuses (makeLines R o knowledge first last (makes R o knowledge first last)) (gives (encodeBatch (makes R o knowledge first last)))) e
 
 unread : (n : ℕ) → ownFault {A = Knowledge} (refused n) .holds ≡ false → ⊥
 unread n h =
@@ -152,31 +152,31 @@ unread n h =
     let z : _≡_ {A = ℕ} 0 1 = cc in
     absurd (omega arith)
 
-pub make-met : (R : Rules) (s knowledge first last : List ℕ) (st : Store) (room : ℕ) (bs : List ℕ) → openStore R s ≡ some st → outcome (makeReply R s knowledge first last) room ≡ some bs → MakeMet R st knowledge first last bs
-unfolding makeLines makes storeOr
+pub make-met : (R : Rules) (s knowledge first last : List ℕ) (st : Store) (room : ℕ) (bs : List ℕ) → openStore (R .limits) s ≡ accepted st → outcome (makeReply R s knowledge first last) room ≡ some bs → MakeMet R st knowledge first last bs
+unfolding makeLines makes readOr ownFault
 make-met R s knowledge first last st room bs o e =
     read (parse R knowledge) refl
-    (outcome-lines (makeLines R (some st) knowledge first last (makes R (some st) knowledge first last)) (encodeBatch (makes R (some st) knowledge first last)) bs room
+    (outcome-lines (makeLines R (accepted st) knowledge first last (makes R (accepted st) knowledge first last)) (encodeBatch (makes R (accepted st) knowledge first last)) bs room
     (ap (λ (r : Reply). outcome r room) (sym (make-reply R s knowledge first last st o)) ∙ e))
   where
     lines :
         (b : Batch)
-        → None (then (resultLines R (b .needed)) (then (resultLines R (b .learned)) (line 13 (tooManyRecords (R .limits) (b .records)) ∷ [])))
-        → Within R (b .needed) × (Within R (b .learned) × (length (b .records) ≤ R .limits .records))
+        → None (then (resultLines (R .limits) (b .needed)) (then (resultLines (R .limits) (b .learned)) (line 13 (tooManyRecords (R .limits) (b .records)) ∷ [])))
+        → Within (R .limits) (b .needed) × (Within (R .limits) (b .learned) × (length (b .records) ≤ R .limits .records))
     lines b h =
-        let p = none-then (resultLines R (b .needed)) (then (resultLines R (b .learned)) (line 13 (tooManyRecords (R .limits) (b .records)) ∷ [])) h in
-        let q = none-then (resultLines R (b .learned)) (line 13 (tooManyRecords (R .limits) (b .records)) ∷ []) (p .1) in
-        (within-lines R (b .needed) (p .0), (within-lines R (b .learned) (q .0), count-right (R .limits) (b .records) (q .1 .0)))
+        let p = none-then (resultLines (R .limits) (b .needed)) (then (resultLines (R .limits) (b .learned)) (line 13 (tooManyRecords (R .limits) (b .records)) ∷ [])) h in
+        let q = none-then (resultLines (R .limits) (b .learned)) (line 13 (tooManyRecords (R .limits) (b .records)) ∷ []) (p .1) in
+        (within-lines (R .limits) (b .needed) (p .0), (within-lines (R .limits) (b .learned) (q .0), count-right (R .limits) (b .records) (q .1 .0)))
 
     read :
         (p : Parsed Knowledge)
         → parse R knowledge ≡ p
         → None
-        (line 15 (noStore (some st)) ∷
+        (ownFault (accepted st) ∷
         ownFault (parse R knowledge) ∷
         line 17 (wrongSpan first last) ∷
-        then (resultLines R (made st (readAs (parse R knowledge)) (idOf 24 first) (idOf 24 last) .needed))
-        (then (resultLines R (made st (readAs (parse R knowledge)) (idOf 24 first) (idOf 24 last) .learned))
+        then (resultLines (R .limits) (made st (readAs (parse R knowledge)) (idOf 24 first) (idOf 24 last) .needed))
+        (then (resultLines (R .limits) (made st (readAs (parse R knowledge)) (idOf 24 first) (idOf 24 last) .learned))
         (line 13 (tooManyRecords (R .limits) (made st (readAs (parse R knowledge)) (idOf 24 first) (idOf 24 last) .records)) ∷ [])))
         × (encodeBatch (made st (readAs (parse R knowledge)) (idOf 24 first) (idOf 24 last)) ≡ bs)
         → MakeMet R st knowledge first last bs
@@ -185,7 +185,7 @@ make-met R s knowledge first last st room bs o e =
         let w = span-right first last (m .0 .1 .1 .0) in
         let same : readAs (parse R knowledge) ≡ k = ap readAs h ∙ read-accepted emptyKnowledge k in
         let l = lines (made st (readAs (parse R knowledge)) (idOf 24 first) (idOf 24 last)) (m .0 .1 .1 .1) in
-        let l2 : Within R (made st k (idOf 24 first) (idOf 24 last) .needed) × (Within R (made st k (idOf 24 first) (idOf 24 last) .learned) × (length (made st k (idOf 24 first) (idOf 24 last) .records) ≤ R .limits .records)) = rw same at l in
+        let l2 : Within (R .limits) (made st k (idOf 24 first) (idOf 24 last) .needed) × (Within (R .limits) (made st k (idOf 24 first) (idOf 24 last) .learned) × (length (made st k (idOf 24 first) (idOf 24 last) .records) ≤ R .limits .records)) = rw same at l in
         record {
           given = k;
           reads = h;
@@ -200,26 +200,26 @@ make-met R s knowledge first last st room bs o e =
 
 -- ---- apply
 
-pub record ApplyMet (R : Rules) (st : Store) (b : Batch) (bs : List ℕ) : Type 0 where
+pub record ApplyMet (L : Limits) (st : Store) (b : Batch) (bs : List ℕ) : Type 0 where
   pub covered : covers (st .knowledge) (b .needed) (b .first) (b .last) ≡ true
   pub behind : ownAhead st b ≡ false
-  pub room : Room R (applied st b)
+  pub room : Room L (applied st b)
   pub bytes : bs ≡ encodeStore (applied st b)
 
-pub apply-reply : (R : Rules) (s t : List ℕ) (st : Store) (b : Batch) → openStore R s ≡ some st → openBatch R t ≡ some b → applyReply R s t ≡ firstFault refuses (applyLines R (some st) (some b) (applied st b)) (gives (encodeStore (applied st b)))
-unfolding applyReply storeOr batchOr
-apply-reply R s t st b e f =
-    ap (λ (o : Option Store). firstFault refuses (applyLines R o (openBatch R t) (applied (storeOr o) (batchOr (openBatch R t)))) (gives (encodeStore (applied (storeOr o) (batchOr (openBatch R t)))))) e
-    ∙ ap (λ (p : Option Batch). firstFault refuses (applyLines R (some st) p (applied st (batchOr p))) (gives (encodeStore (applied st (batchOr p))))) f
+pub apply-reply : (L : Limits) (s t : List ℕ) (st : Store) (b : Batch) → openStore L s ≡ accepted st → openBatch L t ≡ accepted b → applyReply L s t ≡ firstFault refuses (applyLines L (accepted st) (accepted b) (applied st b)) (gives (encodeStore (applied st b)))
+unfolding applyReply readOr ownFault
+apply-reply L s t st b e f =
+    ap (λ (o : Parsed Store). firstFault refuses (applyLines L o (openBatch L t) (applied (storeOr o) (batchOr (openBatch L t)))) (gives (encodeStore (applied (storeOr o) (batchOr (openBatch L t)))))) e
+    ∙ ap (λ (p : Parsed Batch). firstFault refuses (applyLines L (accepted st) p (applied st (batchOr p))) (gives (encodeStore (applied st (batchOr p))))) f
 
-apply-lines : (R : Rules) (st : Store) (b : Batch) (result : Store) → None (applyLines R (some st) (some b) result) → (covers (st .knowledge) (b .needed) (b .first) (b .last) ≡ true) × ((ownAhead st b ≡ false) × Room R result)
-unfolding applyLines storeOr batchOr uncovered
-apply-lines R st b result h =
+apply-lines : (L : Limits) (st : Store) (b : Batch) (result : Store) → None (applyLines L (accepted st) (accepted b) result) → (covers (st .knowledge) (b .needed) (b .first) (b .last) ≡ true) × ((ownAhead st b ≡ false) × Room L result)
+unfolding applyLines readOr ownFault uncovered
+apply-lines L st b result h =
     let w = or-false (uncovered st b) (ownAhead st b) (h .1 .1 .0) in
-    (not-false (covers (st .knowledge) (b .needed) (b .first) (b .last)) (w .0), (w .1, room-lines R result (h .1 .1 .1)))
+    (not-false (covers (st .knowledge) (b .needed) (b .first) (b .last)) (w .0), (w .1, room-lines L result (h .1 .1 .1)))
 
-pub apply-met : (R : Rules) (s t : List ℕ) (st : Store) (b : Batch) (room : ℕ) (bs : List ℕ) → openStore R s ≡ some st → openBatch R t ≡ some b → outcome (applyReply R s t) room ≡ some bs → ApplyMet R st b bs
-apply-met R s t st b room bs o p e =
-    let m = outcome-lines (applyLines R (some st) (some b) (applied st b)) (encodeStore (applied st b)) bs room (ap (λ (r : Reply). outcome r room) (sym (apply-reply R s t st b o p)) ∙ e) in
-    let l = apply-lines R st b (applied st b) (m .0) in
+pub apply-met : (L : Limits) (s t : List ℕ) (st : Store) (b : Batch) (room : ℕ) (bs : List ℕ) → openStore L s ≡ accepted st → openBatch L t ≡ accepted b → outcome (applyReply L s t) room ≡ some bs → ApplyMet L st b bs
+apply-met L s t st b room bs o p e =
+    let m = outcome-lines (applyLines L (accepted st) (accepted b) (applied st b)) (encodeStore (applied st b)) bs room (ap (λ (r : Reply). outcome r room) (sym (apply-reply L s t st b o p)) ∙ e) in
+    let l = apply-lines L st b (applied st b) (m .0) in
     record { covered = l .0; behind = l .1 .0; room = l .1 .1; bytes = sym (m .1) }

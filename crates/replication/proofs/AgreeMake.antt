@@ -27,7 +27,7 @@ use Rattle.replication.specs.Lists.{Call, make, World, keep}
 use Rattle.replication.proofs.Supremum.{value-be}
 use Rattle.replication.proofs.TablesSelected.{kept, selected-rising, find-selected}
 use Rattle.replication.proofs.AgreeLines.{MakeMet}
-use Rattle.replication.proofs.AgreeForm.{project-form, normalise-form}
+use Rattle.replication.proofs.AgreeForm.{lawful-any, project-form, normalise-form}
 use Rattle.replication.proofs.AgreeInvariant.{StoreFollows, BatchFollows, Paired, Follows}
 use Rattle.replication.proofs.MachineLaws.{Good}
 
@@ -38,14 +38,14 @@ id-value n s e = id-is n s ∙ (ap (λ (l : ℕ). beAt s l 0) (sym e) ∙ sym (v
 pub id-below : (n : ℕ) (s : List ℕ) → Bytes s → idOf n s < 256 ^ n
 id-below n s b = rw (id-is n s) (be-below s n 0 b)
 
-paired-add : (R : Rules) (vs : List Rec) (s : List ℕ) (b : Remembered) (ss : List (List ℕ)) (ms : List Remembered) → BatchFollows R s vs b → Paired R vs ss ms → Paired R vs (ss ++ (s ∷ [])) (ms ++ (b ∷ []))
+paired-add : (R : Rules) (vs : List Rec) (s : List ℕ) (b : Remembered) (ss : List (List ℕ)) (ms : List Remembered) → BatchFollows (R .limits) s vs b → Paired (R .limits) vs ss ms → Paired (R .limits) vs (ss ++ (s ∷ [])) (ms ++ (b ∷ []))
 paired-add R vs s b [] [] f p = (f, tt)
 paired-add R vs s b [] (m ∷ ms) f p = absurd p
 paired-add R vs s b (x ∷ ss) [] f p = absurd p
 paired-add R vs s b (x ∷ ss) (m ∷ ms) f p = (p .0, paired-add R vs s b ss ms f (p .1))
 
-module _ (R : Rules) (s bs : List ℕ) (vs : List Rec) (k : Ticks) (who : ℕ) (given : Knowledge) (first last : ℕ) (f : StoreFollows R s vs k who) (lawful : Lawful R given) (span : first ≤ last) (top : last ≤ highest) where
-  pub made-follows : Within R (made (f .st) given first last .needed) → Within R (made (f .st) given first last .learned) → length (made (f .st) given first last .records) ≤ R .limits .records → bs ≡ encodeBatch (made (f .st) given first last) → BatchFollows R bs vs (record { first = first; last = last; ticks = k })
+module _ (R : Rules) (s bs : List ℕ) (vs : List Rec) (k : Ticks) (who : ℕ) (given : Knowledge) (first last : ℕ) (f : StoreFollows (R .limits) s vs k who) (lawful : Lawful R given) (span : first ≤ last) (top : last ≤ highest) where
+  pub made-follows : Within (R .limits) (made (f .st) given first last .needed) → Within (R .limits) (made (f .st) given first last .learned) → length (made (f .st) given first last .records) ≤ R .limits .records → bs ≡ encodeBatch (made (f .st) given first last) → BatchFollows (R .limits) bs vs (record { first = first; last = last; ticks = k })
   unfolding made
   made-follows needed learned count bytes =
       record {
@@ -55,8 +55,8 @@ module _ (R : Rules) (s bs : List ℕ) (vs : List Rec) (k : Ticks) (who : ℕ) (
         last = refl;
         span = span;
         top = top;
-        needed = normalise-form R given lawful needed;
-        learned = project-form R first last (f .st .knowledge) (f .form) learned;
+        needed = normalise-form (R .limits) given (lawful-any R given lawful) needed;
+        learned = project-form (R .limits) first last (f .st .knowledge) (f .form) learned;
         inside =
             λ i q a b. known-project-inside first last (f .st .knowledge) i q (omega (arith, b, top)) a b ∙ f .ticks i q (omega (arith, b, top));
         outside = λ i q h. ⊎-elim (known-project-below first last (f .st .knowledge) i q h) (known-project-above first last (f .st .knowledge) i q h);
@@ -67,8 +67,8 @@ module _ (R : Rules) (s bs : List ℕ) (vs : List Rec) (k : Ticks) (who : ℕ) (
             ∙ ap (kept first last (normalise given)) (f .records i);
       }
 
-module _ (R : Rules) (permitted : Permitted (R .limits)) (w : World) (m : State) (f : Follows R w m) (who : ℕ) (knowledge first last : List ℕ) (room : ℕ) (small : who < 256 ^ 16) (bytesK : Bytes knowledge) (bytesF : Bytes first) (bytesL : Bytes last) where
-  pub make-follows : (bs : List ℕ) → Good (acts m (make who knowledge first last room)) → MakeMet R (f .stores who small .st) knowledge first last bs → Follows R (keep w (make who knowledge first last room) (some bs)) (acts m (make who knowledge first last room))
+module _ (R : Rules) (permitted : Permitted (R .limits)) (w : World) (m : State) (f : Follows (R .limits) w m) (who : ℕ) (knowledge first last : List ℕ) (room : ℕ) (small : who < 256 ^ 16) (bytesK : Bytes knowledge) (bytesF : Bytes first) (bytesL : Bytes last) where
+  pub make-follows : (bs : List ℕ) → Good (acts m (make who knowledge first last room)) → MakeMet R (f .stores who small .st) knowledge first last bs → Follows (R .limits) (keep w (make who knowledge first last room) (some bs)) (acts m (make who knowledge first last room))
   unfolding keep acts
   make-follows bs good h =
       record {
@@ -78,12 +78,12 @@ module _ (R : Rules) (permitted : Permitted (R .limits)) (w : World) (m : State)
         batches = paired-add R (m .versions) bs (record { first = value 0 first; last = value 0 last; ticks = m .ticks who }) (w .batches) (m .batches) moved (f .batches);
       }
     where
-      made-one : BatchFollows R bs (m .versions) (record { first = idOf 24 first; last = idOf 24 last; ticks = m .ticks who })
+      made-one : BatchFollows (R .limits) bs (m .versions) (record { first = idOf 24 first; last = idOf 24 last; ticks = m .ticks who })
       made-one =
           made-follows R (w .stores who) bs (m .versions) (m .ticks who) who (h .given) (idOf 24 first) (idOf 24 last) (f .stores who small)
           (exact R permitted knowledge (h .given) bytesK .0 (h .reads) .1) (h .span) (below-top (idOf 24 last) (id-below 24 last bytesL)) (h .needed) (h .learned) (h .records) (h .bytes)
 
-      moved : BatchFollows R bs (m .versions) (record { first = value 0 first; last = value 0 last; ticks = m .ticks who })
+      moved : BatchFollows (R .limits) bs (m .versions) (record { first = value 0 first; last = value 0 last; ticks = m .ticks who })
       moved =
-          subst (λ (x : ℕ). BatchFollows R bs (m .versions) (record { first = x; last = value 0 last; ticks = m .ticks who })) (id-value 24 first (h .first24))
-          (subst (λ (x : ℕ). BatchFollows R bs (m .versions) (record { first = idOf 24 first; last = x; ticks = m .ticks who })) (id-value 24 last (h .last24)) made-one)
+          subst (λ (x : ℕ). BatchFollows (R .limits) bs (m .versions) (record { first = x; last = value 0 last; ticks = m .ticks who })) (id-value 24 first (h .first24))
+          (subst (λ (x : ℕ). BatchFollows (R .limits) bs (m .versions) (record { first = idOf 24 first; last = x; ticks = m .ticks who })) (id-value 24 last (h .last24)) made-one)

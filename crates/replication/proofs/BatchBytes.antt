@@ -14,7 +14,7 @@ use lib.ListN.{length, take, drop}
 use borrow.Author.Tests.{le-leb, eq-eqb, leb-true, eqb-true}
 use Rattle.codec.specs.Number.{Bytes, beAt, put}
 use Rattle.codec.proofs.Numbers.{be-below, put-bytes}
-use Rattle.layout.specs.Knowledge.{Limits, Rules, Knowledge, encode, All, Lawful}
+use Rattle.layout.specs.Knowledge.{Limits, anyId, Knowledge, encode, All, Lawful}
 use Rattle.layout.specs.Permitted.{Permitted}
 use Rattle.layout.specs.Parse.{Parsed, accepted, refused, parse}
 use Rattle.layout.proofs.Chain.{Stands, stands-whole, over, reads}
@@ -25,17 +25,17 @@ use Rattle.ticks.specs.Operations.{project}
 use Rattle.replication.specs.Formats.{Rec, putRecs, Batch, encodeBatch}
 use Rattle.replication.specs.Reading.{recsAt, validRecs}
 use Rattle.replication.specs.OpenBatch.{batchWith, batchAfter, batchFrom, decodeBatch, carried, validBatch, ifValidBatch, openBatch}
-use Rattle.replication.proofs.PartBytes.{part-over, part-reads, part-length, part-back, no-bytes, append-bytes, part-bytes, test-back, both-left, both-right}
+use Rattle.replication.proofs.PartBytes.{part-over, part-reads, part-length, part-back, no-bytes, append-bytes, part-bytes, test-back, valid-back, both-left, both-right}
 use Rattle.replication.proofs.Tables.{both-holds}
 use Rattle.replication.proofs.RecordBytes.{FitsRec, put-upto, recs-bytes, recs-read, Read, recs-back}
 use Rattle.replication.proofs.StoreBytes.{length-fits}
 
 -- a batch whose values have room in their fields
-pub record FitsBatch (R : Rules) (b : Batch) : Type 0 where
+pub record FitsBatch (L : Limits) (b : Batch) : Type 0 where
   pub first : b .first < 256 ^ 24
   pub last : b .last < 256 ^ 24
-  pub needed : Lawful R (b .needed)
-  pub learned : Lawful R (b .learned)
+  pub needed : Lawful (anyId L) (b .needed)
+  pub learned : Lawful (anyId L) (b .learned)
   pub count : length (b .records) < 256 ^ 4
   pub records : All FitsRec (b .records)
 
@@ -83,57 +83,57 @@ module _ (b : Batch) where
   kind-read = reads (encodeBatch b) 0 1 4 _ (stands-whole (encodeBatch b)) (omega arith)
 
 -- the tests in front hold
-tests-hold : (R : Rules) (s : List ℕ) → beAt s 1 0 ≡ 4 → 61 + beAt s 4 49 + beAt s 4 53 ≤ length s →
-    decodeBatch R s ≡ batchFrom R s (parse R (take (beAt s 4 49) (drop 61 s)))
+tests-hold : (L : Limits) (s : List ℕ) → beAt s 1 0 ≡ 4 → 61 + beAt s 4 49 + beAt s 4 53 ≤ length s →
+    decodeBatch L s ≡ batchFrom L s (parse (anyId L) (take (beAt s 4 49) (drop 61 s)))
 unfolding decodeBatch
-tests-hold R s e l = rw (eq-eqb (beAt s 1 0) 4 e, le-leb (61 + beAt s 4 49 + beAt s 4 53) (length s) l, decodeBatch)
+tests-hold L s e l = rw (eq-eqb (beAt s 1 0) 4 e, le-leb (61 + beAt s 4 49 + beAt s 4 53) (length s) l, decodeBatch)
 
 -- bytes whose parts are known are read as a batch
-decode-of : (R : Rules) (s : List ℕ) (n m c : ℕ) (k l : Knowledge) (rs : List Rec) → beAt s 1 0 ≡ 4 → beAt s 4 49 ≡ n → beAt s 4 53 ≡ m →
-    beAt s 4 57 ≡ c → 61 + n + m ≤ length s → parse R (take n (drop 61 s)) ≡ accepted k →
-    parse R (take m (drop (61 + n) s)) ≡ accepted l → recsAt s c (61 + n + m) ≡ some rs →
-    decodeBatch R s ≡ some (record { first = beAt s 24 1; last = beAt s 24 25; needed = k; learned = l; records = rs })
+decode-of : (L : Limits) (s : List ℕ) (n m c : ℕ) (k l : Knowledge) (rs : List Rec) → beAt s 1 0 ≡ 4 → beAt s 4 49 ≡ n → beAt s 4 53 ≡ m →
+    beAt s 4 57 ≡ c → 61 + n + m ≤ length s → parse (anyId L) (take n (drop 61 s)) ≡ accepted k →
+    parse (anyId L) (take m (drop (61 + n) s)) ≡ accepted l → recsAt s c (61 + n + m) ≡ some rs →
+    decodeBatch L s ≡ some (record { first = beAt s 24 1; last = beAt s 24 25; needed = k; learned = l; records = rs })
 unfolding batchFrom batchAfter batchWith
-decode-of R s n m c k l rs e f g h i j q u =
-    tests-hold R s e (omega arith)
-    ∙ ap (batchFrom R s) (ap (λ x. parse R (take x (drop 61 s))) f ∙ j)
-    ∙ ap (batchAfter s k) (ap₂ (λ x y. parse R (take x (drop (61 + y) s))) g f ∙ q)
+decode-of L s n m c k l rs e f g h i j q u =
+    tests-hold L s e (omega arith)
+    ∙ ap (batchFrom L s) (ap (λ x. parse (anyId L) (take x (drop 61 s))) f ∙ j)
+    ∙ ap (batchAfter s k) (ap₂ (λ x y. parse (anyId L) (take x (drop (61 + y) s))) g f ∙ q)
     ∙ ap (batchWith s k l) (ap₂ (λ x y. recsAt s x (61 + y + beAt s 4 53)) h f ∙ ap (λ x. recsAt s c (61 + n + x)) g ∙ u)
 
-pub batch-decode : (R : Rules) (b : Batch) → Permitted (R .limits) → FitsBatch R b → decodeBatch R (encodeBatch b) ≡ some b
-batch-decode R b p f =
+pub batch-decode : (L : Limits) (b : Batch) → Permitted L → FitsBatch L b → decodeBatch L (encodeBatch b) ≡ some b
+batch-decode L b p f =
     let s = encodeBatch b in
     let n = length (encode (b .needed)) in
     let m = length (encode (b .learned)) in
-    decode-of R s n m (length (b .records)) (b .needed) (b .learned) (b .records) (kind-read b)
-    (reads s 49 4 _ _ (at-needed-length b) (length-fits R (b .needed) p (f .needed)))
-    (reads s 53 4 _ _ (at-learned-length b) (length-fits R (b .learned) p (f .learned)))
+    decode-of L s n m (length (b .records)) (b .needed) (b .learned) (b .records) (kind-read b)
+    (reads s 49 4 _ _ (at-needed-length b) (length-fits L (b .needed) p (f .needed)))
+    (reads s 53 4 _ _ (at-learned-length b) (length-fits L (b .learned) p (f .learned)))
     (reads s 57 4 _ _ (at-count b) (f .count))
     (at-records b .inside)
-    (ap (parse R) (part-reads s 61 (encode (b .needed)) _ (at-needed b)) ∙ read-back R p (b .needed) (f .needed))
-    (ap (parse R) (part-reads s (61 + n) (encode (b .learned)) _ (at-learned b)) ∙ read-back R p (b .learned) (f .learned))
+    (ap (parse (anyId L)) (part-reads s 61 (encode (b .needed)) _ (at-needed b)) ∙ read-back (anyId L) p (b .needed) (f .needed))
+    (ap (parse (anyId L)) (part-reads s (61 + n) (encode (b .learned)) _ (at-learned b)) ∙ read-back (anyId L) p (b .learned) (f .learned))
     (recs-read s (61 + n + m) (b .records) (f .records) (at-records b))
     ∙ rw (reads s 1 24 _ _ (at-first b) (f .first), reads s 25 24 _ _ (at-last b) (f .last))
 
-if-valid : (L : Limits) (b : Batch) → validBatch L b ≡ true → ifValidBatch L (some b) ≡ some b
+if-valid : (L : Limits) (b : Batch) → validBatch L b ≡ true → ifValidBatch L (some b) ≡ accepted b
 unfolding ifValidBatch
 if-valid L b v = rw (v, ifValidBatch)
 
-pub batch-open : (R : Rules) (b : Batch) → Permitted (R .limits) → FitsBatch R b → validBatch (R .limits) b ≡ true →
-    openBatch R (encodeBatch b) ≡ some b
+pub batch-open : (L : Limits) (b : Batch) → Permitted L → FitsBatch L b → validBatch L b ≡ true →
+    openBatch L (encodeBatch b) ≡ accepted b
 unfolding openBatch
-batch-open R b p f v = ap (ifValidBatch (R .limits)) (batch-decode R b p f) ∙ if-valid (R .limits) b v
+batch-open L b p f v = ap (ifValidBatch L) (batch-decode L b p f) ∙ if-valid L b v
 
 -- ---- reading and writing again
 
 -- what bytes that are read as a batch hold
-record Holds (R : Rules) (s : List ℕ) (b : Batch) : Type 0 where
+record Holds (L : Limits) (s : List ℕ) (b : Batch) : Type 0 where
   kind : beAt s 1 0 ≡ 4
   inside : 61 + beAt s 4 49 + beAt s 4 53 ≤ length s
   first : beAt s 24 1 ≡ b .first
   last : beAt s 24 25 ≡ b .last
-  needed : parse R (take (beAt s 4 49) (drop 61 s)) ≡ accepted (b .needed)
-  learned : parse R (take (beAt s 4 53) (drop (61 + beAt s 4 49) s)) ≡ accepted (b .learned)
+  needed : parse (anyId L) (take (beAt s 4 49) (drop 61 s)) ≡ accepted (b .needed)
+  learned : parse (anyId L) (take (beAt s 4 53) (drop (61 + beAt s 4 49) s)) ≡ accepted (b .learned)
   records : recsAt s (beAt s 4 57) (61 + beAt s 4 49 + beAt s 4 53) ≡ some (b .records)
 
 -- the parts of a batch that was put together
@@ -155,19 +155,19 @@ unfolding batchAfter
 after-back s k (refused n) b C e c = absurd (let z : _≡_ {A = ℕ} 0 1 = cc in omega arith)
 after-back s k (accepted l) b C e c = c l refl (with-back s k l (recsAt s (beAt s 4 57) (61 + beAt s 4 49 + beAt s 4 53)) b e)
 
-from-back : (R : Rules) (s : List ℕ) (q : Parsed Knowledge) (b : Batch) (C : Type 0) → batchFrom R s q ≡ some b →
-    ((k : Knowledge) → q ≡ accepted k → batchAfter s k (parse R (take (beAt s 4 53) (drop (61 + beAt s 4 49) s))) ≡ some b → C) → C
+from-back : (L : Limits) (s : List ℕ) (q : Parsed Knowledge) (b : Batch) (C : Type 0) → batchFrom L s q ≡ some b →
+    ((k : Knowledge) → q ≡ accepted k → batchAfter s k (parse (anyId L) (take (beAt s 4 53) (drop (61 + beAt s 4 49) s))) ≡ some b → C) → C
 unfolding batchFrom
-from-back R s (refused n) b C e c = absurd (let z : _≡_ {A = ℕ} 0 1 = cc in omega arith)
-from-back R s (accepted k) b C e c = c k refl e
+from-back L s (refused n) b C e c = absurd (let z : _≡_ {A = ℕ} 0 1 = cc in omega arith)
+from-back L s (accepted k) b C e c = c k refl e
 
-decode-back : (R : Rules) (s : List ℕ) (b : Batch) → decodeBatch R s ≡ some b → Holds R s b
+decode-back : (L : Limits) (s : List ℕ) (b : Batch) → decodeBatch L s ≡ some b → Holds L s b
 unfolding decodeBatch
-decode-back R s b e =
-    test-back (eqb (beAt s 1 0) 4) _ b (Holds R s b) e (λ t e.
-    test-back (leb (61 + beAt s 4 49 + beAt s 4 53) (length s)) _ b (Holds R s b) e (λ u e.
-    from-back R s (parse R (take (beAt s 4 49) (drop 61 s))) b (Holds R s b) e (λ k v e.
-    after-back s k (parse R (take (beAt s 4 53) (drop (61 + beAt s 4 49) s))) b (Holds R s b) e (λ l w h.
+decode-back L s b e =
+    test-back (eqb (beAt s 1 0) 4) _ b (Holds L s b) e (λ t e.
+    test-back (leb (61 + beAt s 4 49 + beAt s 4 53) (length s)) _ b (Holds L s b) e (λ u e.
+    from-back L s (parse (anyId L) (take (beAt s 4 49) (drop 61 s))) b (Holds L s b) e (λ k v e.
+    after-back s k (parse (anyId L) (take (beAt s 4 53) (drop (61 + beAt s 4 49) s))) b (Holds L s b) e (λ l w h.
     record {
       kind = eqb-true (beAt s 1 0) 4 t;
       inside = leb-true (61 + beAt s 4 49 + beAt s 4 53) (length s) u;
@@ -178,18 +178,20 @@ decode-back R s b e =
       records = h .records;
     }))))
 
-open-back : (L : Limits) (o : Option Batch) (b : Batch) → ifValidBatch L o ≡ some b → (o ≡ some b) × (validBatch L b ≡ true)
+open-back : (L : Limits) (o : Option Batch) (b : Batch) → ifValidBatch L o ≡ accepted b → (o ≡ some b) × (validBatch L b ≡ true)
 unfolding ifValidBatch
 open-back L none b e = absurd (let z : _≡_ {A = ℕ} 0 1 = cc in omega arith)
-open-back L (some x) b e = test-back (validBatch L x) (some x) b ((some x ≡ some b) × (validBatch L b ≡ true)) e (λ v f. (f, cc))
+open-back L (some x) b e =
+    let h = valid-back (validBatch L x) x b 16 e in
+    (ap some (h .1), ap (validBatch L) (sym (h .1)) ∙ h .0)
 
-module _ (R : Rules) (s : List ℕ) (b : Batch) (p : Permitted (R .limits)) (y : Bytes s) (h : Holds R s b) where
-  held-needed : (take (beAt s 4 49) (drop 61 s) ≡ encode (b .needed)) × Lawful R (b .needed)
-  held-needed = exact R p (take (beAt s 4 49) (drop 61 s)) (b .needed) (part-bytes s (beAt s 4 49) 61 y) .0 (h .needed)
+module _ (L : Limits) (s : List ℕ) (b : Batch) (p : Permitted L) (y : Bytes s) (h : Holds L s b) where
+  held-needed : (take (beAt s 4 49) (drop 61 s) ≡ encode (b .needed)) × Lawful (anyId L) (b .needed)
+  held-needed = exact (anyId L) p (take (beAt s 4 49) (drop 61 s)) (b .needed) (part-bytes s (beAt s 4 49) 61 y) .0 (h .needed)
 
-  held-learned : (take (beAt s 4 53) (drop (61 + beAt s 4 49) s) ≡ encode (b .learned)) × Lawful R (b .learned)
+  held-learned : (take (beAt s 4 53) (drop (61 + beAt s 4 49) s) ≡ encode (b .learned)) × Lawful (anyId L) (b .learned)
   held-learned =
-      exact R p (take (beAt s 4 53) (drop (61 + beAt s 4 49) s)) (b .learned) (part-bytes s (beAt s 4 53) (61 + beAt s 4 49) y) .0 (h .learned)
+      exact (anyId L) p (take (beAt s 4 53) (drop (61 + beAt s 4 49) s)) (b .learned) (part-bytes s (beAt s 4 53) (61 + beAt s 4 49) y) .0 (h .learned)
 
   needed-length : beAt s 4 49 ≡ length (encode (b .needed))
   needed-length = sym (part-length s (beAt s 4 49) 61 (omega (arith, h .inside))) ∙ ap length (held-needed .0)
@@ -200,7 +202,7 @@ module _ (R : Rules) (s : List ℕ) (b : Batch) (p : Permitted (R .limits)) (y :
   held-records : Read s (beAt s 4 57) (61 + beAt s 4 49 + beAt s 4 53) (b .records)
   held-records = recs-back s (beAt s 4 57) (61 + beAt s 4 49 + beAt s 4 53) (b .records) y (h .records)
 
-  held-fits : FitsBatch R b
+  held-fits : FitsBatch L b
   held-fits = record {
     first = rw (← h .first) (be-below s 24 1 y);
     last = rw (← h .last) (be-below s 24 25 y);
@@ -230,13 +232,13 @@ module _ (R : Rules) (s : List ℕ) (b : Batch) (p : Permitted (R .limits)) (y :
       (put-upto s 4 53 57 y refl (omega arith)
       ∙ ap₂ (put 4) learned-length (put-upto s 4 57 61 y refl (omega arith) ∙ ap₂ (put 4) (sym (held-records .count)) held-bodies)))))
 
-pub batch-opened : (R : Rules) (s : List ℕ) (b : Batch) → Permitted (R .limits) → Bytes s → openBatch R s ≡ some b →
-    (s ≡ encodeBatch b) × (FitsBatch R b × (validBatch (R .limits) b ≡ true))
+pub batch-opened : (L : Limits) (s : List ℕ) (b : Batch) → Permitted L → Bytes s → openBatch L s ≡ accepted b →
+    (s ≡ encodeBatch b) × (FitsBatch L b × (validBatch L b ≡ true))
 unfolding openBatch
-batch-opened R s b p y e =
-    let o = open-back (R .limits) (decodeBatch R s) b e in
-    let h = decode-back R s b (o .0) in
-    (held-bytes R s b p y h, (held-fits R s b p y h, o .1))
+batch-opened L s b p y e =
+    let o = open-back L (decodeBatch L s) b e in
+    let h = decode-back L s b (o .0) in
+    (held-bytes L s b p y h, (held-fits L s b p y h, o .1))
 
 -- ---- a valid batch, part by part
 

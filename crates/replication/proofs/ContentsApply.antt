@@ -14,7 +14,7 @@ use lib.ListN.{length}
 use borrow.Author.Tests.{not-false}
 use Rattle.codec.specs.Number.{Bytes}
 use Rattle.codec.specs.Reply.{gives}
-use Rattle.layout.specs.Knowledge.{Rules, All}
+use Rattle.layout.specs.Knowledge.{Limits, anyId, All}
 use Rattle.layout.specs.Permitted.{Permitted}
 use Rattle.ticks.specs.Meaning.{highest, known}
 use Rattle.ticks.specs.Operations.{merge, coversFor}
@@ -32,6 +32,7 @@ use Rattle.replication.proofs.TablesJoin.{winner-tick, winner-kept, win
 use Rattle.replication.proofs.AgreeLines.{Room, apply-met}
 use Rattle.replication.proofs.ContentsValid.{lawful-opens, store-exact, batch-exact}
 use Rattle.replication.proofs.ContentsMake.{gives-outcome}
+use Rattle.codec.specs.Parsed.{accepted}
 
 -- the second record wins: "the greater change tick, then the greater change replica"
 abbrev pub Greater : Rec → Rec → Type 0
@@ -41,9 +42,9 @@ Greater x y = (x .changeTick < y .changeTick) ⊎ ((x .changeTick ≡ y .changeT
 abbrev pub NotLess : Rec → Rec → Type 0
 NotLess x y = (y .changeTick < x .changeTick) ⊎ ((x .changeTick ≡ y .changeTick) × (y .changeReplica ≤ x .changeReplica))
 
-pub record Applies (R : Rules) (st : Store) (b : Batch) (bs : List ℕ) : Type 0 where
+pub record Applies (L : Limits) (st : Store) (b : Batch) (bs : List ℕ) : Type 0 where
   pub store : Store
-  pub opens : openStore R bs ≡ some store
+  pub opens : openStore L bs ≡ accepted store
   pub bytes : bs ≡ encodeStore store
   pub own : store .own ≡ st .own
   -- "Knowledge is merged with learned"
@@ -75,7 +76,7 @@ behind-known st b e i h =
 
 -- ---- the store
 
-module _ (R : Rules) (permitted : Permitted (R .limits)) (st : Store) (b : Batch) (v : LawfulStore R st) (w : LawfulBatch R b) where
+module _ (L : Limits) (permitted : Permitted L) (st : Store) (b : Batch) (v : LawfulStore L st) (w : LawfulBatch L b) where
   store-contained : (r : Rec) → LawfulRec r → ContainedIn (st .knowledge) r → ContainedIn (merge (st .knowledge) (b .learned)) r
   store-contained r a c =
       let h = below-top (r .item) (a .item) in
@@ -92,12 +93,12 @@ module _ (R : Rules) (permitted : Permitted (R .limits)) (st : Store) (b : Batch
         create = omega (arith, c .create, known-merge (st .knowledge) (b .learned) (r .item) (r .createReplica) h);
       }
 
-  pub applied-lawful : ownAhead st b ≡ false → Room R (applied st b) → LawfulStore R (applied st b)
+  pub applied-lawful : ownAhead st b ≡ false → Room L (applied st b) → LawfulStore L (applied st b)
   unfolding applied
   applied-lawful behind room =
       record {
         own = v .own;
-        lawful = lawful-merge R (st .knowledge) (b .learned) (v .lawful) (w .learnedLawful) (room .knowledge .replicas) (room .knowledge .ranges);
+        lawful = lawful-merge (anyId L) (st .knowledge) (b .learned) (v .lawful) (w .learnedLawful) (room .knowledge .replicas) (room .knowledge .ranges);
         normal = normal-merge (st .knowledge) (b .learned);
         alike =
             λ i j a c. omega (
@@ -129,12 +130,12 @@ module _ (R : Rules) (permitted : Permitted (R .limits)) (st : Store) (b : Batch
       find-join 0 i (st .records) (b .records) (v .rising) (w .rising)
       ∙ (ap (λ (o : Option Rec). joined o (find i (b .records))) e ∙ ap (joined m) f)
 
-  pub applied-applies : (bs : List ℕ) → ownAhead st b ≡ false → Room R (applied st b) → bs ≡ encodeStore (applied st b) → Applies R st b bs
+  pub applied-applies : (bs : List ℕ) → ownAhead st b ≡ false → Room L (applied st b) → bs ≡ encodeStore (applied st b) → Applies L st b bs
   unfolding applied
   applied-applies bs behind room bytes =
       record {
         store = applied st b;
-        opens = ap (openStore R) bytes ∙ lawful-opens R permitted (applied st b) (applied-lawful behind room);
+        opens = ap (openStore L) bytes ∙ lawful-opens L permitted (applied st b) (applied-lawful behind room);
         bytes = bytes;
         own = refl;
         ticks = λ i p h. known-merge (st .knowledge) (b .learned) i p h;
@@ -148,7 +149,7 @@ module _ (R : Rules) (permitted : Permitted (R .limits)) (st : Store) (b : Batch
 
 -- ---- apply
 
-pub apply-writes : (R : Rules) (s t bs : List ℕ) (st : Store) (b : Batch) → Permitted (R .limits) → Bytes s → Bytes t → openStore R s ≡ some st → openBatch R t ≡ some b → applyReply R s t ≡ gives bs → Applies R st b bs
-apply-writes R s t bs st b permitted bytesS bytesT o p g =
-    let m = apply-met R s t st b (length bs) bs o p (gives-outcome (applyReply R s t) bs g) in
-    applied-applies R permitted st b (store-exact R s st permitted bytesS .0 o .1) (batch-exact R t b permitted bytesT .0 p .1) bs (m .behind) (m .room) (m .bytes)
+pub apply-writes : (L : Limits) (s t bs : List ℕ) (st : Store) (b : Batch) → Permitted L → Bytes s → Bytes t → openStore L s ≡ accepted st → openBatch L t ≡ accepted b → applyReply L s t ≡ gives bs → Applies L st b bs
+apply-writes L s t bs st b permitted bytesS bytesT o p g =
+    let m = apply-met L s t st b (length bs) bs o p (gives-outcome (applyReply L s t) bs g) in
+    applied-applies L permitted st b (store-exact L s st permitted bytesS .0 o .1) (batch-exact L t b permitted bytesT .0 p .1) bs (m .behind) (m .room) (m .bytes)

@@ -12,7 +12,7 @@ use lib.ListN.{length}
 use Rattle.codec.specs.Number.{Bytes, beAt}
 use Rattle.codec.specs.Reply.{gives}
 use Rattle.codec.proofs.Numbers.{power-positive}
-use Rattle.layout.specs.Knowledge.{Rules, largestTick, All}
+use Rattle.layout.specs.Knowledge.{Limits, anyId, largestTick, All}
 use Rattle.layout.specs.Permitted.{Permitted}
 use Rattle.ticks.specs.Meaning.{highest, known}
 use Rattle.ticks.specs.Operations.{raise, largest}
@@ -33,6 +33,7 @@ use Rattle.replication.proofs.AgreeEdit.{same?}
 use Rattle.replication.proofs.AgreeMake.{id-below}
 use Rattle.replication.proofs.ContentsValid.{lawful-opens, store-exact}
 use Rattle.replication.proofs.ContentsMake.{gives-outcome}
+use Rattle.codec.specs.Parsed.{accepted}
 
 -- the record of an edit or a delete at a tick, spelled out, with the item's record before it
 pub record NewRec (newKind newItem who newTick newTag : ℕ) (before : Option Rec) (r : Rec) : Type 0 where
@@ -45,9 +46,9 @@ pub record NewRec (newKind newItem who newTick newTag : ℕ) (before : Option Re
   pub absent : before ≡ none → (r .createReplica ≡ who) × (r .createTick ≡ newTick)
   pub there : (old : Rec) → before ≡ some old → (r .createReplica ≡ old .createReplica) × (r .createTick ≡ old .createTick)
 
-pub record Changes (R : Rules) (st : Store) (kind item tag : ℕ) (bs : List ℕ) : Type 0 where
+pub record Changes (L : Limits) (st : Store) (kind item tag : ℕ) (bs : List ℕ) : Type 0 where
   pub store : Store
-  pub opens : openStore R bs ≡ some store
+  pub opens : openStore L bs ≡ accepted store
   pub bytes : bs ≡ encodeStore store
   pub own : store .own ≡ st .own
   -- "tick = 1 + the largest tick in the store's knowledge"
@@ -97,7 +98,7 @@ changed-is kind item own t tag (some r) =
 
 -- ---- the store
 
-module _ (R : Rules) (st : Store) (v : LawfulStore R st) (t : ℕ) (above : (i p : ℕ) → known (st .knowledge) i p < t) where
+module _ (L : Limits) (st : Store) (v : LawfulStore L st) (t : ℕ) (above : (i p : ℕ) → known (st .knowledge) i p < t) where
   -- no known tick is lost
   raised : (i q : ℕ) → i ≤ highest → known (st .knowledge) i q ≤ known (raise (st .own) t (st .knowledge)) i q
   raised i q h =
@@ -171,7 +172,7 @@ module _ (R : Rules) (st : Store) (v : LawfulStore R st) (t : ℕ) (above : (i p
             create = rw (n .item) (c .contained);
           }
 
-module _ (R : Rules) (permitted : Permitted (R .limits)) (st : Store) (v : LawfulStore R st) (acceptable : R .judge (st .own) ≡ 0) (kind item tag : ℕ) (kinds : (kind ≡ 1) ⊎ (kind ≡ 2)) (small : item < 256 ^ 24) (tag16 : tag < 256 ^ 16) (bare : kind ≡ 2 → tag ≡ 0) (below : largest (st .knowledge) < largestTick) where
+module _ (L : Limits) (permitted : Permitted L) (st : Store) (v : LawfulStore L st) (kind item tag : ℕ) (kinds : (kind ≡ 1) ⊎ (kind ≡ 2)) (small : item < 256 ^ 24) (tag16 : tag < 256 ^ 16) (bare : kind ≡ 2 → tag ≡ 0) (below : largest (st .knowledge) < largestTick) where
   next-above : (i p : ℕ) → known (st .knowledge) i p < nextTick st
   unfolding nextTick
   next-above i p = omega (arith, largest-bounds (st .knowledge) i p)
@@ -192,37 +193,37 @@ module _ (R : Rules) (permitted : Permitted (R .limits)) (st : Store) (v : Lawfu
   next-is : NewRec kind item (st .own) (nextTick st) tag (find item (st .records)) next
   next-is = changed-is kind item (st .own) (nextTick st) tag (find item (st .records))
 
-  changed-lawful : Room R (changed kind item tag st) → LawfulStore R (changed kind item tag st)
+  changed-lawful : Room L (changed kind item tag st) → LawfulStore L (changed kind item tag st)
   unfolding changed
   changed-lawful room =
       record {
         own = v .own;
         lawful =
-            lawful-raise R (st .own) (nextTick st) (st .knowledge) (v .lawful) (record { size = v .own; acceptable = acceptable }) next-top (room .knowledge .replicas) (room .knowledge .ranges);
+            lawful-raise (anyId L) (st .own) (nextTick st) (st .knowledge) (v .lawful) (record { size = v .own; acceptable = refl }) next-top (room .knowledge .replicas) (room .knowledge .ranges);
         normal = normal-raise (st .own) (nextTick st) (st .knowledge);
         alike =
             λ i j a b. known-raise-own (st .own) (nextTick st) (st .knowledge) i (st .own) a refl ∙ sym (known-raise-own (st .own) (nextTick st) (st .knowledge) j (st .own) b refl);
         count = room .records;
         rising = replace-rising next 0 (st .records) (omega arith) (v .rising);
         records =
-            all-replace LawfulRec next (st .records) (new-lawful R st v (nextTick st) next-above kind item tag kinds small tag16 bare next-top next next-is) (v .records);
+            all-replace LawfulRec next (st .records) (new-lawful L st v (nextTick st) next-above kind item tag kinds small tag16 bare next-top next next-is) (v .records);
         versions =
             all-replace (ContainedIn (raise (st .own) (nextTick st) (st .knowledge))) next (st .records)
-            (new-contained R st v (nextTick st) next-above kind item tag kinds small tag16 bare next-top next next-is) kept-versions;
+            (new-contained L st v (nextTick st) next-above kind item tag kinds small tag16 bare next-top next next-is) kept-versions;
       }
     where
       kept-versions : All (ContainedIn (raise (st .own) (nextTick st) (st .knowledge))) (st .records)
       kept-versions =
           all-find (ContainedIn (raise (st .own) (nextTick st) (st .knowledge))) 0 (st .records) (v .rising)
           (λ i r e.
-          old-contained R st v (nextTick st) next-above r (find-all LawfulRec i (st .records) r (v .records) e) (find-all (ContainedIn (st .knowledge)) i (st .records) r (v .versions) e))
+          old-contained L st v (nextTick st) next-above r (find-all LawfulRec i (st .records) r (v .records) e) (find-all (ContainedIn (st .knowledge)) i (st .records) r (v .versions) e))
 
-  pub changed-changes : (bs : List ℕ) → Room R (changed kind item tag st) → bs ≡ encodeStore (changed kind item tag st) → Changes R st kind item tag bs
+  pub changed-changes : (bs : List ℕ) → Room L (changed kind item tag st) → bs ≡ encodeStore (changed kind item tag st) → Changes L st kind item tag bs
   unfolding changed
   changed-changes bs room bytes =
       record {
         store = changed kind item tag st;
-        opens = ap (openStore R) bytes ∙ lawful-opens R permitted (changed kind item tag st) (changed-lawful room);
+        opens = ap (openStore L) bytes ∙ lawful-opens L permitted (changed kind item tag st) (changed-lawful room);
         bytes = bytes;
         own = refl;
         tick = nextTick st;
@@ -239,16 +240,16 @@ module _ (R : Rules) (permitted : Permitted (R .limits)) (st : Store) (v : Lawfu
 -- ---- edit and delete
 
 -- "An edit writes kind 1 with the given tag"
-pub edit-writes : (R : Rules) (s item tag bs : List ℕ) (st : Store) → Permitted (R .limits) → R .judge (st .own) ≡ 0 → Bytes s → Bytes item → Bytes tag → openStore R s ≡ some st → editReply R s item tag ≡ gives bs → Changes R st 1 (beAt item 24 0) (beAt tag 16 0) bs
-edit-writes R s item tag bs st permitted acceptable bytesS bytesI bytesT o g =
-    let m = edit-met R s item tag st (length bs) bs o (gives-outcome (editReply R s item tag) bs g) in
-    subst (λ (x : ℕ). Changes R st 1 x (beAt tag 16 0) bs) (id-is 24 item)
-    (subst (λ (x : ℕ). Changes R st 1 (idOf 24 item) x bs) (id-is 16 tag)
-    (changed-changes R permitted st (store-exact R s st permitted bytesS .0 o .1) acceptable 1 (idOf 24 item) (idOf 16 tag) (inl refl) (id-below 24 item bytesI) (id-below 16 tag bytesT) (λ e. absurd (omega arith)) (m .below) bs (m .room) (m .bytes)))
+pub edit-writes : (L : Limits) (s item tag bs : List ℕ) (st : Store) → Permitted L → Bytes s → Bytes item → Bytes tag → openStore L s ≡ accepted st → editReply L s item tag ≡ gives bs → Changes L st 1 (beAt item 24 0) (beAt tag 16 0) bs
+edit-writes L s item tag bs st permitted bytesS bytesI bytesT o g =
+    let m = edit-met L s item tag st (length bs) bs o (gives-outcome (editReply L s item tag) bs g) in
+    subst (λ (x : ℕ). Changes L st 1 x (beAt tag 16 0) bs) (id-is 24 item)
+    (subst (λ (x : ℕ). Changes L st 1 (idOf 24 item) x bs) (id-is 16 tag)
+    (changed-changes L permitted st (store-exact L s st permitted bytesS .0 o .1) 1 (idOf 24 item) (idOf 16 tag) (inl refl) (id-below 24 item bytesI) (id-below 16 tag bytesT) (λ e. absurd (omega arith)) (m .below) bs (m .room) (m .bytes)))
 
 -- "a delete kind 2", with a tag of zeros
-pub delete-writes : (R : Rules) (s item bs : List ℕ) (st : Store) → Permitted (R .limits) → R .judge (st .own) ≡ 0 → Bytes s → Bytes item → openStore R s ≡ some st → deleteReply R s item ≡ gives bs → Changes R st 2 (beAt item 24 0) 0 bs
-delete-writes R s item bs st permitted acceptable bytesS bytesI o g =
-    let m = delete-met R s item st (length bs) bs o (gives-outcome (deleteReply R s item) bs g) in
-    subst (λ (x : ℕ). Changes R st 2 x 0 bs) (id-is 24 item)
-    (changed-changes R permitted st (store-exact R s st permitted bytesS .0 o .1) acceptable 2 (idOf 24 item) 0 (inr refl) (id-below 24 item bytesI) (power-positive 16) (λ e. refl) (m .below) bs (m .room) (m .bytes))
+pub delete-writes : (L : Limits) (s item bs : List ℕ) (st : Store) → Permitted L → Bytes s → Bytes item → openStore L s ≡ accepted st → deleteReply L s item ≡ gives bs → Changes L st 2 (beAt item 24 0) 0 bs
+delete-writes L s item bs st permitted bytesS bytesI o g =
+    let m = delete-met L s item st (length bs) bs o (gives-outcome (deleteReply L s item) bs g) in
+    subst (λ (x : ℕ). Changes L st 2 x 0 bs) (id-is 24 item)
+    (changed-changes L permitted st (store-exact L s st permitted bytesS .0 o .1) 2 (idOf 24 item) 0 (inr refl) (id-below 24 item bytesI) (power-positive 16) (λ e. refl) (m .below) bs (m .room) (m .bytes))

@@ -13,7 +13,7 @@ use lib.ListN.{length}
 use borrow.Author.Tests.{le-leb}
 use Rattle.codec.specs.Number.{Bytes, beAt}
 use Rattle.codec.specs.Reply.{Reply, gives}
-use Rattle.layout.specs.Knowledge.{Rules, Knowledge, All, Lawful}
+use Rattle.layout.specs.Knowledge.{Rules, Knowledge, All, Lawful, anyId}
 use Rattle.layout.specs.Permitted.{Permitted}
 use Rattle.layout.specs.Parse.{accepted, parse}
 use Rattle.layout.proofs.Parts.{all-map}
@@ -32,6 +32,7 @@ use Rattle.replication.specs.OpenBatch.{inSpan, lacksChange, openBatch}
 use Rattle.replication.specs.Operate.{selected, made}
 use Rattle.replication.specs.Calls.{makeReply}
 use Rattle.replication.specs.Lists.{outcome}
+use Rattle.replication.proofs.AgreeForm.{lawful-any}
 use Rattle.replication.proofs.Tables.{find-item, find-all, both-parts, both-holds, in-span}
 use Rattle.replication.proofs.TablesSelected.{kept, kept-in, selected-rising, find-selected, all-selected, selected-meets}
 use Rattle.replication.proofs.AgreeInvariant.{kept-some}
@@ -48,7 +49,7 @@ gives-outcome r bs e = rw e (rw (le-leb (length bs) (length bs) (omega arith), o
 
 pub record Makes (R : Rules) (st : Store) (k : Knowledge) (f l : ℕ) (bs : List ℕ) : Type 0 where
   pub batch : Batch
-  pub opens : openBatch R bs ≡ some batch
+  pub opens : openBatch (R .limits) bs ≡ accepted batch
   pub bytes : bs ≡ encodeBatch batch
   pub first : batch .first ≡ f
   pub last : batch .last ≡ l
@@ -66,7 +67,7 @@ pub record Makes (R : Rules) (st : Store) (k : Knowledge) (f l : ℕ) (bs : List
 
 -- ---- the records
 
-module _ (st : Store) (k : Knowledge) (f l : ℕ) (R : Rules) (v : LawfulStore R st) (top : l ≤ highest) where
+module _ (st : Store) (k : Knowledge) (f l : ℕ) (R : Rules) (v : LawfulStore (R .limits) st) (top : l ≤ highest) where
   -- the test that the records written meet
   abbrev meets : Rec → Type 0
   meets r = both (inSpan f l (r .item)) (lacksChange (normalise k) r) ≡ true
@@ -116,16 +117,16 @@ module _ (st : Store) (k : Knowledge) (f l : ℕ) (R : Rules) (v : LawfulStore R
 
 -- ---- the batch
 
-module _ (R : Rules) (st : Store) (k : Knowledge) (f l : ℕ) (v : LawfulStore R st) (lawful : Lawful R k) (span : f ≤ l) (top : l ≤ highest) where
-  pub made-lawful : Within R (made st k f l .needed) → Within R (made st k f l .learned) → length (made st k f l .records) ≤ R .limits .records → LawfulBatch R (made st k f l)
+module _ (R : Rules) (st : Store) (k : Knowledge) (f l : ℕ) (v : LawfulStore (R .limits) st) (lawful : Lawful R k) (span : f ≤ l) (top : l ≤ highest) where
+  pub made-lawful : Within (R .limits) (made st k f l .needed) → Within (R .limits) (made st k f l .learned) → length (made st k f l .records) ≤ R .limits .records → LawfulBatch (R .limits) (made st k f l)
   unfolding made
   made-lawful needed learned count =
       record {
         span = span;
         last = top-below l top;
-        neededLawful = lawful-normalise R k lawful (needed .ranges);
+        neededLawful = lawful-normalise (anyId (R .limits)) k (lawful-any R k lawful) (needed .ranges);
         neededNormal = normal-normalise k;
-        learnedLawful = lawful-project R f l (st .knowledge) (v .lawful) (learned .ranges);
+        learnedLawful = lawful-project (anyId (R .limits)) f l (st .knowledge) (v .lawful) (learned .ranges);
         learnedNormal = normal-project f l (st .knowledge);
         outside = λ i p h. ⊎-elim (known-project-below f l (st .knowledge) i p h) (known-project-above f l (st .knowledge) i p h);
         count = count;
@@ -147,12 +148,12 @@ module _ (R : Rules) (st : Store) (k : Knowledge) (f l : ℕ) (v : LawfulStore R
       taken : (P : Rec → Type 0) → All P (st .records) → All P chosen
       taken P a = all-selected P f l (normalise k) (st .records) a
 
-  pub made-makes : Permitted (R .limits) → (bs : List ℕ) → Within R (made st k f l .needed) → Within R (made st k f l .learned) → length (made st k f l .records) ≤ R .limits .records → bs ≡ encodeBatch (made st k f l) → Makes R st k f l bs
+  pub made-makes : Permitted (R .limits) → (bs : List ℕ) → Within (R .limits) (made st k f l .needed) → Within (R .limits) (made st k f l .learned) → length (made st k f l .records) ≤ R .limits .records → bs ≡ encodeBatch (made st k f l) → Makes R st k f l bs
   unfolding made
   made-makes permitted bs needed learned count bytes =
       record {
         batch = made st k f l;
-        opens = ap (openBatch R) bytes ∙ lawful-opens-batch R permitted (made st k f l) (made-lawful needed learned count);
+        opens = ap (openBatch (R .limits)) bytes ∙ lawful-opens-batch (R .limits) permitted (made st k f l) (made-lawful needed learned count);
         bytes = bytes;
         first = refl;
         last = refl;
@@ -167,12 +168,12 @@ module _ (R : Rules) (st : Store) (k : Knowledge) (f l : ℕ) (v : LawfulStore R
 accepted-same : (a b : Knowledge) → accepted a ≡ accepted b → a ≡ b
 accepted-same a b e = cc
 
-pub make-writes : (R : Rules) (s knowledge first last bs : List ℕ) (st : Store) (k : Knowledge) → Permitted (R .limits) → Bytes s → Bytes knowledge → Bytes last → openStore R s ≡ some st → parse R knowledge ≡ accepted k → makeReply R s knowledge first last ≡ gives bs → Makes R st k (beAt first 24 0) (beAt last 24 0) bs
+pub make-writes : (R : Rules) (s knowledge first last bs : List ℕ) (st : Store) (k : Knowledge) → Permitted (R .limits) → Bytes s → Bytes knowledge → Bytes last → openStore (R .limits) s ≡ accepted st → parse R knowledge ≡ accepted k → makeReply R s knowledge first last ≡ gives bs → Makes R st k (beAt first 24 0) (beAt last 24 0) bs
 make-writes R s knowledge first last bs st k permitted bytesS bytesK bytesL o p g =
     let m = make-met R s knowledge first last st (length bs) bs o (gives-outcome (makeReply R s knowledge first last) bs g) in
     subst (λ (x : ℕ). Makes R st k x (beAt last 24 0) bs) (id-is 24 first)
     (subst (λ (x : ℕ). Makes R st k (idOf 24 first) x bs) (id-is 24 last)
     (subst (λ (x : Knowledge). Makes R st x (idOf 24 first) (idOf 24 last) bs) (accepted-same (m .given) k (sym (m .reads) ∙ p))
-    (made-makes R st (m .given) (idOf 24 first) (idOf 24 last) (store-exact R s st permitted bytesS .0 o .1)
+    (made-makes R st (m .given) (idOf 24 first) (idOf 24 last) (store-exact (R .limits) s st permitted bytesS .0 o .1)
     (exact R permitted knowledge (m .given) bytesK .0 (m .reads) .1) (m .span) (below-top (idOf 24 last) (id-below 24 last bytesL))
     permitted bs (m .needed) (m .learned) (m .records) (m .bytes))))

@@ -6,12 +6,12 @@ use mathlib.Core.Path.{_≡_, refl, sym, ap, _∙_}
 use mathlib.Core.Logic.{_↔_}
 use mathlib.Core.Bool.{Bool, true, false, not}
 use mathlib.Core.List.{List, [], _∷_}
-use mathlib.Core.Option.{some}
+use mathlib.Core.Option.{Option, none, some}
 use native.Mathlib.Omega.{arith}
 use lib.Dec.{leb}
 use borrow.Author.Tests.{leb-true, leb-false}
 use Rattle.codec.specs.Number.{Bytes}
-use Rattle.layout.specs.Knowledge.{Rules, Knowledge, All}
+use Rattle.layout.specs.Knowledge.{Limits, anyId, Knowledge, All}
 use Rattle.layout.specs.Permitted.{Permitted}
 use Rattle.layout.proofs.Parts.{all-map}
 use Rattle.ticks.specs.Meaning.{highest, known, contains}
@@ -25,13 +25,14 @@ use Rattle.ticks.proofs.LawfulResults.{top-below, below-top}
 use Rattle.replication.specs.Formats.{Rec, Store, encodeStore, Batch, encodeBatch}
 use Rattle.replication.specs.Valid.{LawfulRec, ContainedIn, LawfulStore, LawfulBatch}
 use Rattle.replication.specs.Reading.{both}
-use Rattle.replication.specs.OpenStore.{versionsIn, openStore}
-use Rattle.replication.specs.OpenBatch.{inSpan, lacksChange, carried, openBatch}
+use Rattle.replication.specs.OpenStore.{decodeStore, versionsIn, validStore, ifValid, openStore}
+use Rattle.replication.specs.OpenBatch.{decodeBatch, inSpan, lacksChange, carried, validBatch, ifValidBatch, openBatch}
 use Rattle.replication.proofs.Tables.{ValidRec, valid-recs, both-parts, both-holds, in-span}
 use Rattle.replication.proofs.RecordBytes.{FitsRec}
 use Rattle.replication.proofs.StoreBytes.{store-open, store-opened, valid-store}
 use Rattle.replication.proofs.BatchBytes.{batch-open, batch-opened, valid-batch}
 use Rattle.replication.proofs.AgreeForm.{form-projected}
+use Rattle.codec.specs.Parsed.{accepted, Parsed, refused}
 
 -- ---- versions
 
@@ -132,11 +133,15 @@ rec-valid r l = record { created = l .createTick; order = l .order; changed = l 
 
 -- ---- stores
 
-module _ (R : Rules) (permitted : Permitted (R .limits)) (st : Store) where
-  store-lawful : (s : List ℕ) → Bytes s → openStore R s ≡ some st → (s ≡ encodeStore st) × LawfulStore R st
+refused-number : {A : Type 0} (t : Bool) (x : A) (m n : ℕ) → _≡_ {A = Parsed A} (elim t [ true ↦ accepted x | false ↦ refused m ]) (refused n) → n ≡ m
+refused-number true x m n e = absurd (let z : _≡_ {A = ℕ} 0 1 = cc in omega arith)
+refused-number false x m n e = cc
+
+module _ (L : Limits) (permitted : Permitted L) (st : Store) where
+  store-lawful : (s : List ℕ) → Bytes s → openStore L s ≡ accepted st → (s ≡ encodeStore st) × LawfulStore L st
   store-lawful s bytes e =
-      let o = store-opened R s st permitted bytes e in
-      let v = valid-store (R .limits) st .0 (o .1 .1) in
+      let o = store-opened L s st permitted bytes e in
+      let v = valid-store L st .0 (o .1 .1) in
       let n = normal-test (st .knowledge) .0 (v .normal) in
       let rs = valid-recs (versionsIn (st .knowledge)) 0 (st .records) .0 (v .records) in (
         o .0,
@@ -155,16 +160,16 @@ module _ (R : Rules) (permitted : Permitted (R .limits)) (st : Store) where
         },
       )
 
-  pub lawful-opens : LawfulStore R st → openStore R (encodeStore st) ≡ some st
+  pub lawful-opens : LawfulStore L st → openStore L (encodeStore st) ≡ accepted st
   lawful-opens l =
-      store-open R st permitted
+      store-open L st permitted
       (record {
         own = l .own;
         knowledge = l .lawful;
         count = omega (arith, l .count, permitted .records);
         records = all-map LawfulRec FitsRec rec-fits (st .records) (l .records);
       })
-      (valid-store (R .limits) st .1 (record {
+      (valid-store L st .1 (record {
         count = l .count;
         normal = normal-test (st .knowledge) .1 (l .normal);
         alike = alike-exact (st .knowledge) (st .own) (normal-sound (st .knowledge) (l .normal)) .1 (record { known = l .alike });
@@ -180,16 +185,38 @@ module _ (R : Rules) (permitted : Permitted (R .limits)) (st : Store) where
             );
       }))
 
-pub store-exact : (R : Rules) (s : List ℕ) (st : Store) → Permitted (R .limits) → Bytes s → (openStore R s ≡ some st) ↔ ((s ≡ encodeStore st) × LawfulStore R st)
-store-exact R s st permitted bytes = (store-lawful R permitted st s bytes, λ h. ap (openStore R) (h .0) ∙ lawful-opens R permitted st (h .1))
+pub store-exact : (L : Limits) (s : List ℕ) (st : Store) → Permitted L → Bytes s → (openStore L s ≡ accepted st) ↔ ((s ≡ encodeStore st) × LawfulStore L st)
+store-exact L s st permitted bytes = (store-lawful L permitted st s bytes, λ h. ap (openStore L) (h .0) ∙ lawful-opens L permitted st (h .1))
+
+-- 15, and no other number, where the bytes are of no store that meets the list
+pub store-number : (L : Limits) (s : List ℕ) (n : ℕ) → openStore L s ≡ refused n → n ≡ 15
+unfolding openStore ifValid
+store-number L s n e = go (decodeStore L s) e
+  where
+    go : (o : Option Store) → ifValid L o ≡ refused n → n ≡ 15
+    go none e = cc
+    go (some st) e = refused-number (validStore L st) st 15 n e
+
+pub store-15 : (L : Limits) (s : List ℕ) → Permitted L → Bytes s → (openStore L s ≡ refused 15) ↔ ((st : Store) → s ≡ encodeStore st → LawfulStore L st → ⊥)
+store-15 L s permitted bytes = (
+  λ e st h l.
+      let f : openStore L s ≡ accepted st = store-exact L s st permitted bytes .1 (h, l) in
+      let z : _≡_ {A = ℕ} 0 1 = cc in
+      omega arith,
+  λ h. go (openStore L s) refl h,
+)
+  where
+    go : (o : Parsed Store) → openStore L s ≡ o → ((st : Store) → s ≡ encodeStore st → LawfulStore L st → ⊥) → openStore L s ≡ refused 15
+    go (refused n) e h = e ∙ ap refused (store-number L s n e)
+    go (accepted st) e h = let x = store-exact L s st permitted bytes .0 e in absurd (h st (x .0) (x .1))
 
 -- ---- batches
 
-module _ (R : Rules) (permitted : Permitted (R .limits)) (b : Batch) where
-  batch-lawful : (t : List ℕ) → Bytes t → openBatch R t ≡ some b → (t ≡ encodeBatch b) × LawfulBatch R b
+module _ (L : Limits) (permitted : Permitted L) (b : Batch) where
+  batch-lawful : (t : List ℕ) → Bytes t → openBatch L t ≡ accepted b → (t ≡ encodeBatch b) × LawfulBatch L b
   batch-lawful t bytes e =
-      let o = batch-opened R t b permitted bytes e in
-      let v = valid-batch (R .limits) b .0 (o .1 .1) in
+      let o = batch-opened L t b permitted bytes e in
+      let v = valid-batch L b .0 (o .1 .1) in
       let rs = valid-recs (carried b) 0 (b .records) .0 (v .records) in
       let same : project (b .first) (b .last) (b .learned) ≡ b .learned =
       eqKnowledge-sound (project (b .first) (b .last) (b .learned)) (b .learned) (v .projected) in (
@@ -223,10 +250,10 @@ module _ (R : Rules) (permitted : Permitted (R .limits)) (b : Batch) where
           go true h = absurd (carried-exact b r .0 e .1 .1 .1 .1 .1 .1 (leb-true (r .changeTick) (known (b .needed) (r .item) (r .changeReplica)) h))
           go false h = leb-false (r .changeTick) (known (b .needed) (r .item) (r .changeReplica)) h
 
-  pub lawful-opens-batch : LawfulBatch R b → openBatch R (encodeBatch b) ≡ some b
+  pub lawful-opens-batch : LawfulBatch L b → openBatch L (encodeBatch b) ≡ accepted b
   lawful-opens-batch l =
       let top : b .last ≤ highest = below-top (b .last) (l .last) in
-      batch-open R b permitted
+      batch-open L b permitted
       (record {
         first = top-below (b .first) (omega (arith, l .span, top));
         last = l .last;
@@ -235,12 +262,12 @@ module _ (R : Rules) (permitted : Permitted (R .limits)) (b : Batch) where
         count = omega (arith, l .count, permitted .records);
         records = all-map LawfulRec FitsRec rec-fits (b .records) (l .records);
       })
-      (valid-batch (R .limits) b .1 (record {
+      (valid-batch L b .1 (record {
         count = l .count;
         span = l .span;
         needed = normal-test (b .needed) .1 (l .neededNormal);
         learned = normal-test (b .learned) .1 (l .learnedNormal);
-        projected = form-projected R (b .first) (b .last) (b .learned) (record { lawful = l .learnedLawful; normal = l .learnedNormal }) (l .outside);
+        projected = form-projected L (b .first) (b .last) (b .learned) (record { lawful = l .learnedLawful; normal = l .learnedNormal }) (l .outside);
         records =
             valid-recs (carried b) 0 (b .records) .1 (
               l .rising,
@@ -257,5 +284,27 @@ module _ (R : Rules) (permitted : Permitted (R .limits)) (b : Batch) where
             (c .0 .1, (omega (arith, a .createTick, a .order), (c .1 .0 .change, (a .createTick, (c .1 .0 .create, λ m. omega (arith, c .1 .1, m)))))),
           )
 
-pub batch-exact : (R : Rules) (t : List ℕ) (b : Batch) → Permitted (R .limits) → Bytes t → (openBatch R t ≡ some b) ↔ ((t ≡ encodeBatch b) × LawfulBatch R b)
-batch-exact R t b permitted bytes = (batch-lawful R permitted b t bytes, λ h. ap (openBatch R) (h .0) ∙ lawful-opens-batch R permitted b (h .1))
+pub batch-exact : (L : Limits) (t : List ℕ) (b : Batch) → Permitted L → Bytes t → (openBatch L t ≡ accepted b) ↔ ((t ≡ encodeBatch b) × LawfulBatch L b)
+batch-exact L t b permitted bytes = (batch-lawful L permitted b t bytes, λ h. ap (openBatch L) (h .0) ∙ lawful-opens-batch L permitted b (h .1))
+
+-- 16 likewise
+pub batch-number : (L : Limits) (t : List ℕ) (n : ℕ) → openBatch L t ≡ refused n → n ≡ 16
+unfolding openBatch ifValidBatch
+batch-number L t n e = go (decodeBatch L t) e
+  where
+    go : (o : Option Batch) → ifValidBatch L o ≡ refused n → n ≡ 16
+    go none e = cc
+    go (some b) e = refused-number (validBatch L b) b 16 n e
+
+pub batch-16 : (L : Limits) (t : List ℕ) → Permitted L → Bytes t → (openBatch L t ≡ refused 16) ↔ ((b : Batch) → t ≡ encodeBatch b → LawfulBatch L b → ⊥)
+batch-16 L t permitted bytes = (
+  λ e b h l.
+      let f : openBatch L t ≡ accepted b = batch-exact L t b permitted bytes .1 (h, l) in
+      let z : _≡_ {A = ℕ} 0 1 = cc in
+      omega arith,
+  λ h. go (openBatch L t) refl h,
+)
+  where
+    go : (o : Parsed Batch) → openBatch L t ≡ o → ((b : Batch) → t ≡ encodeBatch b → LawfulBatch L b → ⊥) → openBatch L t ≡ refused 16
+    go (refused n) e h = e ∙ ap refused (batch-number L t n e)
+    go (accepted b) e h = let x = batch-exact L t b permitted bytes .0 e in absurd (h b (x .0) (x .1))

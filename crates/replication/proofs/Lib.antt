@@ -25,7 +25,6 @@ pub mod ContentsMake
 pub mod ContentsEdit
 pub mod ContentsApply
 pub mod Demand3
-pub mod AgreeRefusals
 pub mod QueriesPlaces
 pub mod QueriesWalk
 pub mod QueriesWinner

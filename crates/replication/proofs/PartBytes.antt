@@ -13,6 +13,7 @@ use Rattle.codec.proofs.Numbers.{cons-bytes}
 use Rattle.layout.proofs.Chain.{Stands, stands-length}
 use Rattle.replication.specs.Reading.{both}
 use Rattle.replication.proofs.Tables.{both-parts}
+use Rattle.codec.specs.Parsed.{Parsed, accepted, refused}
 
 -- ---- parts that stand at a place
 
@@ -59,6 +60,10 @@ part-bytes s n at b = take-bytes n (drop at s) (drop-bytes at s b)
 -- ---- tests
 
 -- a value came out of a test: the test was true
+pub valid-back : {A : Type 0} (t : Bool) (x y : A) (n : ℕ) → _≡_ {A = Parsed A} (elim t [ true ↦ accepted x | false ↦ refused n ]) (accepted y) → (t ≡ true) × (x ≡ y)
+valid-back true x y n e = (refl, cc)
+valid-back false x y n e = absurd (let z : _≡_ {A = ℕ} 0 1 = cc in omega arith)
+
 pub test-back : {A : Type 0} (t : Bool) (o : Option A) (x : A) (C : Type 0) →
     _≡_ {A = Option A} (elim t [ true ↦ o | false ↦ none ]) (some x) → (t ≡ true → o ≡ some x → C) → C
 test-back true o x C e k = k refl e

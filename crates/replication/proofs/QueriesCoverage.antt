@@ -18,14 +18,16 @@ use Rattle.codec.proofs.Replies.{fault-here, fault-later, fault-none}
 use Rattle.layout.specs.Knowledge.{Rules, Knowledge}
 use Rattle.layout.specs.Parse.{Parsed, accepted, refused, parse}
 use Rattle.ticks.specs.Meaning.{emptyKnowledge, known, contains}
-use Rattle.ticks.specs.Calls.{line, readAs, ownFault}
+use Rattle.ticks.specs.Calls.{line, readAs, ownFault, readOr}
 use Rattle.ticks.proofs.Algebra.{contains-yes, contains-exact}
 use Rattle.codec.proofs.Replies.{read-accepted}
 use Rattle.codec.proofs.Replies.{read-fault, read-fine}
 use Rattle.replication.specs.Formats.{Rec, Store}
 use Rattle.replication.specs.OpenStore.{openStore}
-use Rattle.replication.specs.Calls.{noStore, storeOr}
-use Rattle.replication.specs.Queries.{Coverage, covered, coverageNumber, coverageContained, coverageAll, coverageThousandths, countIn, thousandths, coveredOr, coverageAnswer}
+use Rattle.replication.specs.Calls.{storeOr}
+use Rattle.replication.specs.Queries.{coverageNumber, coverageContained, coverageAll, coverageThousandths, countIn, thousandths, coverageAnswer}
+use Rattle.replication.specs.declared.Coverage.{Coverage}
+use Rattle.replication.specs.declared.Coverage.the-variants as G
 
 -- ---- counting
 
@@ -100,7 +102,7 @@ thousandths-high inside all h =
 pub record CoverageIs (k : Knowledge) (rs : List Rec) (a : Coverage) : Type 0 where
   pub inside : ℕ
   pub rate : ℕ
-  pub is : a ≡ covered inside (length rs) rate
+  pub is : a ≡ G.Covered inside (length rs) rate
   pub counts : Counts k rs inside
   pub noRecords : length rs ≡ 0 → rate ≡ 1000
   pub low : 0 < length rs → rate * length rs ≤ 1000 * inside
@@ -112,13 +114,13 @@ pub record CoverageIs (k : Knowledge) (rs : List Rec) (a : Coverage) : Type 0 wh
 
 -- a refusal: its number, and no value changes
 pub record NoCoverage (n : ℕ) (a : Coverage) : Type 0 where
-  pub is : a ≡ Coverage.refusal n
+  pub is : a ≡ G.Refused n
   pub number : coverageNumber a ≡ n
   pub contained : (old : ℕ) → coverageContained a old ≡ old
   pub all : (old : ℕ) → coverageAll a old ≡ old
   pub thousandths : (old : ℕ) → coverageThousandths a old ≡ old
 
-coverage-is : (k : Knowledge) (rs : List Rec) (a : Coverage) → a ≡ covered (countIn k rs) (length rs) (thousandths (countIn k rs) (length rs)) → CoverageIs k rs a
+coverage-is : (k : Knowledge) (rs : List Rec) (a : Coverage) → a ≡ G.Covered (countIn k rs) (length rs) (thousandths (countIn k rs) (length rs)) → CoverageIs k rs a
 unfolding coverageNumber coverageContained coverageAll coverageThousandths
 coverage-is k rs a e = record {
   inside = countIn k rs;
@@ -134,7 +136,7 @@ coverage-is k rs a e = record {
   thousandths = λ old. ap (λ (c : Coverage). coverageThousandths c old) e;
 }
 
-no-coverage : (n : ℕ) (a : Coverage) → a ≡ Coverage.refusal n → NoCoverage n a
+no-coverage : (n : ℕ) (a : Coverage) → a ≡ G.Refused n → NoCoverage n a
 unfolding coverageNumber coverageContained coverageAll coverageThousandths
 no-coverage n a e = record {
   is = e;
@@ -145,59 +147,61 @@ no-coverage n a e = record {
 }
 
 measured : Knowledge → List Rec → Coverage
-measured k rs = covered (countIn k rs) (length rs) (thousandths (countIn k rs) (length rs))
+measured k rs = G.Covered (countIn k rs) (length rs) (thousandths (countIn k rs) (length rs))
 
-told : Option Store → Parsed Knowledge → Coverage
-told o p = coveredOr (measured (readAs p) (storeOr o .records)) (firstFault refuses (line 15 (noStore o) ∷ ownFault p ∷ []) (gives []))
+told : Parsed Store → Parsed Knowledge → Coverage
+told o p = firstFault G.Refused (ownFault o ∷ ownFault p ∷ []) (measured (readAs p) (storeOr o .records))
 
-told-is : (R : Rules) (s t : List ℕ) (o : Option Store) (p : Parsed Knowledge) → openStore R s ≡ o → parse R t ≡ p → coverageAnswer R s t ≡ told o p
+told-is : (R : Rules) (s t : List ℕ) (o : Parsed Store) (p : Parsed Knowledge) → openStore (R .limits) s ≡ o → parse R t ≡ p → coverageAnswer R s t ≡ told o p
 unfolding coverageAnswer told measured
 told-is R s t o p e f = ap₂ told e f
 
-told-15 : (p : Parsed Knowledge) → told none p ≡ Coverage.refusal 15
-unfolding told noStore coveredOr
-told-15 p = ap (coveredOr (measured (readAs p) (storeOr none .records))) (fault-here refuses (line 15 true) (ownFault p ∷ []) (gives []) refl)
+told-store : (n : ℕ) (p : Parsed Knowledge) → told (refused n) p ≡ G.Refused n
+unfolding told
+told-store n p = read-fault Store G.Refused n (ownFault p ∷ []) (measured (readAs p) (storeOr (refused n) .records))
 
-told-own : (st : Store) (n : ℕ) → told (some st) (refused n) ≡ Coverage.refusal n
-unfolding told noStore coveredOr
+told-own : (st : Store) (n : ℕ) → told (accepted st) (refused n) ≡ G.Refused n
+unfolding told
 told-own st n =
-    ap (coveredOr (measured (readAs (refused n)) (storeOr (some st) .records)))
-    (fault-later refuses (line 15 false) (ownFault (refused n) ∷ []) (gives []) refl ∙ read-fault Knowledge refuses n [] (gives []))
+    let found = measured (readAs (refused n)) (storeOr (accepted st) .records) in
+    read-fine G.Refused st (ownFault (refused n) ∷ []) found ∙ read-fault Knowledge G.Refused n [] found
 
-told-measured : (st : Store) (k : Knowledge) → told (some st) (accepted k) ≡ measured k (st .records)
-unfolding told noStore storeOr coveredOr
+told-measured : (st : Store) (k : Knowledge) → told (accepted st) (accepted k) ≡ measured k (st .records)
+unfolding told readOr
 told-measured st k =
-    ap (coveredOr (measured (readAs (accepted k)) (st .records)))
-    (fault-later refuses (line 15 false) (ownFault (accepted k) ∷ []) (gives []) refl ∙ read-fine refuses k [] (gives []) ∙ fault-none refuses [] (gives []) tt)
-    ∙ ap (λ (l : Knowledge). measured l (st .records)) (read-accepted emptyKnowledge k)
+    let found = measured k (st .records) in
+    read-fine G.Refused st (ownFault (accepted k) ∷ []) found ∙ read-fine G.Refused k [] found ∙ fault-none G.Refused [] found tt
 
 -- the coverage, where nothing is refused
-pub coverage-exact : (R : Rules) (s t : List ℕ) (st : Store) (k : Knowledge) → openStore R s ≡ some st → parse R t ≡ accepted k → CoverageIs k (st .records) (coverageAnswer R s t)
+pub coverage-exact : (R : Rules) (s t : List ℕ) (st : Store) (k : Knowledge) → openStore (R .limits) s ≡ accepted st → parse R t ≡ accepted k → CoverageIs k (st .records) (coverageAnswer R s t)
 unfolding measured
 coverage-exact R s t st k o p =
-    coverage-is k (st .records) (coverageAnswer R s t) (told-is R s t (some st) (accepted k) o p ∙ told-measured st k)
+    coverage-is k (st .records) (coverageAnswer R s t) (told-is R s t (accepted st) (accepted k) o p ∙ told-measured st k)
 
--- 15, then the knowledge's own fault
-pub coverage-15 : (R : Rules) (s t : List ℕ) → openStore R s ≡ none → NoCoverage 15 (coverageAnswer R s t)
-coverage-15 R s t o = no-coverage 15 (coverageAnswer R s t) (told-is R s t none (parse R t) o refl ∙ told-15 (parse R t))
+-- the store's own number, then the knowledge's
+pub coverage-store : (R : Rules) (s t : List ℕ) (n : ℕ) → openStore (R .limits) s ≡ refused n → NoCoverage n (coverageAnswer R s t)
+coverage-store R s t n o = no-coverage n (coverageAnswer R s t) (told-is R s t (refused n) (parse R t) o refl ∙ told-store n (parse R t))
 
-pub coverage-own : (R : Rules) (s t : List ℕ) (st : Store) (n : ℕ) → openStore R s ≡ some st → parse R t ≡ refused n → NoCoverage n (coverageAnswer R s t)
-coverage-own R s t st n o p = no-coverage n (coverageAnswer R s t) (told-is R s t (some st) (refused n) o p ∙ told-own st n)
+pub coverage-own : (R : Rules) (s t : List ℕ) (st : Store) (n : ℕ) → openStore (R .limits) s ≡ accepted st → parse R t ≡ refused n → NoCoverage n (coverageAnswer R s t)
+coverage-own R s t st n o p = no-coverage n (coverageAnswer R s t) (told-is R s t (accepted st) (refused n) o p ∙ told-own st n)
 
 -- and on no other condition
-pub coverage-refused : (R : Rules) (s t : List ℕ) (n : ℕ) → (coverageAnswer R s t ≡ Coverage.refusal n) ↔ (((n ≡ 15) × (openStore R s ≡ none)) ⊎ (((st : Store) × (openStore R s ≡ some st)) × (parse R t ≡ refused n)))
-coverage-refused R s t n = (go (openStore R s) (parse R t) refl refl, back)
+pub coverage-refused : (R : Rules) (s t : List ℕ) (n : ℕ) → (coverageAnswer R s t ≡ G.Refused n) ↔ ((openStore (R .limits) s ≡ refused n) ⊎ (((st : Store) × (openStore (R .limits) s ≡ accepted st)) × (parse R t ≡ refused n)))
+coverage-refused R s t n = (go (openStore (R .limits) s) (parse R t) refl refl, back)
   where
-    go : (o : Option Store) (p : Parsed Knowledge) → openStore R s ≡ o → parse R t ≡ p → coverageAnswer R s t ≡ Coverage.refusal n → ((n ≡ 15) × (openStore R s ≡ none)) ⊎ (((st : Store) × (openStore R s ≡ some st)) × (parse R t ≡ refused n))
-    go none p e f h = let w = coverage-15 R s t e .is in inl (cc, e)
-    go (some st) (refused m) e f h =
+    go : (o : Parsed Store) (p : Parsed Knowledge) → openStore (R .limits) s ≡ o → parse R t ≡ p → coverageAnswer R s t ≡ G.Refused n → (openStore (R .limits) s ≡ refused n) ⊎ (((st : Store) × (openStore (R .limits) s ≡ accepted st)) × (parse R t ≡ refused n))
+    go (refused m) p e f h =
+        let w = coverage-store R s t m e .is in
+        let q : m ≡ n = cc in
+        inl (e ∙ ap refused q)
+    go (accepted st) (refused m) e f h =
         let w = coverage-own R s t st m e f .is in
         let q : m ≡ n = cc in
         inr ((st, e), f ∙ ap refused q)
-    go (some st) (accepted k) e f h =
+    go (accepted st) (accepted k) e f h =
         let w = coverage-exact R s t st k e f .is in
         absurd (let z : _≡_ {A = ℕ} 0 1 = cc in omega arith)
 
-    back : ((n ≡ 15) × (openStore R s ≡ none)) ⊎ (((st : Store) × (openStore R s ≡ some st)) × (parse R t ≡ refused n)) → coverageAnswer R s t ≡ Coverage.refusal n
-    back (inl h) = coverage-15 R s t (h .1) .is ∙ ap Coverage.refusal (sym (h .0))
+    back : (openStore (R .limits) s ≡ refused n) ⊎ (((st : Store) × (openStore (R .limits) s ≡ accepted st)) × (parse R t ≡ refused n)) → coverageAnswer R s t ≡ G.Refused n
+    back (inl h) = coverage-store R s t n h .is
     back (inr h) = coverage-own R s t (h .0 .0) n (h .0 .1) (h .1) .is

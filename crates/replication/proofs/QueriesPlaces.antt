@@ -7,7 +7,7 @@ use mathlib.Core.List.{List, [], _++_}
 use mathlib.Core.Option.{some}
 use lib.ListN.{length}
 use Rattle.codec.specs.Number.{Bytes, beAt}
-use Rattle.layout.specs.Knowledge.{Rules, All, encode}
+use Rattle.layout.specs.Knowledge.{Limits, anyId, All, encode}
 use Rattle.layout.specs.Permitted.{Permitted}
 use Rattle.layout.proofs.Chain.{Stands, stands-whole, over, reads}
 use Rattle.replication.specs.Formats.{putRecs, Store, encodeStore, Batch, encodeBatch}
@@ -17,6 +17,7 @@ use Rattle.replication.proofs.PartBytes.{part-over}
 use Rattle.replication.proofs.RecordBytes.{FitsRec}
 use Rattle.replication.proofs.StoreBytes.{FitsStore, store-opened, length-fits}
 use Rattle.replication.proofs.BatchBytes.{FitsBatch, batch-opened}
+use Rattle.codec.specs.Parsed.{accepted}
 
 -- ---- stores
 
@@ -25,22 +26,22 @@ pub record StorePlaces (s : List ℕ) (st : Store) : Type 0 where
   pub records : Stands s (25 + length (encode (st .knowledge))) (putRecs (st .records) [])
   pub fits : All FitsRec (st .records)
 
-encoded-store : (R : Rules) (st : Store) → Permitted (R .limits) → FitsStore R st → StorePlaces (encodeStore st) st
+encoded-store : (L : Limits) (st : Store) → Permitted L → FitsStore L st → StorePlaces (encodeStore st) st
 unfolding encodeStore
-encoded-store R st p f =
+encoded-store L st p f =
     let s = encodeStore st in
     let size = over s 1 16 (st .own) _ (over s 0 1 3 _ (stands-whole s)) in
     let whole = over s 21 4 (length (st .records)) _ (over s 17 4 (length (encode (st .knowledge))) _ size) in
     record {
-      knowledge = reads s 17 4 (length (encode (st .knowledge))) _ size (length-fits R (st .knowledge) p (f .knowledge));
+      knowledge = reads s 17 4 (length (encode (st .knowledge))) _ size (length-fits L (st .knowledge) p (f .knowledge));
       records = part-over s 25 (encode (st .knowledge)) (putRecs (st .records) []) whole;
       fits = f .records;
     }
 
-pub store-places : (R : Rules) (s : List ℕ) (st : Store) → Permitted (R .limits) → Bytes s → openStore R s ≡ some st → StorePlaces s st
-store-places R s st p b e =
-    let o = store-opened R s st p b e in
-    subst (λ (t : List ℕ). StorePlaces t st) (sym (o .0)) (encoded-store R st p (o .1 .0))
+pub store-places : (L : Limits) (s : List ℕ) (st : Store) → Permitted L → Bytes s → openStore L s ≡ accepted st → StorePlaces s st
+store-places L s st p b e =
+    let o = store-opened L s st p b e in
+    subst (λ (t : List ℕ). StorePlaces t st) (sym (o .0)) (encoded-store L st p (o .1 .0))
 
 -- ---- batches
 
@@ -51,9 +52,9 @@ pub record BatchPlaces (s : List ℕ) (b : Batch) : Type 0 where
   pub records : Stands s (61 + length (encode (b .needed)) + length (encode (b .learned))) (putRecs (b .records) [])
   pub fits : All FitsRec (b .records)
 
-encoded-batch : (R : Rules) (b : Batch) → Permitted (R .limits) → FitsBatch R b → BatchPlaces (encodeBatch b) b
+encoded-batch : (L : Limits) (b : Batch) → Permitted L → FitsBatch L b → BatchPlaces (encodeBatch b) b
 unfolding encodeBatch
-encoded-batch R b p f =
+encoded-batch L b p f =
     let s = encodeBatch b in
     let n = length (encode (b .needed)) in
     let m = length (encode (b .learned)) in
@@ -62,14 +63,14 @@ encoded-batch R b p f =
     let whole = over s 57 4 (length (b .records)) _ (over s 53 4 m _ two) in
     let learned = part-over s 61 (encode (b .needed)) (encode (b .learned) ++ putRecs (b .records) []) whole in
     record {
-      needed = reads s 49 4 n _ one (length-fits R (b .needed) p (f .needed));
-      size = reads s 53 4 m _ two (length-fits R (b .learned) p (f .learned));
+      needed = reads s 49 4 n _ one (length-fits L (b .needed) p (f .needed));
+      size = reads s 53 4 m _ two (length-fits L (b .learned) p (f .learned));
       learned = learned;
       records = part-over s (61 + n) (encode (b .learned)) (putRecs (b .records) []) learned;
       fits = f .records;
     }
 
-pub batch-places : (R : Rules) (s : List ℕ) (b : Batch) → Permitted (R .limits) → Bytes s → openBatch R s ≡ some b → BatchPlaces s b
-batch-places R s b p y e =
-    let o = batch-opened R s b p y e in
-    subst (λ (t : List ℕ). BatchPlaces t b) (sym (o .0)) (encoded-batch R b p (o .1 .0))
+pub batch-places : (L : Limits) (s : List ℕ) (b : Batch) → Permitted L → Bytes s → openBatch L s ≡ accepted b → BatchPlaces s b
+batch-places L s b p y e =
+    let o = batch-opened L s b p y e in
+    subst (λ (t : List ℕ). BatchPlaces t b) (sym (o .0)) (encoded-batch L b p (o .1 .0))

@@ -16,7 +16,7 @@ use lib.ListN.{length, getD, drop, length-drop}
 use borrow.Author.Tests.{le-leb}
 use Rattle.codec.specs.Number.{Bytes, beAt}
 use Rattle.codec.proofs.Reading.{be-one}
-use Rattle.layout.specs.Knowledge.{Rules, All, encode}
+use Rattle.layout.specs.Knowledge.{Limits, anyId, All, encode}
 use Rattle.layout.specs.Permitted.{Permitted}
 use Rattle.layout.proofs.Chain.{Stands, stands-length}
 use Rattle.replication.specs.Formats.{Rec, putRec, putRecs, Store, Batch}
@@ -28,6 +28,7 @@ use Rattle.replication.specs.Queries.{walkFrom, toGive}
 use Rattle.replication.proofs.RecordBytes.{FitsRec, whole-back, kind-length, kind-reads, rec-length, rec-reads, rec-over}
 use Rattle.replication.proofs.ContentsValid.{rec-fits}
 use Rattle.replication.proofs.QueriesPlaces.{store-places, batch-places}
+use Rattle.codec.specs.Parsed.{accepted}
 
 -- a whole record of a known kind stands at the place
 pub record RecordHere (s : List ℕ) (at : ℕ) : Type 0 where
@@ -119,13 +120,13 @@ walk-table s at (r ∷ rs) f h =
     ∙ ap {B = List Rec} (λ qs. r ∷ qs) (walk-table s (at + 89) rs (f .1) (rec-over s at r (putRecs rs []) h))
 
 -- over a valid store, from its first record on, its records are given
-pub walk-store : (R : Rules) (s : List ℕ) (st : Store) → Permitted (R .limits) → Bytes s → openStore R s ≡ some st → toGive s (25 + length (encode (st .knowledge))) ≡ st .records
-walk-store R s st p b e =
-    let h = store-places R s st p b e in
+pub walk-store : (L : Limits) (s : List ℕ) (st : Store) → Permitted L → Bytes s → openStore L s ≡ accepted st → toGive s (25 + length (encode (st .knowledge))) ≡ st .records
+walk-store L s st p b e =
+    let h = store-places L s st p b e in
     walk-table s (25 + length (encode (st .knowledge))) (st .records) (h .fits) (h .records)
 
 -- over a valid batch too
-pub walk-batch : (R : Rules) (s : List ℕ) (b : Batch) → Permitted (R .limits) → Bytes s → openBatch R s ≡ some b → toGive s (61 + length (encode (b .needed)) + length (encode (b .learned))) ≡ b .records
-walk-batch R s b p y e =
-    let h = batch-places R s b p y e in
+pub walk-batch : (L : Limits) (s : List ℕ) (b : Batch) → Permitted L → Bytes s → openBatch L s ≡ accepted b → toGive s (61 + length (encode (b .needed)) + length (encode (b .learned))) ≡ b .records
+walk-batch L s b p y e =
+    let h = batch-places L s b p y e in
     walk-table s (61 + length (encode (b .needed)) + length (encode (b .learned))) (b .records) (h .fits) (h .records)

@@ -18,8 +18,8 @@ use borrow.Author.Tests.{lt-ltb, le-ltb, eq-eqb, ne-eqb}
 use Rattle.codec.specs.Number.{Bytes, beAt, put}
 use Rattle.codec.specs.Reply.{gives, firstFault, refuses}
 use Rattle.codec.proofs.Numbers.{put-append}
-use Rattle.codec.proofs.Replies.{fault-here, fault-later, fault-none}
-use Rattle.layout.specs.Knowledge.{Rules, All, encode}
+use Rattle.codec.proofs.Replies.{fault-here, fault-later, fault-none, read-fine, read-fault}
+use Rattle.layout.specs.Knowledge.{Limits, anyId, All, encode}
 use Rattle.layout.specs.Permitted.{Permitted}
 use Rattle.layout.proofs.Chain.{Stands}
 use Rattle.ticks.specs.Calls.{line, idOf, wrongLength}
@@ -31,12 +31,15 @@ use Rattle.replication.specs.Reading.{recAt, recLength}
 use Rattle.replication.specs.OpenStore.{openStore}
 use Rattle.replication.specs.OpenBatch.{openBatch}
 use Rattle.replication.specs.Operate.{wins}
-use Rattle.replication.specs.Calls.{noStore, storeOr, noBatch, batchOr}
-use Rattle.replication.specs.Queries.{Part, nothing, ofStore, ofBatch, partBytes, partNumber, partSide, partAtPlace, partLength, placeOf, storeTable, batchTable, partAt, sideOf, orRefused, winnerPart, learnedPart}
+use Rattle.replication.specs.Calls.{storeOr, batchOr}
+use Rattle.replication.specs.Queries.{partBytes, partNumber, partSide, partAtPlace, partLength, placeOf, storeTable, batchTable, partAt, sideOf, winnerPart, learnedPart}
 use Rattle.replication.proofs.PartBytes.{part-reads}
 use Rattle.replication.proofs.RecordBytes.{FitsRec, rec-length, rec-reads, rec-step, rec-over}
 use Rattle.replication.proofs.Tables.{find-nil, here, there, finds, not-found}
 use Rattle.replication.proofs.QueriesPlaces.{store-places, batch-places}
+use Rattle.codec.specs.Parsed.{accepted, refused, Parsed, readOr, ownFault}
+use Rattle.replication.specs.declared.Part.{Part}
+use Rattle.replication.specs.declared.Part.the-variants as P
 
 -- ---- a record's bytes
 
@@ -93,7 +96,7 @@ placed-bytes s at r p =
 
 -- an item on neither side: the part is empty, the number is 0 and all values are 0
 pub record NoPart (p : Part) : Type 0 where
-  pub is : p ≡ nothing
+  pub is : p ≡ P.Nothing
   pub part : (s batch : List ℕ) → partBytes p s batch ≡ []
   pub number : partNumber p ≡ 0
   pub side : (old : ℕ) → partSide p old ≡ 0
@@ -104,7 +107,7 @@ pub record NoPart (p : Part) : Type 0 where
 pub record StorePart (s w : List ℕ) (p : Part) : Type 0 where
   pub at : ℕ
   pub count : ℕ
-  pub is : p ≡ ofStore at count
+  pub is : p ≡ P.OfStore at count
   pub inside : at + count ≤ length s
   pub bytes : take count (drop at s) ≡ w
   pub part : (batch : List ℕ) → partBytes p s batch ≡ w
@@ -117,7 +120,7 @@ pub record StorePart (s w : List ℕ) (p : Part) : Type 0 where
 pub record BatchPart (t w : List ℕ) (p : Part) : Type 0 where
   pub at : ℕ
   pub count : ℕ
-  pub is : p ≡ ofBatch at count
+  pub is : p ≡ P.OfBatch at count
   pub inside : at + count ≤ length t
   pub bytes : take count (drop at t) ≡ w
   pub part : (s : List ℕ) → partBytes p s t ≡ w
@@ -128,14 +131,14 @@ pub record BatchPart (t w : List ℕ) (p : Part) : Type 0 where
 
 -- a refusal: the part is empty, the number is the refusal's, and no value changes
 pub record NoPartBut (n : ℕ) (p : Part) : Type 0 where
-  pub is : p ≡ Part.refusal n
+  pub is : p ≡ P.Refused n
   pub part : (s batch : List ℕ) → partBytes p s batch ≡ []
   pub number : partNumber p ≡ n
   pub side : (old : ℕ) → partSide p old ≡ old
   pub place : (old : ℕ) → partAtPlace p old ≡ old
   pub size : (old : ℕ) → partLength p old ≡ old
 
-no-part : (p : Part) → p ≡ nothing → NoPart p
+no-part : (p : Part) → p ≡ P.Nothing → NoPart p
 unfolding partBytes partNumber partSide partAtPlace partLength
 no-part p e = record {
   is = e;
@@ -146,7 +149,7 @@ no-part p e = record {
   size = λ old. ap (λ (q : Part). partLength q old) e;
 }
 
-store-part : (s w : List ℕ) (p : Part) (at n : ℕ) → p ≡ ofStore at n → at + n ≤ length s → take n (drop at s) ≡ w → StorePart s w p
+store-part : (s w : List ℕ) (p : Part) (at n : ℕ) → p ≡ P.OfStore at n → at + n ≤ length s → take n (drop at s) ≡ w → StorePart s w p
 unfolding partBytes partNumber partSide partAtPlace partLength
 store-part s w p at n e l b = record {
   at = at;
@@ -161,7 +164,7 @@ store-part s w p at n e l b = record {
   size = λ old. ap (λ (q : Part). partLength q old) e;
 }
 
-batch-part : (t w : List ℕ) (p : Part) (at n : ℕ) → p ≡ ofBatch at n → at + n ≤ length t → take n (drop at t) ≡ w → BatchPart t w p
+batch-part : (t w : List ℕ) (p : Part) (at n : ℕ) → p ≡ P.OfBatch at n → at + n ≤ length t → take n (drop at t) ≡ w → BatchPart t w p
 unfolding partBytes partNumber partSide partAtPlace partLength
 batch-part t w p at n e l b = record {
   at = at;
@@ -176,7 +179,7 @@ batch-part t w p at n e l b = record {
   size = λ old. ap (λ (q : Part). partLength q old) e;
 }
 
-part-refused : (n : ℕ) (p : Part) → p ≡ Part.refusal n → NoPartBut n p
+part-refused : (n : ℕ) (p : Part) → p ≡ P.Refused n → NoPartBut n p
 unfolding partBytes partNumber partSide partAtPlace partLength
 part-refused n p e = record {
   is = e;
@@ -236,7 +239,7 @@ wins-no x y h =
 
 -- the side's part in each case
 module _ (o p : Option Rec) (mine theirs : Part) where
-  side-neither : o ≡ none → p ≡ none → sideOf o p mine theirs ≡ nothing
+  side-neither : o ≡ none → p ≡ none → sideOf o p mine theirs ≡ P.Nothing
   unfolding sideOf
   side-neither e f = ap₂ (λ (o p : Option Rec). sideOf o p mine theirs) e f
 
@@ -272,122 +275,114 @@ pub record WinnerIs (s t : List ℕ) (i : ℕ) (st : Store) (b : Batch) (p : Par
 found : List ℕ → List ℕ → ℕ → Store → Batch → Part
 found s t i st b =
     sideOf (find i (st .records)) (find i (b .records))
-    (partAt ofStore s (placeOf s i (length (st .records)) (storeTable s)))
-    (partAt ofBatch t (placeOf t i (length (b .records)) (batchTable t)))
+    (partAt P.OfStore s (placeOf s i (length (st .records)) (storeTable s)))
+    (partAt P.OfBatch t (placeOf t i (length (b .records)) (batchTable t)))
 
-told : List ℕ → List ℕ → List ℕ → Option Store → Option Batch → Part
+told : List ℕ → List ℕ → List ℕ → Parsed Store → Parsed Batch → Part
 told s t item o p =
-    orRefused (found s t (idOf 24 item) (storeOr o) (batchOr p))
-    (firstFault refuses (line 15 (noStore o) ∷ line 16 (noBatch p) ∷ line 17 (wrongLength 24 item) ∷ []) (gives []))
+    firstFault P.Refused (ownFault o ∷ ownFault p ∷ line 17 (wrongLength 24 item) ∷ []) (found s t (idOf 24 item) (storeOr o) (batchOr p))
 
-told-is : (R : Rules) (s t item : List ℕ) (o : Option Store) (p : Option Batch) → openStore R s ≡ o → openBatch R t ≡ p → winnerPart R s t item ≡ told s t item o p
+told-is : (L : Limits) (s t item : List ℕ) (o : Parsed Store) (p : Parsed Batch) → openStore L s ≡ o → openBatch L t ≡ p → winnerPart L s t item ≡ told s t item o p
 unfolding winnerPart told found
-told-is R s t item o p e f = ap₂ (told s t item) e f
+told-is L s t item o p e f = ap₂ (told s t item) e f
 
-told-15 : (s t item : List ℕ) (p : Option Batch) → told s t item none p ≡ Part.refusal 15
-unfolding told noStore orRefused
-told-15 s t item p =
-    ap (orRefused (found s t (idOf 24 item) (storeOr none) (batchOr p)))
-    (fault-here refuses (line 15 true) (line 16 (noBatch p) ∷ line 17 (wrongLength 24 item) ∷ []) (gives []) refl)
+told-store : (s t item : List ℕ) (n : ℕ) (p : Parsed Batch) → told s t item (refused n) p ≡ P.Refused n
+unfolding told
+told-store s t item n p = read-fault Store P.Refused n (ownFault p ∷ line 17 (wrongLength 24 item) ∷ []) (found s t (idOf 24 item) (storeOr (refused n)) (batchOr p))
 
-told-16 : (s t item : List ℕ) (st : Store) → told s t item (some st) none ≡ Part.refusal 16
-unfolding told noStore noBatch orRefused
-told-16 s t item st =
-    ap (orRefused (found s t (idOf 24 item) (storeOr (some st)) (batchOr none)))
-    (fault-later refuses (line 15 false) (line 16 true ∷ line 17 (wrongLength 24 item) ∷ []) (gives []) refl
-    ∙ fault-here refuses (line 16 true) (line 17 (wrongLength 24 item) ∷ []) (gives []) refl)
+told-batch : (s t item : List ℕ) (st : Store) (n : ℕ) → told s t item (accepted st) (refused n) ≡ P.Refused n
+unfolding told
+told-batch s t item st n =
+    let part = found s t (idOf 24 item) (storeOr (accepted st)) (batchOr (refused n)) in
+    read-fine P.Refused st (ownFault (refused n) ∷ line 17 (wrongLength 24 item) ∷ []) part
+    ∙ read-fault Batch P.Refused n (line 17 (wrongLength 24 item) ∷ []) part
 
-told-lines : (s t item : List ℕ) (st : Store) (b : Batch) → told s t item (some st) (some b) ≡ orRefused (found s t (idOf 24 item) st b) (firstFault refuses (line 17 (wrongLength 24 item) ∷ []) (gives []))
-unfolding told noStore noBatch storeOr batchOr
+told-lines : (s t item : List ℕ) (st : Store) (b : Batch) → told s t item (accepted st) (accepted b) ≡ firstFault P.Refused (line 17 (wrongLength 24 item) ∷ []) (found s t (idOf 24 item) st b)
+unfolding told readOr
 told-lines s t item st b =
-    ap (orRefused (found s t (idOf 24 item) st b))
-    (fault-later refuses (line 15 false) (line 16 false ∷ line 17 (wrongLength 24 item) ∷ []) (gives []) refl
-    ∙ fault-later refuses (line 16 false) (line 17 (wrongLength 24 item) ∷ []) (gives []) refl)
+    read-fine P.Refused st (ownFault (accepted b) ∷ line 17 (wrongLength 24 item) ∷ []) (found s t (idOf 24 item) st b)
+    ∙ read-fine P.Refused b (line 17 (wrongLength 24 item) ∷ []) (found s t (idOf 24 item) st b)
 
-told-17 : (s t item : List ℕ) (st : Store) (b : Batch) → wrongLength 24 item ≡ true → told s t item (some st) (some b) ≡ Part.refusal 17
-unfolding orRefused
+told-17 : (s t item : List ℕ) (st : Store) (b : Batch) → wrongLength 24 item ≡ true → told s t item (accepted st) (accepted b) ≡ P.Refused 17
 told-17 s t item st b w =
-    told-lines s t item st b
-    ∙ ap (orRefused (found s t (idOf 24 item) st b)) (fault-here refuses (line 17 (wrongLength 24 item)) [] (gives []) w)
+    told-lines s t item st b ∙ fault-here P.Refused (line 17 (wrongLength 24 item)) [] (found s t (idOf 24 item) st b) w
 
-told-found : (s t item : List ℕ) (st : Store) (b : Batch) → wrongLength 24 item ≡ false → told s t item (some st) (some b) ≡ found s t (idOf 24 item) st b
-unfolding orRefused
+told-found : (s t item : List ℕ) (st : Store) (b : Batch) → wrongLength 24 item ≡ false → told s t item (accepted st) (accepted b) ≡ found s t (idOf 24 item) st b
 told-found s t item st b w =
-    told-lines s t item st b
-    ∙ ap (orRefused (found s t (idOf 24 item) st b)) (fault-none refuses (line 17 (wrongLength 24 item) ∷ []) (gives []) (w, tt))
+    told-lines s t item st b ∙ fault-none P.Refused (line 17 (wrongLength 24 item) ∷ []) (found s t (idOf 24 item) st b) (w, tt)
 
 -- the part that the search in the store's bytes comes to, and in the batch's
-store-found : (R : Rules) (s : List ℕ) (st : Store) (i : ℕ) (x : Rec) (p : Part) → Permitted (R .limits) → Bytes s → openStore R s ≡ some st → find i (st .records) ≡ some x → p ≡ partAt ofStore s (placeOf s i (length (st .records)) (storeTable s)) → StorePart s (putRec x []) p
+store-found : (L : Limits) (s : List ℕ) (st : Store) (i : ℕ) (x : Rec) (p : Part) → Permitted L → Bytes s → openStore L s ≡ accepted st → find i (st .records) ≡ some x → p ≡ partAt P.OfStore s (placeOf s i (length (st .records)) (storeTable s)) → StorePart s (putRec x []) p
 unfolding partAt storeTable
-store-found R s st i x p m y o e q =
-    let h = store-places R s st m y o in
+store-found L s st i x p m y o e q =
+    let h = store-places L s st m y o in
     let n = length (st .records) in
     let a = placeOf s i n (25 + length (encode (st .knowledge))) in
     let w = placed s i (25 + length (encode (st .knowledge))) (st .records) [] x (h .fits) (h .records) e in
     store-part s (putRec x []) p a 89
     (q
-    ∙ ap (λ (k : ℕ). partAt ofStore s (placeOf s i n (25 + k))) (h .knowledge)
-    ∙ ap (ofStore a) (rec-step s a x (w .rest) (w .stands) (w .fits)))
+    ∙ ap (λ (k : ℕ). partAt P.OfStore s (placeOf s i n (25 + k))) (h .knowledge)
+    ∙ ap (P.OfStore a) (rec-step s a x (w .rest) (w .stands) (w .fits)))
     (rec-over s a x (w .rest) (w .stands) .inside)
     (placed-bytes s a x w)
 
-batch-found : (R : Rules) (t : List ℕ) (b : Batch) (i : ℕ) (y : Rec) (p : Part) → Permitted (R .limits) → Bytes t → openBatch R t ≡ some b → find i (b .records) ≡ some y → p ≡ partAt ofBatch t (placeOf t i (length (b .records)) (batchTable t)) → BatchPart t (putRec y []) p
+batch-found : (L : Limits) (t : List ℕ) (b : Batch) (i : ℕ) (y : Rec) (p : Part) → Permitted L → Bytes t → openBatch L t ≡ accepted b → find i (b .records) ≡ some y → p ≡ partAt P.OfBatch t (placeOf t i (length (b .records)) (batchTable t)) → BatchPart t (putRec y []) p
 unfolding partAt batchTable
-batch-found R t b i y p m z o e q =
-    let h = batch-places R t b m z o in
+batch-found L t b i y p m z o e q =
+    let h = batch-places L t b m z o in
     let n = length (b .records) in
     let start = 61 + length (encode (b .needed)) + length (encode (b .learned)) in
     let a = placeOf t i n start in
     let w = placed t i start (b .records) [] y (h .fits) (h .records) e in
     batch-part t (putRec y []) p a 89
     (q
-    ∙ ap₂ (λ (k l : ℕ). partAt ofBatch t (placeOf t i n (61 + k + l))) (h .needed) (h .size)
-    ∙ ap (ofBatch a) (rec-step t a y (w .rest) (w .stands) (w .fits)))
+    ∙ ap₂ (λ (k l : ℕ). partAt P.OfBatch t (placeOf t i n (61 + k + l))) (h .needed) (h .size)
+    ∙ ap (P.OfBatch a) (rec-step t a y (w .rest) (w .stands) (w .fits)))
     (rec-over t a y (w .rest) (w .stands) .inside)
     (placed-bytes t a y w)
 
-found-is : (R : Rules) (s t : List ℕ) (i : ℕ) (st : Store) (b : Batch) (p : Part) → Permitted (R .limits) → Bytes s → Bytes t → openStore R s ≡ some st → openBatch R t ≡ some b → p ≡ found s t i st b → WinnerIs s t i st b p
+found-is : (L : Limits) (s t : List ℕ) (i : ℕ) (st : Store) (b : Batch) (p : Part) → Permitted L → Bytes s → Bytes t → openStore L s ≡ accepted st → openBatch L t ≡ accepted b → p ≡ found s t i st b → WinnerIs s t i st b p
 unfolding found
-found-is R s t i st b p m y z o q e =
+found-is L s t i st b p m y z o q e =
     let f = find i (st .records) in
     let g = find i (b .records) in
-    let mine = partAt ofStore s (placeOf s i (length (st .records)) (storeTable s)) in
-    let theirs = partAt ofBatch t (placeOf t i (length (b .records)) (batchTable t)) in
+    let mine = partAt P.OfStore s (placeOf s i (length (st .records)) (storeTable s)) in
+    let theirs = partAt P.OfBatch t (placeOf t i (length (b .records)) (batchTable t)) in
     record {
       neither = λ h k. no-part p (e ∙ side-neither f g mine theirs h k);
-      storeOnly = λ x h k. store-found R s st i x p m y o h (e ∙ side-store f g mine theirs x h k);
-      batchOnly = λ x h k. batch-found R t b i x p m z q k (e ∙ side-batch f g mine theirs x h k);
-      batchWins = λ x x' h k w. batch-found R t b i x' p m z q k (e ∙ side-yes f g mine theirs x x' h k (wins-yes x x' w));
-      storeStays = λ x x' h k w. store-found R s st i x p m y o h (e ∙ side-no f g mine theirs x x' h k (wins-no x x' w));
+      storeOnly = λ x h k. store-found L s st i x p m y o h (e ∙ side-store f g mine theirs x h k);
+      batchOnly = λ x h k. batch-found L t b i x p m z q k (e ∙ side-batch f g mine theirs x h k);
+      batchWins = λ x x' h k w. batch-found L t b i x' p m z q k (e ∙ side-yes f g mine theirs x x' h k (wins-yes x x' w));
+      storeStays = λ x x' h k w. store-found L s st i x p m y o h (e ∙ side-no f g mine theirs x x' h k (wins-no x x' w));
     }
 
--- the winner, where nothing is refused
+-- the winner, where P.Nothing is refused
 pub winner-exact :
-    (R : Rules)
+    (L : Limits)
     (s t item : List ℕ)
     (st : Store)
     (b : Batch)
-    → Permitted (R .limits)
+    → Permitted L
     → Bytes s
     → Bytes t
-    → openStore R s ≡ some st
-    → openBatch R t ≡ some b
+    → openStore L s ≡ accepted st
+    → openBatch L t ≡ accepted b
     → length item ≡ 24
-    → WinnerIs s t (beAt item 24 0) st b (winnerPart R s t item)
-winner-exact R s t item st b m y z o q l =
-    found-is R s t (beAt item 24 0) st b (winnerPart R s t item) m y z o q
-    (told-is R s t item (some st) (some b) o q
+    → WinnerIs s t (beAt item 24 0) st b (winnerPart L s t item)
+winner-exact L s t item st b m y z o q l =
+    found-is L s t (beAt item 24 0) st b (winnerPart L s t item) m y z o q
+    (told-is L s t item (accepted st) (accepted b) o q
     ∙ told-found s t item st b (length-exact 24 item .1 l)
     ∙ ap (λ (i : ℕ). found s t i st b) (id-is 24 item))
 
--- 15, then 16, then 17
-pub winner-15 : (R : Rules) (s t item : List ℕ) → openStore R s ≡ none → NoPartBut 15 (winnerPart R s t item)
-winner-15 R s t item o =
-    part-refused 15 (winnerPart R s t item) (told-is R s t item none (openBatch R t) o refl ∙ told-15 s t item (openBatch R t))
+-- the store's own number, then the batch's, then 17
+pub winner-store : (L : Limits) (s t item : List ℕ) (n : ℕ) → openStore L s ≡ refused n → NoPartBut n (winnerPart L s t item)
+winner-store L s t item n o =
+    part-refused n (winnerPart L s t item) (told-is L s t item (refused n) (openBatch L t) o refl ∙ told-store s t item n (openBatch L t))
 
-pub winner-16 : (R : Rules) (s t item : List ℕ) (st : Store) → openStore R s ≡ some st → openBatch R t ≡ none → NoPartBut 16 (winnerPart R s t item)
-winner-16 R s t item st o q =
-    part-refused 16 (winnerPart R s t item) (told-is R s t item (some st) none o q ∙ told-16 s t item st)
+pub winner-batch : (L : Limits) (s t item : List ℕ) (st : Store) (n : ℕ) → openStore L s ≡ accepted st → openBatch L t ≡ refused n → NoPartBut n (winnerPart L s t item)
+winner-batch L s t item st n o q =
+    part-refused n (winnerPart L s t item) (told-is L s t item (accepted st) (refused n) o q ∙ told-batch s t item st n)
 
 wrong : (item : List ℕ) → (length item ≡ 24 → ⊥) → wrongLength 24 item ≡ true
 wrong item h = go (wrongLength 24 item) refl
@@ -396,90 +391,94 @@ wrong item h = go (wrongLength 24 item) refl
     go true e = refl
     go false e = absurd (h (length-exact 24 item .0 e))
 
-pub winner-17 : (R : Rules) (s t item : List ℕ) (st : Store) (b : Batch) → openStore R s ≡ some st → openBatch R t ≡ some b → (length item ≡ 24 → ⊥) → NoPartBut 17 (winnerPart R s t item)
-winner-17 R s t item st b o q h =
-    part-refused 17 (winnerPart R s t item) (told-is R s t item (some st) (some b) o q ∙ told-17 s t item st b (wrong item h))
+pub winner-17 : (L : Limits) (s t item : List ℕ) (st : Store) (b : Batch) → openStore L s ≡ accepted st → openBatch L t ≡ accepted b → (length item ≡ 24 → ⊥) → NoPartBut 17 (winnerPart L s t item)
+winner-17 L s t item st b o q h =
+    part-refused 17 (winnerPart L s t item) (told-is L s t item (accepted st) (accepted b) o q ∙ told-17 s t item st b (wrong item h))
 
 -- and on no other condition
-abbrev pub WinnerRefused : Rules → List ℕ → List ℕ → List ℕ → ℕ → Type 0
-WinnerRefused R s t item n =
-    ((n ≡ 15) × (openStore R s ≡ none))
-    ⊎ (((n ≡ 16) × (((st : Store) × (openStore R s ≡ some st)) × (openBatch R t ≡ none)))
-    ⊎ ((n ≡ 17) × (((st : Store) × (openStore R s ≡ some st)) × (((b : Batch) × (openBatch R t ≡ some b)) × (length item ≡ 24 → ⊥)))))
+abbrev pub WinnerRefused : Limits → List ℕ → List ℕ → List ℕ → ℕ → Type 0
+WinnerRefused L s t item n =
+    (openStore L s ≡ refused n)
+    ⊎ ((((st : Store) × (openStore L s ≡ accepted st)) × (openBatch L t ≡ refused n))
+    ⊎ ((n ≡ 17) × (((st : Store) × (openStore L s ≡ accepted st)) × (((b : Batch) × (openBatch L t ≡ accepted b)) × (length item ≡ 24 → ⊥)))))
 
 -- what is found is never a refusal
-never-refusal : (o p : Option Rec) (a c l k n : ℕ) → sideOf o p (ofStore a l) (ofBatch c k) ≡ Part.refusal n → ⊥
+never-refusal : (o p : Option Rec) (a c l k n : ℕ) → sideOf o p (P.OfStore a l) (P.OfBatch c k) ≡ P.Refused n → ⊥
 unfolding sideOf
 never-refusal none none a c l k n e = let z : _≡_ {A = ℕ} 0 1 = cc in omega arith
 never-refusal none (some y) a c l k n e = let z : _≡_ {A = ℕ} 0 1 = cc in omega arith
 never-refusal (some x) none a c l k n e = let z : _≡_ {A = ℕ} 0 1 = cc in omega arith
 never-refusal (some x) (some y) a c l k n e = go (wins x y) e
   where
-    go : (t : Bool) → _≡_ {A = Part} (elim t [ true ↦ ofBatch c k | false ↦ ofStore a l ]) (Part.refusal n) → ⊥
+    go : (t : Bool) → _≡_ {A = Part} (elim t [ true ↦ P.OfBatch c k | false ↦ P.OfStore a l ]) (P.Refused n) → ⊥
     go true e = let z : _≡_ {A = ℕ} 0 1 = cc in omega arith
     go false e = let z : _≡_ {A = ℕ} 0 1 = cc in omega arith
 
-found-never : (s t : List ℕ) (i : ℕ) (st : Store) (b : Batch) (n : ℕ) → found s t i st b ≡ Part.refusal n → ⊥
+found-never : (s t : List ℕ) (i : ℕ) (st : Store) (b : Batch) (n : ℕ) → found s t i st b ≡ P.Refused n → ⊥
 unfolding found partAt
 found-never s t i st b n e = never-refusal (find i (st .records)) (find i (b .records)) _ _ _ _ n e
 
-pub winner-refused : (R : Rules) (s t item : List ℕ) (n : ℕ) → (winnerPart R s t item ≡ Part.refusal n) ↔ WinnerRefused R s t item n
-winner-refused R s t item n = (go (openStore R s) (openBatch R t) (wrongLength 24 item) refl refl refl, back)
+pub winner-refused : (L : Limits) (s t item : List ℕ) (n : ℕ) → (winnerPart L s t item ≡ P.Refused n) ↔ WinnerRefused L s t item n
+winner-refused L s t item n = (go (openStore L s) (openBatch L t) (wrongLength 24 item) refl refl refl, back)
   where
-    same-number : (m : ℕ) → winnerPart R s t item ≡ Part.refusal m → winnerPart R s t item ≡ Part.refusal n → n ≡ m
+    same-number : (m : ℕ) → winnerPart L s t item ≡ P.Refused m → winnerPart L s t item ≡ P.Refused n → n ≡ m
     same-number m e f = cc
 
-    go : (o : Option Store) (p : Option Batch) (w : Bool) → openStore R s ≡ o → openBatch R t ≡ p → wrongLength 24 item ≡ w → winnerPart R s t item ≡ Part.refusal n → WinnerRefused R s t item n
-    go none p w e f g h = inl (same-number 15 (winner-15 R s t item e .is) h, e)
-    go (some st) none w e f g h = inr (inl (same-number 16 (winner-16 R s t item st e f .is) h, ((st, e), f)))
-    go (some st) (some b) true e f g h =
+    go : (o : Parsed Store) (p : Parsed Batch) (w : Bool) → openStore L s ≡ o → openBatch L t ≡ p → wrongLength 24 item ≡ w → winnerPart L s t item ≡ P.Refused n → WinnerRefused L s t item n
+    go (refused m) p w e f g h = inl (e ∙ ap refused (sym (same-number m (winner-store L s t item m e .is) h)))
+    go (accepted st) (refused m) w e f g h = inr (inl ((st, e), f ∙ ap refused (sym (same-number m (winner-batch L s t item st m e f .is) h))))
+    go (accepted st) (accepted b) true e f g h =
         let l : length item ≡ 24 → ⊥ = λ (k : length item ≡ 24). let z : _≡_ {A = ℕ} 0 1 = cc (length-exact 24 item .1 k) in omega arith in
-        inr (inr (same-number 17 (winner-17 R s t item st b e f l .is) h, ((st, e), ((b, f), l))))
-    go (some st) (some b) false e f g h =
-        absurd (found-never s t (idOf 24 item) st b n (sym (told-is R s t item (some st) (some b) e f ∙ told-found s t item st b g) ∙ h))
+        inr (inr (same-number 17 (winner-17 L s t item st b e f l .is) h, ((st, e), ((b, f), l))))
+    go (accepted st) (accepted b) false e f g h =
+        absurd (found-never s t (idOf 24 item) st b n (sym (told-is L s t item (accepted st) (accepted b) e f ∙ told-found s t item st b g) ∙ h))
 
-    back : WinnerRefused R s t item n → winnerPart R s t item ≡ Part.refusal n
-    back (inl h) = winner-15 R s t item (h .1) .is ∙ ap Part.refusal (sym (h .0))
-    back (inr (inl h)) = winner-16 R s t item (h .1 .0 .0) (h .1 .0 .1) (h .1 .1) .is ∙ ap Part.refusal (sym (h .0))
+    back : WinnerRefused L s t item n → winnerPart L s t item ≡ P.Refused n
+    back (inl h) = winner-store L s t item n h .is
+    back (inr (inl h)) = winner-batch L s t item (h .0 .0) n (h .0 .1) (h .1) .is
     back (inr (inr h)) =
-        winner-17 R s t item (h .1 .0 .0) (h .1 .1 .0 .0) (h .1 .0 .1) (h .1 .1 .0 .1) (h .1 .1 .1) .is ∙ ap Part.refusal (sym (h .0))
+        winner-17 L s t item (h .1 .0 .0) (h .1 .1 .0 .0) (h .1 .0 .1) (h .1 .1 .0 .1) (h .1 .1 .1) .is ∙ ap P.Refused (sym (h .0))
 
 -- ---- learned
 
-learned-told : (t : List ℕ) → Option Batch → Part
-learned-told t p = orRefused (ofBatch (61 + beAt t 4 49) (beAt t 4 53)) (firstFault refuses (line 16 (noBatch p) ∷ []) (gives []))
+learned-told : (t : List ℕ) → Parsed Batch → Part
+learned-told t p = firstFault P.Refused (ownFault p ∷ []) (P.OfBatch (61 + beAt t 4 49) (beAt t 4 53))
 
-learned-is : (R : Rules) (t : List ℕ) (p : Option Batch) → openBatch R t ≡ p → learnedPart R t ≡ learned-told t p
+learned-is : (L : Limits) (t : List ℕ) (p : Parsed Batch) → openBatch L t ≡ p → learnedPart L t ≡ learned-told t p
 unfolding learnedPart learned-told
-learned-is R t p e = ap (learned-told t) e
+learned-is L t p e = ap (learned-told t) e
 
-learned-none : (t : List ℕ) → learned-told t none ≡ Part.refusal 16
-unfolding learned-told noBatch orRefused
-learned-none t =
-    ap (orRefused (ofBatch (61 + beAt t 4 49) (beAt t 4 53))) (fault-here refuses (line 16 true) [] (gives []) refl)
+learned-none : (t : List ℕ) (n : ℕ) → learned-told t (refused n) ≡ P.Refused n
+unfolding learned-told
+learned-none t n = read-fault Batch P.Refused n [] (P.OfBatch (61 + beAt t 4 49) (beAt t 4 53))
 
-learned-some : (t : List ℕ) (b : Batch) → learned-told t (some b) ≡ ofBatch (61 + beAt t 4 49) (beAt t 4 53)
-unfolding learned-told noBatch orRefused
+learned-some : (t : List ℕ) (b : Batch) → learned-told t (accepted b) ≡ P.OfBatch (61 + beAt t 4 49) (beAt t 4 53)
+unfolding learned-told
 learned-some t b =
-    ap (orRefused (ofBatch (61 + beAt t 4 49) (beAt t 4 53))) (fault-none refuses (line 16 false ∷ []) (gives []) (refl, tt))
+    read-fine P.Refused b [] (P.OfBatch (61 + beAt t 4 49) (beAt t 4 53)) ∙ fault-none P.Refused [] (P.OfBatch (61 + beAt t 4 49) (beAt t 4 53)) tt
 
 -- the learned knowledge of a valid batch, where it stands
-pub learned-exact : (R : Rules) (t : List ℕ) (b : Batch) → Permitted (R .limits) → Bytes t → openBatch R t ≡ some b → BatchPart t (encode (b .learned)) (learnedPart R t)
-learned-exact R t b m y o =
-    let h = batch-places R t b m y o in
+pub learned-exact : (L : Limits) (t : List ℕ) (b : Batch) → Permitted L → Bytes t → openBatch L t ≡ accepted b → BatchPart t (encode (b .learned)) (learnedPart L t)
+learned-exact L t b m y o =
+    let h = batch-places L t b m y o in
     let k = length (encode (b .needed)) in
-    batch-part t (encode (b .learned)) (learnedPart R t) (61 + k) (length (encode (b .learned)))
-    (learned-is R t (some b) o ∙ learned-some t b ∙ ap₂ (λ (n l : ℕ). ofBatch (61 + n) l) (h .needed) (h .size))
+    batch-part t (encode (b .learned)) (learnedPart L t) (61 + k) (length (encode (b .learned)))
+    (learned-is L t (accepted b) o ∙ learned-some t b ∙ ap₂ (λ (n l : ℕ). P.OfBatch (61 + n) l) (h .needed) (h .size))
     (h .records .inside)
     (part-reads t (61 + k) (encode (b .learned)) (putRecs (b .records) []) (h .learned))
 
-pub learned-16 : (R : Rules) (t : List ℕ) → openBatch R t ≡ none → NoPartBut 16 (learnedPart R t)
-learned-16 R t o = part-refused 16 (learnedPart R t) (learned-is R t none o ∙ learned-none t)
+pub learned-batch : (L : Limits) (t : List ℕ) (n : ℕ) → openBatch L t ≡ refused n → NoPartBut n (learnedPart L t)
+learned-batch L t n o = part-refused n (learnedPart L t) (learned-is L t (refused n) o ∙ learned-none t n)
 
 -- and on no other condition
-pub learned-refused : (R : Rules) (t : List ℕ) (n : ℕ) → (learnedPart R t ≡ Part.refusal n) ↔ ((n ≡ 16) × (openBatch R t ≡ none))
-learned-refused R t n = (go (openBatch R t) refl, λ h. learned-16 R t (h .1) .is ∙ ap Part.refusal (sym (h .0)))
+pub learned-refused : (L : Limits) (t : List ℕ) (n : ℕ) → (learnedPart L t ≡ P.Refused n) ↔ (openBatch L t ≡ refused n)
+learned-refused L t n = (go (openBatch L t) refl, λ h. learned-batch L t n h .is)
   where
-    go : (p : Option Batch) → openBatch R t ≡ p → learnedPart R t ≡ Part.refusal n → (n ≡ 16) × (openBatch R t ≡ none)
-    go none e h = let w = learned-16 R t e .is in (cc, e)
-    go (some b) e h = absurd (let z : _≡_ {A = ℕ} 0 1 = cc (learned-is R t (some b) e, learned-some t b) in omega arith)
+    go : (p : Parsed Batch) → openBatch L t ≡ p → learnedPart L t ≡ P.Refused n → openBatch L t ≡ refused n
+    go (refused m) e h =
+        let w = learned-batch L t m e .is in
+        let q : m ≡ n = cc in
+        e ∙ ap refused q
+    go (accepted b) e h =
+        let w : learnedPart L t ≡ P.OfBatch (61 + beAt t 4 49) (beAt t 4 53) = learned-is L t (accepted b) e ∙ learned-some t b in
+        absurd (let z : _≡_ {A = ℕ} 0 1 = cc in omega arith)

@@ -12,7 +12,7 @@ use mathlib.Core.Option.{Option, none, some}
 use native.Mathlib.Omega.{arith}
 use lib.ListN.{length}
 use Rattle.codec.specs.Reply.{Reply, gives, refuses, Line, firstFault}
-use Rattle.layout.specs.Knowledge.{Rules}
+use Rattle.layout.specs.Knowledge.{Limits, anyId}
 use Rattle.ticks.specs.Operations.{merge}
 use Rattle.ticks.specs.Calls.{line}
 use Rattle.ticks.proofs.Lists.{Among}
@@ -20,81 +20,83 @@ use Rattle.replication.specs.Formats.{Store, encodeStore, Batch}
 use Rattle.replication.specs.OpenStore.{openStore}
 use Rattle.replication.specs.OpenBatch.{openBatch}
 use Rattle.replication.specs.Operate.{join, applied}
-use Rattle.replication.specs.Calls.{noStore, storeOr, noBatch, batchOr, uncovered, ownAhead, storeLines, applyLines, applyReply}
+use Rattle.replication.specs.Calls.{storeOr, batchOr, uncovered, ownAhead, storeLines, applyLines, applyReply}
 use Rattle.replication.proofs.RefusalsTable.{Rule, rule, Told, told-cons, At, absent, only, refused-at, refused-among, refused-never, given-none, refuses-same}
 use Rattle.replication.proofs.RefusalsTests.{Lacks, Covered, Ahead, Behind, means-18, rule11, rule12, rule13, told-store}
+use Rattle.codec.specs.Parsed.{Parsed, accepted, refused, ownFault, readOr}
 
 -- ---- the reply, by what opens
 
-apply-on : Rules → Option Store → Option Batch → Reply
-apply-on R o p = firstFault refuses (applyLines R o p (applied (storeOr o) (batchOr p))) (gives (encodeStore (applied (storeOr o) (batchOr p))))
+apply-on : Limits → Parsed Store → Parsed Batch → Reply
+apply-on L o p = firstFault refuses (applyLines L o p (applied (storeOr o) (batchOr p))) (gives (encodeStore (applied (storeOr o) (batchOr p))))
 
-module _ (R : Rules) (s t : List ℕ) where
-  apply-is : (o : Option Store) (p : Option Batch) → openStore R s ≡ o → openBatch R t ≡ p → applyReply R s t ≡ apply-on R o p
+module _ (L : Limits) (s t : List ℕ) where
+  apply-is : (o : Parsed Store) (p : Parsed Batch) → openStore L s ≡ o → openBatch L t ≡ p → applyReply L s t ≡ apply-on L o p
   unfolding applyReply apply-on
-  apply-is o p e f = ap (λ (x : Option Store). apply-on R x (openBatch R t)) e ∙ ap (apply-on R o) f
+  apply-is o p e f = ap (λ (x : Parsed Store). apply-on L x (openBatch L t)) e ∙ ap (apply-on L o) f
 
-  apply-no-store : openStore R s ≡ none → applyReply R s t ≡ refuses 15
-  unfolding apply-on applyLines noStore firstFault
-  apply-no-store e = apply-is none (openBatch R t) e refl
+  -- the store's own number, then the batch's, whichever they are
+  pub apply-store : (n : ℕ) → openStore L s ≡ refused n → applyReply L s t ≡ refuses n
+  unfolding apply-on applyLines ownFault firstFault
+  apply-store n e = apply-is (refused n) (openBatch L t) e refl
 
-  apply-no-batch : (st : Store) → openStore R s ≡ some st → openBatch R t ≡ none → applyReply R s t ≡ refuses 16
-  unfolding apply-on applyLines noStore noBatch firstFault
-  apply-no-batch st e f = apply-is (some st) none e f
+  pub apply-batch : (st : Store) (n : ℕ) → openStore L s ≡ accepted st → openBatch L t ≡ refused n → applyReply L s t ≡ refuses n
+  unfolding apply-on applyLines ownFault firstFault
+  apply-batch st n e f = apply-is (accepted st) (refused n) e f
 
-module _ (R : Rules) (st : Store) (b : Batch) where
+module _ (L : Limits) (st : Store) (b : Batch) where
   -- the lines for a store and a batch, and what they say
   abbrev lines : List Line
-  lines = line 18 (uncovered st b || ownAhead st b) ∷ storeLines R (applied st b)
+  lines = line 18 (uncovered st b || ownAhead st b) ∷ storeLines L (applied st b)
 
   abbrev pub applyRules : List Rule
   applyRules =
       rule 18 (Lacks st b ⊎ Ahead st b) (Covered st b × Behind st b) ∷
-      rule11 R (merge (st .knowledge) (b .learned)) ∷
-      rule12 R (merge (st .knowledge) (b .learned)) ∷
-      rule13 R (join (st .records) (b .records)) ∷
+      rule11 L (merge (st .knowledge) (b .learned)) ∷
+      rule12 L (merge (st .knowledge) (b .learned)) ∷
+      rule13 L (join (st .records) (b .records)) ∷
       []
 
   apply-told : Told lines applyRules
   unfolding applied
   apply-told =
-      told-cons (line 18 (uncovered st b || ownAhead st b)) (storeLines R (applied st b)) (rule 18 (Lacks st b ⊎ Ahead st b) (Covered st b × Behind st b))
-      (rule11 R (applied st b .knowledge) ∷ rule12 R (applied st b .knowledge) ∷ rule13 R (applied st b .records) ∷ []) (means-18 st b) (told-store R (applied st b))
+      told-cons (line 18 (uncovered st b || ownAhead st b)) (storeLines L (applied st b)) (rule 18 (Lacks st b ⊎ Ahead st b) (Covered st b × Behind st b))
+      (rule11 L (applied st b .knowledge) ∷ rule12 L (applied st b .knowledge) ∷ rule13 L (applied st b .records) ∷ []) (means-18 st b) (told-store L (applied st b))
 
-  apply-table : (s t : List ℕ) → openStore R s ≡ some st → openBatch R t ≡ some b → applyReply R s t ≡ firstFault refuses lines (gives (encodeStore (applied st b)))
-  unfolding apply-on applyLines noStore noBatch storeOr batchOr firstFault
-  apply-table s t e f = apply-is R s t (some st) (some b) e f
+  apply-table : (s t : List ℕ) → openStore L s ≡ accepted st → openBatch L t ≡ accepted b → applyReply L s t ≡ firstFault refuses lines (gives (encodeStore (applied st b)))
+  unfolding apply-on applyLines ownFault readOr firstFault
+  apply-table s t e f = apply-is L s t (accepted st) (accepted b) e f
 
 -- ---- a store and a batch
 
 -- what is met where apply gives bytes
-pub record ApplyGives (R : Rules) (st : Store) (b : Batch) (bs : List ℕ) : Type 0 where
+pub record ApplyGives (L : Limits) (st : Store) (b : Batch) (bs : List ℕ) : Type 0 where
   pub covered : Covered st b
   pub behind : Behind st b
-  pub replicas : length (merge (st .knowledge) (b .learned) .replicas) ≤ R .limits .replicas
-  pub ranges : length (merge (st .knowledge) (b .learned) .ranges) ≤ R .limits .ranges
-  pub records : length (join (st .records) (b .records)) ≤ R .limits .records
+  pub replicas : length (merge (st .knowledge) (b .learned) .replicas) ≤ L .replicas
+  pub ranges : length (merge (st .knowledge) (b .learned) .ranges) ≤ L .ranges
+  pub records : length (join (st .records) (b .records)) ≤ L .records
   pub bytes : bs ≡ encodeStore (applied st b)
 
-module _ (R : Rules) (s t : List ℕ) (st : Store) (b : Batch) (os : openStore R s ≡ some st) (ob : openBatch R t ≡ some b) where
-  at : (n k : ℕ) → only n k (applyRules R st b) ≡ true → (applyReply R s t ≡ refuses n) ↔ At k (applyRules R st b)
-  at n k o = refused-at (applyReply R s t) (lines R st b) (applyRules R st b) (encodeStore (applied st b)) (apply-table R st b s t os ob) (apply-told R st b) n k o
+module _ (L : Limits) (s t : List ℕ) (st : Store) (b : Batch) (os : openStore L s ≡ accepted st) (ob : openBatch L t ≡ accepted b) where
+  at : (n k : ℕ) → only n k (applyRules L st b) ≡ true → (applyReply L s t ≡ refuses n) ↔ At k (applyRules L st b)
+  at n k o = refused-at (applyReply L s t) (lines L st b) (applyRules L st b) (encodeStore (applied st b)) (apply-table L st b s t os ob) (apply-told L st b) n k o
 
-  pub apply-18 : (applyReply R s t ≡ refuses 18) ↔ (Lacks st b ⊎ Ahead st b)
+  pub apply-18 : (applyReply L s t ≡ refuses 18) ↔ (Lacks st b ⊎ Ahead st b)
   apply-18 = at 18 0 refl
 
-  pub apply-11 : (applyReply R s t ≡ refuses 11) ↔ ((Covered st b × Behind st b) × (R .limits .replicas < length (merge (st .knowledge) (b .learned) .replicas)))
+  pub apply-11 : (applyReply L s t ≡ refuses 11) ↔ ((Covered st b × Behind st b) × (L .replicas < length (merge (st .knowledge) (b .learned) .replicas)))
   apply-11 = at 11 1 refl
 
-  pub apply-12 : (applyReply R s t ≡ refuses 12) ↔ ((Covered st b × Behind st b) × ((length (merge (st .knowledge) (b .learned) .replicas) ≤ R .limits .replicas) × (R .limits .ranges < length (merge (st .knowledge) (b .learned) .ranges))))
+  pub apply-12 : (applyReply L s t ≡ refuses 12) ↔ ((Covered st b × Behind st b) × ((length (merge (st .knowledge) (b .learned) .replicas) ≤ L .replicas) × (L .ranges < length (merge (st .knowledge) (b .learned) .ranges))))
   apply-12 = at 12 2 refl
 
-  pub apply-13 : (applyReply R s t ≡ refuses 13) ↔ ((Covered st b × Behind st b) × ((length (merge (st .knowledge) (b .learned) .replicas) ≤ R .limits .replicas) × ((length (merge (st .knowledge) (b .learned) .ranges) ≤ R .limits .ranges) × (R .limits .records < length (join (st .records) (b .records))))))
+  pub apply-13 : (applyReply L s t ≡ refuses 13) ↔ ((Covered st b × Behind st b) × ((length (merge (st .knowledge) (b .learned) .replicas) ≤ L .replicas) × ((length (merge (st .knowledge) (b .learned) .ranges) ≤ L .ranges) × (L .records < length (join (st .records) (b .records))))))
   apply-13 = at 13 3 refl
 
-  pub apply-gives : (bs : List ℕ) → (applyReply R s t ≡ gives bs) ↔ ApplyGives R st b bs
+  pub apply-gives : (bs : List ℕ) → (applyReply L s t ≡ gives bs) ↔ ApplyGives L st b bs
   apply-gives bs =
-      let law = given-none (applyReply R s t) (lines R st b) (applyRules R st b) (encodeStore (applied st b)) (apply-table R st b s t os ob) (apply-told R st b) bs in (
+      let law = given-none (applyReply L s t) (lines L st b) (applyRules L st b) (encodeStore (applied st b)) (apply-table L st b s t os ob) (apply-told L st b) bs in (
         (λ h.
             let w = law .0 h in
             record { covered = w .0 .0 .0; behind = w .0 .0 .1; replicas = w .0 .1 .0; ranges = w .0 .1 .1 .0; records = w .0 .1 .1 .1 .0; bytes = w .1 }),
@@ -103,39 +105,13 @@ module _ (R : Rules) (s t : List ℕ) (st : Store) (b : Batch) (os : openStore R
 
 -- ---- any bytes
 
-module _ (R : Rules) (s t : List ℕ) where
-  -- what is shown where a store and a batch open, and where not
-  by-opening : (P : Reply → Type 0) → (openStore R s ≡ none → P (refuses 15)) → ((st : Store) → openStore R s ≡ some st → openBatch R t ≡ none → P (refuses 16)) → ((st : Store) (b : Batch) → openStore R s ≡ some st → openBatch R t ≡ some b → P (applyReply R s t)) → P (applyReply R s t)
-  by-opening P none15 none16 rest = go (openStore R s) refl (openBatch R t) refl
+module _ (L : Limits) (s t : List ℕ) where
+  -- no other number: the store's own, the batch's own, or one of the table
+  pub apply-numbers : (n : ℕ) → applyReply L s t ≡ refuses n → (openStore L s ≡ refused n) ⊎ (((st : Store) × (openStore L s ≡ accepted st)) × ((openBatch L t ≡ refused n) ⊎ (((b : Batch) × (openBatch L t ≡ accepted b)) × Among n (18 ∷ 11 ∷ 12 ∷ 13 ∷ []))))
+  apply-numbers n = go (openStore L s) refl (openBatch L t) refl
     where
-      go : (o : Option Store) → openStore R s ≡ o → (p : Option Batch) → openBatch R t ≡ p → P (applyReply R s t)
-      go none e p f = rw (apply-no-store R s t e) (none15 e)
-      go (some st) e none f = rw (apply-no-batch R s t st e f) (none16 st e f)
-      go (some st) e (some b) f = rest st b e f
-
-  opened-never : (n : ℕ) (st : Store) (b : Batch) → absent n (applyRules R st b) ≡ true → openStore R s ≡ some st → openBatch R t ≡ some b → applyReply R s t ≡ refuses n → ⊥
-  opened-never n st b a e f = refused-never (applyReply R s t) (lines R st b) (applyRules R st b) (encodeStore (applied st b)) (apply-table R st b s t e f) (apply-told R st b) n a
-
-  other : (m n : ℕ) → (m ≡ n → ⊥) → refuses m ≡ refuses n → ⊥
-  other m n d e = d (refuses-same (refuses m) m n refl e)
-
-  pub apply-15 : (applyReply R s t ≡ refuses 15) ↔ (openStore R s ≡ none)
-  apply-15 = (
-    by-opening (λ r. r ≡ refuses 15 → openStore R s ≡ none) (λ e h. e) (λ st e f h. absurd (other 16 15 (λ z. omega arith) h))
-        (λ st b e f h. absurd (opened-never 15 st b refl e f h)),
-    apply-no-store R s t,
-  )
-
-  pub apply-16 : (applyReply R s t ≡ refuses 16) ↔ (((st : Store) × (openStore R s ≡ some st)) × (openBatch R t ≡ none))
-  apply-16 = (
-    by-opening (λ r. r ≡ refuses 16 → ((st : Store) × (openStore R s ≡ some st)) × (openBatch R t ≡ none)) (λ e h. absurd (other 15 16 (λ z. omega arith) h))
-        (λ st e f h. ((st, e), f)) (λ st b e f h. absurd (opened-never 16 st b refl e f h)),
-    λ h. apply-no-batch R s t (h .0 .0) (h .0 .1) (h .1),
-  )
-
-  -- no other number
-  pub apply-numbers : (n : ℕ) → applyReply R s t ≡ refuses n → Among n (15 ∷ 16 ∷ 18 ∷ 11 ∷ 12 ∷ 13 ∷ [])
-  apply-numbers n =
-      by-opening (λ r. r ≡ refuses n → Among n (15 ∷ 16 ∷ 18 ∷ 11 ∷ 12 ∷ 13 ∷ [])) (λ e h. inl (sym (refuses-same (refuses 15) 15 n refl h)))
-      (λ st e f h. inr (inl (sym (refuses-same (refuses 16) 16 n refl h))))
-      (λ st b e f h. inr (inr (refused-among (applyReply R s t) (lines R st b) (applyRules R st b) (encodeStore (applied st b)) (apply-table R st b s t e f) (apply-told R st b) n h)))
+      go : (o : Parsed Store) → openStore L s ≡ o → (p : Parsed Batch) → openBatch L t ≡ p → applyReply L s t ≡ refuses n → (openStore L s ≡ refused n) ⊎ (((st : Store) × (openStore L s ≡ accepted st)) × ((openBatch L t ≡ refused n) ⊎ (((b : Batch) × (openBatch L t ≡ accepted b)) × Among n (18 ∷ 11 ∷ 12 ∷ 13 ∷ []))))
+      go (refused m) e p f h = inl (e ∙ ap refused (refuses-same (applyReply L s t) m n (apply-store L s t m e) h))
+      go (accepted st) e (refused m) f h = inr ((st, e), inl (f ∙ ap refused (refuses-same (applyReply L s t) m n (apply-batch L s t st m e f) h)))
+      go (accepted st) e (accepted b) f h =
+          inr ((st, e), inr ((b, f), refused-among (applyReply L s t) (lines L st b) (applyRules L st b) (encodeStore (applied st b)) (apply-table L st b s t e f) (apply-told L st b) n h))

@@ -12,7 +12,7 @@ use native.Mathlib.Omega.{arith}
 use lib.ListN.{length}
 use Rattle.codec.specs.Number.{beAt, Bytes}
 use Rattle.codec.specs.Reply.{refuses}
-use Rattle.layout.specs.Knowledge.{Rules, Knowledge, All, Rising, Lawful}
+use Rattle.layout.specs.Knowledge.{Limits, anyId, Knowledge, All, Rising, Lawful}
 use Rattle.layout.specs.Permitted.{Permitted}
 use Rattle.layout.specs.Parse.{accepted, parse}
 use Rattle.layout.proofs.Exact.{exact}
@@ -100,15 +100,15 @@ zero-or : (x : ℕ) → (x ≡ 0) ⊎ (1 ≤ x)
 zero-or zero = inl refl
 zero-or (suc x) = inr (omega arith)
 
-module _ (R : Rules) (permitted : Permitted (R .limits)) (s : List ℕ) (octets : Bytes s) (st : Store) (os : openStore R s ≡ some st) where
-  valid : ValidStore (R .limits) st
-  valid = valid-store (R .limits) st .0 (store-opened R s st permitted octets os .1 .1)
+module _ (L : Limits) (permitted : Permitted L) (s : List ℕ) (octets : Bytes s) (st : Store) (os : openStore L s ≡ accepted st) where
+  valid : ValidStore L st
+  valid = valid-store L st .0 (store-opened L s st permitted octets os .1 .1)
 
   normal : Normal (st .knowledge)
   normal = normal-test (st .knowledge) .0 (valid .normal)
 
-  lawful : Lawful R (st .knowledge)
-  lawful = opened-lawful R s st permitted octets os
+  lawful : Lawful (anyId L) (st .knowledge)
+  lawful = opened-lawful L s st permitted octets os
 
   rising : Rising 0 (items (st .records))
   rising = valid-recs (versionsIn (st .knowledge)) 0 (st .records) .0 (valid .records) .0
@@ -123,19 +123,19 @@ module _ (R : Rules) (permitted : Permitted (R .limits)) (s : List ℕ) (octets 
       omega (arith, w .1 .1, alike-all (st .knowledge) (st .own) (w .0) (valid .alike))
 
   module _ (kind i tag : ℕ) where
-    changed-replicas : (R .limits .replicas < length (changed kind i tag st .knowledge .replicas)) ↔ ((known (st .knowledge) 0 (st .own) ≡ 0) × (length (st .knowledge .replicas) ≡ R .limits .replicas))
+    changed-replicas : (L .replicas < length (changed kind i tag st .knowledge .replicas)) ↔ ((known (st .knowledge) 0 (st .own) ≡ 0) × (length (st .knowledge .replicas) ≡ L .replicas))
     unfolding changed nextTick
     changed-replicas = (there (zero-or (known (st .knowledge) 0 (st .own))), λ h. omega (arith, h .1, raise-new (st .own) (1 + largest (st .knowledge)) (st .knowledge) normal (omega arith) (own-out (h .0))))
       where
-        there : (known (st .knowledge) 0 (st .own) ≡ 0) ⊎ (1 ≤ known (st .knowledge) 0 (st .own)) → R .limits .replicas < length (changed kind i tag st .knowledge .replicas) → (known (st .knowledge) 0 (st .own) ≡ 0) × (length (st .knowledge .replicas) ≡ R .limits .replicas)
+        there : (known (st .knowledge) 0 (st .own) ≡ 0) ⊎ (1 ≤ known (st .knowledge) 0 (st .own)) → L .replicas < length (changed kind i tag st .knowledge .replicas) → (known (st .knowledge) 0 (st .own) ≡ 0) × (length (st .knowledge .replicas) ≡ L .replicas)
         there (inl z) h = (z, omega (arith, h, lawful .replicas, raise-new (st .own) (1 + largest (st .knowledge)) (st .knowledge) normal (omega arith) (own-out z)))
         there (inr l) h = absurd (omega (arith, h, lawful .replicas, raise-old (st .own) (1 + largest (st .knowledge)) (st .knowledge) (own-in l)))
 
-    changed-ranges : length (changed kind i tag st .knowledge .ranges) ≤ R .limits .ranges
+    changed-ranges : length (changed kind i tag st .knowledge .ranges) ≤ L .ranges
     unfolding changed nextTick
     changed-ranges = omega (arith, lawful .ranges, raise-ranges (st .own) (1 + largest (st .knowledge)) (st .knowledge) normal)
 
-    changed-found : (r : Rec) → find i (st .records) ≡ some r → length (changed kind i tag st .records) ≤ R .limits .records
+    changed-found : (r : Rec) → find i (st .records) ≡ some r → length (changed kind i tag st .records) ≤ L .records
     unfolding changed
     changed-found r e =
         let new = changedRec kind i (st .own) (nextTick st) tag (find i (st .records)) in
@@ -151,87 +151,87 @@ module _ (R : Rules) (permitted : Permitted (R .limits)) (s : List ℕ) (octets 
         let new = changedRec kind i (st .own) (nextTick st) tag (find i (st .records)) in
         replace-length-new new (st .records) (ap (λ (j : ℕ). find j (st .records)) (item-of kind i (st .own) (nextTick st) tag (find i (st .records))) ∙ e)
 
-    changed-records : (R .limits .records < length (changed kind i tag st .records)) ↔ ((find i (st .records) ≡ none) × (length (st .records) ≡ R .limits .records))
+    changed-records : (L .records < length (changed kind i tag st .records)) ↔ ((find i (st .records) ≡ none) × (length (st .records) ≡ L .records))
     changed-records = (there (none-or (find i (st .records))), λ h. omega (arith, h .1, changed-absent (h .0)))
       where
-        there : (find i (st .records) ≡ none) ⊎ ((r : Rec) × (find i (st .records) ≡ some r)) → R .limits .records < length (changed kind i tag st .records) → (find i (st .records) ≡ none) × (length (st .records) ≡ R .limits .records)
+        there : (find i (st .records) ≡ none) ⊎ ((r : Rec) × (find i (st .records) ≡ some r)) → L .records < length (changed kind i tag st .records) → (find i (st .records) ≡ none) × (length (st .records) ≡ L .records)
         there (inl e) h = (e, omega (arith, valid .count, changed-absent e))
         there (inr w) h = absurd (omega (arith, changed-found (w .0) (w .1)))
 
   -- ---- edit
 
   module _ (item tag : List ℕ) where
-    pub edit-11-full : (editReply R s item tag ≡ refuses 11) ↔ (((length item ≡ 24) × (length tag ≡ 16)) × (Unexhausted st × ((known (st .knowledge) 0 (st .own) ≡ 0) × (length (st .knowledge .replicas) ≡ R .limits .replicas))))
+    pub edit-11-full : (editReply L s item tag ≡ refuses 11) ↔ (((length item ≡ 24) × (length tag ≡ 16)) × (Unexhausted st × ((known (st .knowledge) 0 (st .own) ≡ 0) × (length (st .knowledge .replicas) ≡ L .replicas))))
     edit-11-full =
-        let law = edit-11 R permitted s item tag octets st os in
+        let law = edit-11 L permitted s item tag octets st os in
         let count = changed-replicas 1 (beAt item 24 0) (beAt tag 16 0) in
         ((λ h. let a = law .0 h in (a .0, (a .1 .0, count .0 (a .1 .1)))), λ a. law .1 (a .0, (a .1 .0, count .1 (a .1 .1))))
 
-    pub edit-never-12 : editReply R s item tag ≡ refuses 12 → ⊥
+    pub edit-never-12 : editReply L s item tag ≡ refuses 12 → ⊥
     edit-never-12 h =
-        omega (arith, edit-12 R permitted s item tag octets st os .0 h .1 .1 .1, changed-ranges 1 (beAt item 24 0) (beAt tag 16 0))
+        omega (arith, edit-12 L permitted s item tag octets st os .0 h .1 .1 .1, changed-ranges 1 (beAt item 24 0) (beAt tag 16 0))
 
     -- the item has no record, the table is full, and the replicas leave room
-    pub edit-13-full : (editReply R s item tag ≡ refuses 13) ↔ (((length item ≡ 24) × (length tag ≡ 16)) × (Unexhausted st × (((1 ≤ known (st .knowledge) 0 (st .own)) ⊎ (length (st .knowledge .replicas) < R .limits .replicas)) × ((find (beAt item 24 0) (st .records) ≡ none) × (length (st .records) ≡ R .limits .records)))))
+    pub edit-13-full : (editReply L s item tag ≡ refuses 13) ↔ (((length item ≡ 24) × (length tag ≡ 16)) × (Unexhausted st × (((1 ≤ known (st .knowledge) 0 (st .own)) ⊎ (length (st .knowledge .replicas) < L .replicas)) × ((find (beAt item 24 0) (st .records) ≡ none) × (length (st .records) ≡ L .records)))))
     edit-13-full =
-        let law = edit-13 R permitted s item tag octets st os in
+        let law = edit-13 L permitted s item tag octets st os in
         let count = changed-records 1 (beAt item 24 0) (beAt tag 16 0) in (
           (λ h. let a = law .0 h in (a .0, (a .1 .0, (room-there (a .1 .1 .0) (zero-or (known (st .knowledge) 0 (st .own))), count .0 (a .1 .1 .1 .1))))),
           λ a. law .1 (a .0, (a .1 .0, (room-back (a .1 .1 .0), (changed-ranges 1 (beAt item 24 0) (beAt tag 16 0), count .1 (a .1 .1 .1))))),
         )
       where
-        room-there : length (editedStore st item tag .knowledge .replicas) ≤ R .limits .replicas → (known (st .knowledge) 0 (st .own) ≡ 0) ⊎ (1 ≤ known (st .knowledge) 0 (st .own)) → (1 ≤ known (st .knowledge) 0 (st .own)) ⊎ (length (st .knowledge .replicas) < R .limits .replicas)
+        room-there : length (editedStore st item tag .knowledge .replicas) ≤ L .replicas → (known (st .knowledge) 0 (st .own) ≡ 0) ⊎ (1 ≤ known (st .knowledge) 0 (st .own)) → (1 ≤ known (st .knowledge) 0 (st .own)) ⊎ (length (st .knowledge .replicas) < L .replicas)
         room-there h (inr l) = inl l
         room-there h (inl z) =
-            elim (order (length (st .knowledge .replicas)) (R .limits .replicas)) [
+            elim (order (length (st .knowledge .replicas)) (L .replicas)) [
               | less k ↦ inr k
               | same k ↦ absurd (omega (arith, h, changed-replicas 1 (beAt item 24 0) (beAt tag 16 0) .1 (z, k)))
               | more k ↦ absurd (omega (arith, lawful .replicas))
             ]
 
-        room-back : (1 ≤ known (st .knowledge) 0 (st .own)) ⊎ (length (st .knowledge .replicas) < R .limits .replicas) → length (editedStore st item tag .knowledge .replicas) ≤ R .limits .replicas
+        room-back : (1 ≤ known (st .knowledge) 0 (st .own)) ⊎ (length (st .knowledge .replicas) < L .replicas) → length (editedStore st item tag .knowledge .replicas) ≤ L .replicas
         room-back x =
-            elim (order (length (editedStore st item tag .knowledge .replicas)) (R .limits .replicas)) [
+            elim (order (length (editedStore st item tag .knowledge .replicas)) (L .replicas)) [
               | less k ↦ omega arith
               | same k ↦ omega arith
-              | more k ↦ let w = changed-replicas 1 (beAt item 24 0) (beAt tag 16 0) .0 k in absurd (⊎-elim (λ (l : 1 ≤ known (st .knowledge) 0 (st .own)). omega (arith, w .0)) (λ (l : length (st .knowledge .replicas) < R .limits .replicas). omega (arith, w .1)) x)
+              | more k ↦ let w = changed-replicas 1 (beAt item 24 0) (beAt tag 16 0) .0 k in absurd (⊎-elim (λ (l : 1 ≤ known (st .knowledge) 0 (st .own)). omega (arith, w .0)) (λ (l : length (st .knowledge .replicas) < L .replicas). omega (arith, w .1)) x)
             ]
 
   -- ---- delete
 
   module _ (item : List ℕ) where
-    pub delete-11-full : (deleteReply R s item ≡ refuses 11) ↔ ((length item ≡ 24) × (Present (find (beAt item 24 0) (st .records)) × (Unexhausted st × ((known (st .knowledge) 0 (st .own) ≡ 0) × (length (st .knowledge .replicas) ≡ R .limits .replicas)))))
+    pub delete-11-full : (deleteReply L s item ≡ refuses 11) ↔ ((length item ≡ 24) × (Present (find (beAt item 24 0) (st .records)) × (Unexhausted st × ((known (st .knowledge) 0 (st .own) ≡ 0) × (length (st .knowledge .replicas) ≡ L .replicas)))))
     delete-11-full =
-        let law = delete-11 R permitted s item octets st os in
+        let law = delete-11 L permitted s item octets st os in
         let count = changed-replicas 2 (beAt item 24 0) 0 in (
           (λ h. let a = law .0 h in (a .0, (a .1 .0, (a .1 .1 .0, count .0 (a .1 .1 .1))))),
           λ a. law .1 (a .0, (a .1 .0, (a .1 .1 .0, count .1 (a .1 .1 .1)))),
         )
 
-    pub delete-never-12 : deleteReply R s item ≡ refuses 12 → ⊥
+    pub delete-never-12 : deleteReply L s item ≡ refuses 12 → ⊥
     delete-never-12 h =
-        omega (arith, delete-12 R permitted s item octets st os .0 h .1 .1 .1 .1, changed-ranges 2 (beAt item 24 0) 0)
+        omega (arith, delete-12 L permitted s item octets st os .0 h .1 .1 .1 .1, changed-ranges 2 (beAt item 24 0) 0)
 
-    pub delete-never-13 : deleteReply R s item ≡ refuses 13 → ⊥
+    pub delete-never-13 : deleteReply L s item ≡ refuses 13 → ⊥
     delete-never-13 h =
-        let a = delete-13 R permitted s item octets st os .0 h in
+        let a = delete-13 L permitted s item octets st os .0 h in
         omega (arith, a .1 .1 .1 .1 .1, changed-found 2 (beAt item 24 0) 0 (a .1 .0 .0) (a .1 .0 .1 .0))
 
   -- ---- make
 
-  module _ (kn first last : List ℕ) (given : Bytes kn) (k : Knowledge) (read : parse R kn ≡ accepted k) where
-    pub make-never-11 : makeReply R s kn first last ≡ refuses 11 → ⊥
+  module _ (judge : ℕ → ℕ) (kn first last : List ℕ) (given : Bytes kn) (k : Knowledge) (read : parse (record { limits = L; judge = judge }) kn ≡ accepted k) where
+    pub make-never-11 : makeReply (record { limits = L; judge = judge }) s kn first last ≡ refuses 11 → ⊥
     make-never-11 h =
-        let l : Lawful R k = exact R permitted kn k given .0 read .1 in
+        let l : Lawful (record { limits = L; judge = judge }) k = exact (record { limits = L; judge = judge }) permitted kn k given .0 read .1 in
         ⊎-elim (λ a. omega (arith, a .1, normalise-replicas k, l .replicas))
-        (λ a. omega (arith, a .1 .1, project-replicas (beAt first 24 0) (beAt last 24 0) (st .knowledge), lawful .replicas)) (make-11 R s kn first last st k os read .0 h)
+        (λ a. omega (arith, a .1 .1, project-replicas (beAt first 24 0) (beAt last 24 0) (st .knowledge), lawful .replicas)) (make-11 (record { limits = L; judge = judge }) s kn first last st k os read .0 h)
 
-    pub make-never-13 : makeReply R s kn first last ≡ refuses 13 → ⊥
+    pub make-never-13 : makeReply (record { limits = L; judge = judge }) s kn first last ≡ refuses 13 → ⊥
     unfolding made
     make-never-13 h =
         omega (
           arith,
-          make-13 R s kn first last st k os read .0 h .1 .1 .1,
+          make-13 (record { limits = L; judge = judge }) s kn first last st k os read .0 h .1 .1 .1,
           selected-length (beAt first 24 0) (beAt last 24 0) (normalise k) (st .records),
           valid .count,
         )

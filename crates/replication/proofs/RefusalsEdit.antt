@@ -1,4 +1,4 @@
--- When edit and delete refuse, and what they give otherwise. Bytes that are no store are refused with 15. For a store the
+-- When edit and delete refuse, and what they give otherwise. Bytes that are no store are refused with the number of opening them. For a store the
 -- tables are: 17, an item id not of 24 bytes or a tag not of 16; for a delete 19, no record of the item or a tombstone;
 -- 20, some item and replica known at the largest tick there is; then 11, 12 and 13, the counts of the changed store. Each
 -- number is given exactly where its condition is met and none before it; where none is, the bytes are those of the
@@ -12,7 +12,7 @@ use mathlib.Core.Option.{Option, none, some}
 use lib.ListN.{length}
 use Rattle.codec.specs.Number.{beAt, Bytes}
 use Rattle.codec.specs.Reply.{Reply, gives, refuses, Line, firstFault}
-use Rattle.layout.specs.Knowledge.{Rules, Lawful}
+use Rattle.layout.specs.Knowledge.{Limits, anyId, Lawful}
 use Rattle.layout.specs.Permitted.{Permitted}
 use Rattle.ticks.specs.Calls.{line, wrongLength}
 use Rattle.ticks.proofs.Lists.{Among}
@@ -20,25 +20,27 @@ use Rattle.ticks.proofs.ForCalls.{id-is}
 use Rattle.replication.specs.Formats.{Store, encodeStore, find}
 use Rattle.replication.specs.OpenStore.{openStore}
 use Rattle.replication.specs.Operate.{changed}
-use Rattle.replication.specs.Calls.{noStore, storeOr, gone, exhausted, storeLines, editLines, edited, editReply, deleteLines, deleted, deleteReply}
-use Rattle.replication.proofs.RefusalsTable.{Rule, rule, Told, told-cons, At, only, refused-at, refused-among, refused-never, given-none, refuses-same}
+use Rattle.replication.specs.Calls.{storeOr, gone, exhausted, storeLines, editLines, edited, editReply, deleteLines, deleted, deleteReply}
+use Rattle.replication.proofs.RefusalsTable.{Rule, rule, Told, told-cons, At, only, refused-at, refused-among, given-none, refuses-same}
 use Rattle.replication.proofs.RefusalsTests.{Gone, Present, means-19, Exhausted, Unexhausted, means-20, means-length, means-lengths, rule11, rule12, rule13, told-store, opened-lawful}
+use Rattle.codec.specs.Parsed.{accepted, refused, Parsed, ownFault, readOr}
 
 -- ---- the replies, by what opens
 
-edit-on : Rules → Option Store → List ℕ → List ℕ → Reply
-edit-on R o item tag = firstFault refuses (editLines R o item tag (edited o item tag)) (gives (encodeStore (edited o item tag)))
+edit-on : Limits → Parsed Store → List ℕ → List ℕ → Reply
+edit-on L o item tag = firstFault refuses (editLines L o item tag (edited o item tag)) (gives (encodeStore (edited o item tag)))
 
-delete-on : Rules → Option Store → List ℕ → Reply
-delete-on R o item = firstFault refuses (deleteLines R o item (deleted o item)) (gives (encodeStore (deleted o item)))
+delete-on : Limits → Parsed Store → List ℕ → Reply
+delete-on L o item = firstFault refuses (deleteLines L o item (deleted o item)) (gives (encodeStore (deleted o item)))
 
-edit-no-store : (R : Rules) (s item tag : List ℕ) → openStore R s ≡ none → editReply R s item tag ≡ refuses 15
-unfolding editReply edit-on editLines noStore firstFault
-edit-no-store R s item tag e = ap (λ (o : Option Store). edit-on R o item tag) e
+-- the store's own number, whichever it is
+pub edit-store : (L : Limits) (s item tag : List ℕ) (n : ℕ) → openStore L s ≡ refused n → editReply L s item tag ≡ refuses n
+unfolding editReply edit-on editLines ownFault firstFault
+edit-store L s item tag n e = ap (λ (o : Parsed Store). edit-on L o item tag) e
 
-delete-no-store : (R : Rules) (s item : List ℕ) → openStore R s ≡ none → deleteReply R s item ≡ refuses 15
-unfolding deleteReply delete-on deleteLines noStore firstFault
-delete-no-store R s item e = ap (λ (o : Option Store). delete-on R o item) e
+pub delete-store : (L : Limits) (s item : List ℕ) (n : ℕ) → openStore L s ≡ refused n → deleteReply L s item ≡ refuses n
+unfolding deleteReply delete-on deleteLines ownFault firstFault
+delete-store L s item n e = ap (λ (o : Parsed Store). delete-on L o item) e
 
 -- the stores that an edit and a delete come to
 abbrev pub editedStore : Store → List ℕ → List ℕ → Store
@@ -48,188 +50,172 @@ abbrev pub deletedStore : Store → List ℕ → Store
 deletedStore st item = changed 2 (beAt item 24 0) 0 st
 
 -- the three lines of a changed store
-abbrev pub storeRules : Rules → Store → List Rule
-storeRules R st = rule11 R (st .knowledge) ∷ rule12 R (st .knowledge) ∷ rule13 R (st .records) ∷ []
+abbrev pub storeRules : Limits → Store → List Rule
+storeRules L st = rule11 L (st .knowledge) ∷ rule12 L (st .knowledge) ∷ rule13 L (st .records) ∷ []
 
 -- ---- edit
 
-module _ (R : Rules) (st : Store) (item tag : List ℕ) where
+module _ (L : Limits) (st : Store) (item tag : List ℕ) where
   abbrev edit-lines : List Line
-  edit-lines = line 17 (wrongLength 24 item || wrongLength 16 tag) ∷ line 20 (exhausted st) ∷ storeLines R (editedStore st item tag)
+  edit-lines = line 17 (wrongLength 24 item || wrongLength 16 tag) ∷ line 20 (exhausted st) ∷ storeLines L (editedStore st item tag)
 
   abbrev pub editRules : List Rule
   editRules =
       rule 17 ((length item ≡ 24 → ⊥) ⊎ (length tag ≡ 16 → ⊥)) ((length item ≡ 24) × (length tag ≡ 16)) ∷
       rule 20 (Exhausted st) (Unexhausted st) ∷
-      storeRules R (editedStore st item tag)
+      storeRules L (editedStore st item tag)
 
-  edit-told : Lawful R (st .knowledge) → Told edit-lines editRules
+  edit-told : Lawful (anyId L) (st .knowledge) → Told edit-lines editRules
   edit-told l =
-      told-cons (line 17 (wrongLength 24 item || wrongLength 16 tag)) (line 20 (exhausted st) ∷ storeLines R (editedStore st item tag))
-      (rule 17 ((length item ≡ 24 → ⊥) ⊎ (length tag ≡ 16 → ⊥)) ((length item ≡ 24) × (length tag ≡ 16))) (rule 20 (Exhausted st) (Unexhausted st) ∷ storeRules R (editedStore st item tag))
+      told-cons (line 17 (wrongLength 24 item || wrongLength 16 tag)) (line 20 (exhausted st) ∷ storeLines L (editedStore st item tag))
+      (rule 17 ((length item ≡ 24 → ⊥) ⊎ (length tag ≡ 16 → ⊥)) ((length item ≡ 24) × (length tag ≡ 16))) (rule 20 (Exhausted st) (Unexhausted st) ∷ storeRules L (editedStore st item tag))
       (means-lengths item tag)
-      (told-cons (line 20 (exhausted st)) (storeLines R (editedStore st item tag)) (rule 20 (Exhausted st) (Unexhausted st)) (storeRules R (editedStore st item tag)) (means-20 R st l)
-      (told-store R (editedStore st item tag)))
+      (told-cons (line 20 (exhausted st)) (storeLines L (editedStore st item tag)) (rule 20 (Exhausted st) (Unexhausted st)) (storeRules L (editedStore st item tag)) (means-20 L st l)
+      (told-store L (editedStore st item tag)))
 
-  edit-table : (s : List ℕ) → openStore R s ≡ some st → editReply R s item tag ≡ firstFault refuses edit-lines (gives (encodeStore (editedStore st item tag)))
-  unfolding editReply edit-on editLines edited noStore storeOr firstFault
+  edit-table : (s : List ℕ) → openStore L s ≡ accepted st → editReply L s item tag ≡ firstFault refuses edit-lines (gives (encodeStore (editedStore st item tag)))
+  unfolding editReply edit-on editLines edited ownFault readOr firstFault
   edit-table s e =
-      ap (λ (o : Option Store). edit-on R o item tag) e
-      ∙ ap₂ (λ (i : ℕ) (g : ℕ). firstFault refuses (line 17 (wrongLength 24 item || wrongLength 16 tag) ∷ line 20 (exhausted st) ∷ storeLines R (changed 1 i g st)) (gives (encodeStore (changed 1 i g st)))) (id-is 24 item) (id-is 16 tag)
+      ap (λ (o : Parsed Store). edit-on L o item tag) e
+      ∙ ap₂ (λ (i : ℕ) (g : ℕ). firstFault refuses (line 17 (wrongLength 24 item || wrongLength 16 tag) ∷ line 20 (exhausted st) ∷ storeLines L (changed 1 i g st)) (gives (encodeStore (changed 1 i g st)))) (id-is 24 item) (id-is 16 tag)
 
 -- what is met where edit gives bytes
-pub record EditGives (R : Rules) (st : Store) (item tag bs : List ℕ) : Type 0 where
+pub record EditGives (L : Limits) (st : Store) (item tag bs : List ℕ) : Type 0 where
   pub item24 : length item ≡ 24
   pub tag16 : length tag ≡ 16
   pub unexhausted : Unexhausted st
-  pub replicas : length (editedStore st item tag .knowledge .replicas) ≤ R .limits .replicas
-  pub ranges : length (editedStore st item tag .knowledge .ranges) ≤ R .limits .ranges
-  pub records : length (editedStore st item tag .records) ≤ R .limits .records
+  pub replicas : length (editedStore st item tag .knowledge .replicas) ≤ L .replicas
+  pub ranges : length (editedStore st item tag .knowledge .ranges) ≤ L .ranges
+  pub records : length (editedStore st item tag .records) ≤ L .records
   pub bytes : bs ≡ encodeStore (editedStore st item tag)
 
-module _ (R : Rules) (permitted : Permitted (R .limits)) (s item tag : List ℕ) (octets : Bytes s) (st : Store) (os : openStore R s ≡ some st) where
-  told : Told (edit-lines R st item tag) (editRules R st item tag)
-  told = edit-told R st item tag (opened-lawful R s st permitted octets os)
+module _ (L : Limits) (permitted : Permitted L) (s item tag : List ℕ) (octets : Bytes s) (st : Store) (os : openStore L s ≡ accepted st) where
+  told : Told (edit-lines L st item tag) (editRules L st item tag)
+  told = edit-told L st item tag (opened-lawful L s st permitted octets os)
 
-  at : (n k : ℕ) → only n k (editRules R st item tag) ≡ true → (editReply R s item tag ≡ refuses n) ↔ At k (editRules R st item tag)
-  at n k o = refused-at (editReply R s item tag) (edit-lines R st item tag) (editRules R st item tag) (encodeStore (editedStore st item tag)) (edit-table R st item tag s os) told n k o
+  at : (n k : ℕ) → only n k (editRules L st item tag) ≡ true → (editReply L s item tag ≡ refuses n) ↔ At k (editRules L st item tag)
+  at n k o = refused-at (editReply L s item tag) (edit-lines L st item tag) (editRules L st item tag) (encodeStore (editedStore st item tag)) (edit-table L st item tag s os) told n k o
 
-  pub edit-17 : (editReply R s item tag ≡ refuses 17) ↔ ((length item ≡ 24 → ⊥) ⊎ (length tag ≡ 16 → ⊥))
+  pub edit-17 : (editReply L s item tag ≡ refuses 17) ↔ ((length item ≡ 24 → ⊥) ⊎ (length tag ≡ 16 → ⊥))
   edit-17 = at 17 0 refl
 
-  pub edit-20 : (editReply R s item tag ≡ refuses 20) ↔ (((length item ≡ 24) × (length tag ≡ 16)) × Exhausted st)
+  pub edit-20 : (editReply L s item tag ≡ refuses 20) ↔ (((length item ≡ 24) × (length tag ≡ 16)) × Exhausted st)
   edit-20 = at 20 1 refl
 
-  pub edit-11 : (editReply R s item tag ≡ refuses 11) ↔ (((length item ≡ 24) × (length tag ≡ 16)) × (Unexhausted st × (R .limits .replicas < length (editedStore st item tag .knowledge .replicas))))
+  pub edit-11 : (editReply L s item tag ≡ refuses 11) ↔ (((length item ≡ 24) × (length tag ≡ 16)) × (Unexhausted st × (L .replicas < length (editedStore st item tag .knowledge .replicas))))
   edit-11 = at 11 2 refl
 
-  pub edit-12 : (editReply R s item tag ≡ refuses 12) ↔ (((length item ≡ 24) × (length tag ≡ 16)) × (Unexhausted st × ((length (editedStore st item tag .knowledge .replicas) ≤ R .limits .replicas) × (R .limits .ranges < length (editedStore st item tag .knowledge .ranges)))))
+  pub edit-12 : (editReply L s item tag ≡ refuses 12) ↔ (((length item ≡ 24) × (length tag ≡ 16)) × (Unexhausted st × ((length (editedStore st item tag .knowledge .replicas) ≤ L .replicas) × (L .ranges < length (editedStore st item tag .knowledge .ranges)))))
   edit-12 = at 12 3 refl
 
-  pub edit-13 : (editReply R s item tag ≡ refuses 13) ↔ (((length item ≡ 24) × (length tag ≡ 16)) × (Unexhausted st × ((length (editedStore st item tag .knowledge .replicas) ≤ R .limits .replicas) × ((length (editedStore st item tag .knowledge .ranges) ≤ R .limits .ranges) × (R .limits .records < length (editedStore st item tag .records))))))
+  pub edit-13 : (editReply L s item tag ≡ refuses 13) ↔ (((length item ≡ 24) × (length tag ≡ 16)) × (Unexhausted st × ((length (editedStore st item tag .knowledge .replicas) ≤ L .replicas) × ((length (editedStore st item tag .knowledge .ranges) ≤ L .ranges) × (L .records < length (editedStore st item tag .records))))))
   edit-13 = at 13 4 refl
 
-  pub edit-gives : (bs : List ℕ) → (editReply R s item tag ≡ gives bs) ↔ EditGives R st item tag bs
+  pub edit-gives : (bs : List ℕ) → (editReply L s item tag ≡ gives bs) ↔ EditGives L st item tag bs
   edit-gives bs =
-      let law = given-none (editReply R s item tag) (edit-lines R st item tag) (editRules R st item tag) (encodeStore (editedStore st item tag)) (edit-table R st item tag s os) told bs in (
+      let law = given-none (editReply L s item tag) (edit-lines L st item tag) (editRules L st item tag) (encodeStore (editedStore st item tag)) (edit-table L st item tag s os) told bs in (
         (λ h.
             let w = law .0 h in
             record { item24 = w .0 .0 .0; tag16 = w .0 .0 .1; unexhausted = w .0 .1 .0; replicas = w .0 .1 .1 .0; ranges = w .0 .1 .1 .1 .0; records = w .0 .1 .1 .1 .1 .0; bytes = w .1 }),
         λ m. law .1 (((m .item24, m .tag16), (m .unexhausted, (m .replicas, (m .ranges, (m .records, tt))))), m .bytes),
       )
 
-module _ (R : Rules) (permitted : Permitted (R .limits)) (s item tag : List ℕ) (octets : Bytes s) where
-  pub edit-15 : (editReply R s item tag ≡ refuses 15) ↔ (openStore R s ≡ none)
-  edit-15 = (go (openStore R s) refl, edit-no-store R s item tag)
+module _ (L : Limits) (permitted : Permitted L) (s item tag : List ℕ) (octets : Bytes s) where
+  -- no other number: the store's own, or one of the table
+  pub edit-numbers : (n : ℕ) → editReply L s item tag ≡ refuses n → (openStore L s ≡ refused n) ⊎ (((st : Store) × (openStore L s ≡ accepted st)) × Among n (17 ∷ 20 ∷ 11 ∷ 12 ∷ 13 ∷ []))
+  edit-numbers n = go (openStore L s) refl
     where
-      go : (o : Option Store) → openStore R s ≡ o → editReply R s item tag ≡ refuses 15 → openStore R s ≡ none
-      go none e h = e
-      go (some st) e h =
-          absurd
-          (refused-never (editReply R s item tag) (edit-lines R st item tag) (editRules R st item tag) (encodeStore (editedStore st item tag)) (edit-table R st item tag s e)
-          (told R permitted s item tag octets st e) 15 refl h)
-
-  -- no other number
-  pub edit-numbers : (n : ℕ) → editReply R s item tag ≡ refuses n → Among n (15 ∷ 17 ∷ 20 ∷ 11 ∷ 12 ∷ 13 ∷ [])
-  edit-numbers n = go (openStore R s) refl
-    where
-      go : (o : Option Store) → openStore R s ≡ o → editReply R s item tag ≡ refuses n → Among n (15 ∷ 17 ∷ 20 ∷ 11 ∷ 12 ∷ 13 ∷ [])
-      go none e h = inl (sym (refuses-same (editReply R s item tag) 15 n (edit-no-store R s item tag e) h))
-      go (some st) e h =
-          inr
-          (refused-among (editReply R s item tag) (edit-lines R st item tag) (editRules R st item tag) (encodeStore (editedStore st item tag)) (edit-table R st item tag s e)
-          (told R permitted s item tag octets st e) n h)
+      go : (o : Parsed Store) → openStore L s ≡ o → editReply L s item tag ≡ refuses n → (openStore L s ≡ refused n) ⊎ (((st : Store) × (openStore L s ≡ accepted st)) × Among n (17 ∷ 20 ∷ 11 ∷ 12 ∷ 13 ∷ []))
+      go (refused m) e h = inl (e ∙ ap refused (refuses-same (editReply L s item tag) m n (edit-store L s item tag m e) h))
+      go (accepted st) e h =
+          inr (
+            (st, e),
+            refused-among (editReply L s item tag) (edit-lines L st item tag) (editRules L st item tag) (encodeStore (editedStore st item tag)) (edit-table L st item tag s e)
+                (told L permitted s item tag octets st e) n h,
+          )
 
 -- ---- delete
 
-module _ (R : Rules) (st : Store) (item : List ℕ) where
+module _ (L : Limits) (st : Store) (item : List ℕ) where
   abbrev delete-lines : List Line
-  delete-lines = line 17 (wrongLength 24 item) ∷ line 19 (gone (find (beAt item 24 0) (st .records))) ∷ line 20 (exhausted st) ∷ storeLines R (deletedStore st item)
+  delete-lines = line 17 (wrongLength 24 item) ∷ line 19 (gone (find (beAt item 24 0) (st .records))) ∷ line 20 (exhausted st) ∷ storeLines L (deletedStore st item)
 
   abbrev pub deleteRules : List Rule
   deleteRules =
       rule 17 (length item ≡ 24 → ⊥) (length item ≡ 24) ∷
       rule 19 (Gone (find (beAt item 24 0) (st .records))) (Present (find (beAt item 24 0) (st .records))) ∷
       rule 20 (Exhausted st) (Unexhausted st) ∷
-      storeRules R (deletedStore st item)
+      storeRules L (deletedStore st item)
 
-  delete-told : Lawful R (st .knowledge) → Told delete-lines deleteRules
+  delete-told : Lawful (anyId L) (st .knowledge) → Told delete-lines deleteRules
   delete-told l =
       let o = find (beAt item 24 0) (st .records) in
-      told-cons (line 17 (wrongLength 24 item)) (line 19 (gone o) ∷ line 20 (exhausted st) ∷ storeLines R (deletedStore st item)) (rule 17 (length item ≡ 24 → ⊥) (length item ≡ 24))
-      (rule 19 (Gone o) (Present o) ∷ rule 20 (Exhausted st) (Unexhausted st) ∷ storeRules R (deletedStore st item)) (means-length 24 item)
-      (told-cons (line 19 (gone o)) (line 20 (exhausted st) ∷ storeLines R (deletedStore st item)) (rule 19 (Gone o) (Present o)) (rule 20 (Exhausted st) (Unexhausted st) ∷ storeRules R (deletedStore st item)) (means-19 o)
-      (told-cons (line 20 (exhausted st)) (storeLines R (deletedStore st item)) (rule 20 (Exhausted st) (Unexhausted st)) (storeRules R (deletedStore st item)) (means-20 R st l)
-      (told-store R (deletedStore st item))))
+      told-cons (line 17 (wrongLength 24 item)) (line 19 (gone o) ∷ line 20 (exhausted st) ∷ storeLines L (deletedStore st item)) (rule 17 (length item ≡ 24 → ⊥) (length item ≡ 24))
+      (rule 19 (Gone o) (Present o) ∷ rule 20 (Exhausted st) (Unexhausted st) ∷ storeRules L (deletedStore st item)) (means-length 24 item)
+      (told-cons (line 19 (gone o)) (line 20 (exhausted st) ∷ storeLines L (deletedStore st item)) (rule 19 (Gone o) (Present o)) (rule 20 (Exhausted st) (Unexhausted st) ∷ storeRules L (deletedStore st item)) (means-19 o)
+      (told-cons (line 20 (exhausted st)) (storeLines L (deletedStore st item)) (rule 20 (Exhausted st) (Unexhausted st)) (storeRules L (deletedStore st item)) (means-20 L st l)
+      (told-store L (deletedStore st item))))
 
-  delete-table : (s : List ℕ) → openStore R s ≡ some st → deleteReply R s item ≡ firstFault refuses delete-lines (gives (encodeStore (deletedStore st item)))
-  unfolding deleteReply delete-on deleteLines deleted noStore storeOr firstFault
+  delete-table : (s : List ℕ) → openStore L s ≡ accepted st → deleteReply L s item ≡ firstFault refuses delete-lines (gives (encodeStore (deletedStore st item)))
+  unfolding deleteReply delete-on deleteLines deleted ownFault readOr firstFault
   delete-table s e =
-      ap (λ (o : Option Store). delete-on R o item) e
-      ∙ ap (λ (i : ℕ). firstFault refuses (line 17 (wrongLength 24 item) ∷ line 19 (gone (find i (st .records))) ∷ line 20 (exhausted st) ∷ storeLines R (changed 2 i 0 st)) (gives (encodeStore (changed 2 i 0 st)))) (id-is 24 item)
+      ap (λ (o : Parsed Store). delete-on L o item) e
+      ∙ ap (λ (i : ℕ). firstFault refuses (line 17 (wrongLength 24 item) ∷ line 19 (gone (find i (st .records))) ∷ line 20 (exhausted st) ∷ storeLines L (changed 2 i 0 st)) (gives (encodeStore (changed 2 i 0 st)))) (id-is 24 item)
 
 -- what is met where delete gives bytes
-pub record DeleteGives (R : Rules) (st : Store) (item bs : List ℕ) : Type 0 where
+pub record DeleteGives (L : Limits) (st : Store) (item bs : List ℕ) : Type 0 where
   pub item24 : length item ≡ 24
   pub present : Present (find (beAt item 24 0) (st .records))
   pub unexhausted : Unexhausted st
-  pub replicas : length (deletedStore st item .knowledge .replicas) ≤ R .limits .replicas
-  pub ranges : length (deletedStore st item .knowledge .ranges) ≤ R .limits .ranges
-  pub records : length (deletedStore st item .records) ≤ R .limits .records
+  pub replicas : length (deletedStore st item .knowledge .replicas) ≤ L .replicas
+  pub ranges : length (deletedStore st item .knowledge .ranges) ≤ L .ranges
+  pub records : length (deletedStore st item .records) ≤ L .records
   pub bytes : bs ≡ encodeStore (deletedStore st item)
 
-module _ (R : Rules) (permitted : Permitted (R .limits)) (s item : List ℕ) (octets : Bytes s) (st : Store) (os : openStore R s ≡ some st) where
-  delete-said : Told (delete-lines R st item) (deleteRules R st item)
-  delete-said = delete-told R st item (opened-lawful R s st permitted octets os)
+module _ (L : Limits) (permitted : Permitted L) (s item : List ℕ) (octets : Bytes s) (st : Store) (os : openStore L s ≡ accepted st) where
+  delete-said : Told (delete-lines L st item) (deleteRules L st item)
+  delete-said = delete-told L st item (opened-lawful L s st permitted octets os)
 
-  delete-at : (n k : ℕ) → only n k (deleteRules R st item) ≡ true → (deleteReply R s item ≡ refuses n) ↔ At k (deleteRules R st item)
-  delete-at n k o = refused-at (deleteReply R s item) (delete-lines R st item) (deleteRules R st item) (encodeStore (deletedStore st item)) (delete-table R st item s os) delete-said n k o
+  delete-at : (n k : ℕ) → only n k (deleteRules L st item) ≡ true → (deleteReply L s item ≡ refuses n) ↔ At k (deleteRules L st item)
+  delete-at n k o = refused-at (deleteReply L s item) (delete-lines L st item) (deleteRules L st item) (encodeStore (deletedStore st item)) (delete-table L st item s os) delete-said n k o
 
-  pub delete-17 : (deleteReply R s item ≡ refuses 17) ↔ (length item ≡ 24 → ⊥)
+  pub delete-17 : (deleteReply L s item ≡ refuses 17) ↔ (length item ≡ 24 → ⊥)
   delete-17 = delete-at 17 0 refl
 
-  pub delete-19 : (deleteReply R s item ≡ refuses 19) ↔ ((length item ≡ 24) × Gone (find (beAt item 24 0) (st .records)))
+  pub delete-19 : (deleteReply L s item ≡ refuses 19) ↔ ((length item ≡ 24) × Gone (find (beAt item 24 0) (st .records)))
   delete-19 = delete-at 19 1 refl
 
-  pub delete-20 : (deleteReply R s item ≡ refuses 20) ↔ ((length item ≡ 24) × (Present (find (beAt item 24 0) (st .records)) × Exhausted st))
+  pub delete-20 : (deleteReply L s item ≡ refuses 20) ↔ ((length item ≡ 24) × (Present (find (beAt item 24 0) (st .records)) × Exhausted st))
   delete-20 = delete-at 20 2 refl
 
-  pub delete-11 : (deleteReply R s item ≡ refuses 11) ↔ ((length item ≡ 24) × (Present (find (beAt item 24 0) (st .records)) × (Unexhausted st × (R .limits .replicas < length (deletedStore st item .knowledge .replicas)))))
+  pub delete-11 : (deleteReply L s item ≡ refuses 11) ↔ ((length item ≡ 24) × (Present (find (beAt item 24 0) (st .records)) × (Unexhausted st × (L .replicas < length (deletedStore st item .knowledge .replicas)))))
   delete-11 = delete-at 11 3 refl
 
-  pub delete-12 : (deleteReply R s item ≡ refuses 12) ↔ ((length item ≡ 24) × (Present (find (beAt item 24 0) (st .records)) × (Unexhausted st × ((length (deletedStore st item .knowledge .replicas) ≤ R .limits .replicas) × (R .limits .ranges < length (deletedStore st item .knowledge .ranges))))))
+  pub delete-12 : (deleteReply L s item ≡ refuses 12) ↔ ((length item ≡ 24) × (Present (find (beAt item 24 0) (st .records)) × (Unexhausted st × ((length (deletedStore st item .knowledge .replicas) ≤ L .replicas) × (L .ranges < length (deletedStore st item .knowledge .ranges))))))
   delete-12 = delete-at 12 4 refl
 
-  pub delete-13 : (deleteReply R s item ≡ refuses 13) ↔ ((length item ≡ 24) × (Present (find (beAt item 24 0) (st .records)) × (Unexhausted st × ((length (deletedStore st item .knowledge .replicas) ≤ R .limits .replicas) × ((length (deletedStore st item .knowledge .ranges) ≤ R .limits .ranges) × (R .limits .records < length (deletedStore st item .records)))))))
+  pub delete-13 : (deleteReply L s item ≡ refuses 13) ↔ ((length item ≡ 24) × (Present (find (beAt item 24 0) (st .records)) × (Unexhausted st × ((length (deletedStore st item .knowledge .replicas) ≤ L .replicas) × ((length (deletedStore st item .knowledge .ranges) ≤ L .ranges) × (L .records < length (deletedStore st item .records)))))))
   delete-13 = delete-at 13 5 refl
 
-  pub delete-gives : (bs : List ℕ) → (deleteReply R s item ≡ gives bs) ↔ DeleteGives R st item bs
+  pub delete-gives : (bs : List ℕ) → (deleteReply L s item ≡ gives bs) ↔ DeleteGives L st item bs
   delete-gives bs =
-      let law = given-none (deleteReply R s item) (delete-lines R st item) (deleteRules R st item) (encodeStore (deletedStore st item)) (delete-table R st item s os) delete-said bs in (
+      let law = given-none (deleteReply L s item) (delete-lines L st item) (deleteRules L st item) (encodeStore (deletedStore st item)) (delete-table L st item s os) delete-said bs in (
         (λ h.
             let w = law .0 h in
             record { item24 = w .0 .0; present = w .0 .1 .0; unexhausted = w .0 .1 .1 .0; replicas = w .0 .1 .1 .1 .0; ranges = w .0 .1 .1 .1 .1 .0; records = w .0 .1 .1 .1 .1 .1 .0; bytes = w .1 }),
         λ m. law .1 ((m .item24, (m .present, (m .unexhausted, (m .replicas, (m .ranges, (m .records, tt)))))), m .bytes),
       )
 
-module _ (R : Rules) (permitted : Permitted (R .limits)) (s item : List ℕ) (octets : Bytes s) where
-  pub delete-15 : (deleteReply R s item ≡ refuses 15) ↔ (openStore R s ≡ none)
-  delete-15 = (go (openStore R s) refl, delete-no-store R s item)
+module _ (L : Limits) (permitted : Permitted L) (s item : List ℕ) (octets : Bytes s) where
+  -- no other number: the store's own, or one of the table
+  pub delete-numbers : (n : ℕ) → deleteReply L s item ≡ refuses n → (openStore L s ≡ refused n) ⊎ (((st : Store) × (openStore L s ≡ accepted st)) × Among n (17 ∷ 19 ∷ 20 ∷ 11 ∷ 12 ∷ 13 ∷ []))
+  delete-numbers n = go (openStore L s) refl
     where
-      go : (o : Option Store) → openStore R s ≡ o → deleteReply R s item ≡ refuses 15 → openStore R s ≡ none
-      go none e h = e
-      go (some st) e h =
-          absurd
-          (refused-never (deleteReply R s item) (delete-lines R st item) (deleteRules R st item) (encodeStore (deletedStore st item)) (delete-table R st item s e)
-          (delete-said R permitted s item octets st e) 15 refl h)
-
-  -- no other number
-  pub delete-numbers : (n : ℕ) → deleteReply R s item ≡ refuses n → Among n (15 ∷ 17 ∷ 19 ∷ 20 ∷ 11 ∷ 12 ∷ 13 ∷ [])
-  delete-numbers n = go (openStore R s) refl
-    where
-      go : (o : Option Store) → openStore R s ≡ o → deleteReply R s item ≡ refuses n → Among n (15 ∷ 17 ∷ 19 ∷ 20 ∷ 11 ∷ 12 ∷ 13 ∷ [])
-      go none e h = inl (sym (refuses-same (deleteReply R s item) 15 n (delete-no-store R s item e) h))
-      go (some st) e h =
-          inr
-          (refused-among (deleteReply R s item) (delete-lines R st item) (deleteRules R st item) (encodeStore (deletedStore st item)) (delete-table R st item s e)
-          (delete-said R permitted s item octets st e) n h)
+      go : (o : Parsed Store) → openStore L s ≡ o → deleteReply L s item ≡ refuses n → (openStore L s ≡ refused n) ⊎ (((st : Store) × (openStore L s ≡ accepted st)) × Among n (17 ∷ 19 ∷ 20 ∷ 11 ∷ 12 ∷ 13 ∷ []))
+      go (refused m) e h = inl (e ∙ ap refused (refuses-same (deleteReply L s item) m n (delete-store L s item m e) h))
+      go (accepted st) e h =
+          inr (
+            (st, e),
+            refused-among (deleteReply L s item) (delete-lines L st item) (deleteRules L st item) (encodeStore (deletedStore st item)) (delete-table L st item s e)
+                (delete-said L permitted s item octets st e) n h,
+          )

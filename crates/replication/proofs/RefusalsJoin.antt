@@ -12,7 +12,7 @@ use native.Mathlib.Omega.{arith}
 use lib.ListN.{length}
 use Rattle.codec.specs.Number.{Bytes}
 use Rattle.codec.specs.Reply.{gives, refuses}
-use Rattle.layout.specs.Knowledge.{Rules, Rising}
+use Rattle.layout.specs.Knowledge.{Limits, anyId, Rising}
 use Rattle.layout.specs.Permitted.{Permitted}
 use Rattle.ticks.specs.Operations.{merge}
 use Rattle.ticks.specs.Table.{sorted}
@@ -28,6 +28,7 @@ use Rattle.replication.proofs.StoreBytes.{valid-store, store-opened}
 use Rattle.replication.proofs.BatchBytes.{valid-batch, batch-opened}
 use Rattle.replication.proofs.RefusalsTests.{Covered, Behind}
 use Rattle.replication.proofs.RefusalsApply.{ApplyGives, apply-13, apply-gives}
+use Rattle.codec.specs.Parsed.{accepted}
 
 -- ---- the items of a join
 
@@ -96,39 +97,39 @@ ids-either xs ys i = (
 -- ---- apply
 
 -- what is met where apply gives bytes, the item ids of the store's and the batch's records being those of the list
-pub record ApplyGivesPlain (R : Rules) (st : Store) (b : Batch) (is bs : List ℕ) : Type 0 where
+pub record ApplyGivesPlain (L : Limits) (st : Store) (b : Batch) (is bs : List ℕ) : Type 0 where
   pub covered : Covered st b
   pub behind : Behind st b
-  pub replicas : length (merge (st .knowledge) (b .learned) .replicas) ≤ R .limits .replicas
-  pub ranges : length (merge (st .knowledge) (b .learned) .ranges) ≤ R .limits .ranges
-  pub records : length is ≤ R .limits .records
+  pub replicas : length (merge (st .knowledge) (b .learned) .replicas) ≤ L .replicas
+  pub ranges : length (merge (st .knowledge) (b .learned) .ranges) ≤ L .ranges
+  pub records : length is ≤ L .records
   pub bytes : bs ≡ encodeStore (applied st b)
 
-module _ (R : Rules) (permitted : Permitted (R .limits)) (s t : List ℕ) (octets : Bytes s) (given : Bytes t) (st : Store) (b : Batch) (os : openStore R s ≡ some st) (ob : openBatch R t ≡ some b) where
+module _ (L : Limits) (permitted : Permitted L) (s t : List ℕ) (octets : Bytes s) (given : Bytes t) (st : Store) (b : Batch) (os : openStore L s ≡ accepted st) (ob : openBatch L t ≡ accepted b) where
   store-rising : Rising 0 (items (st .records))
   store-rising =
-      let valid = valid-store (R .limits) st .0 (store-opened R s st permitted octets os .1 .1) in
+      let valid = valid-store L st .0 (store-opened L s st permitted octets os .1 .1) in
       valid-recs (versionsIn (st .knowledge)) 0 (st .records) .0 (valid .records) .0
 
   batch-rising : Rising 0 (items (b .records))
   batch-rising =
-      let valid = valid-batch (R .limits) b .0 (batch-opened R t b permitted given ob .1 .1) in
+      let valid = valid-batch L b .0 (batch-opened L t b permitted given ob .1 .1) in
       valid-recs (carried b) 0 (b .records) .0 (valid .records) .0
 
   module _ (is : List ℕ) (rising : Rising 0 is) (either : (i : ℕ) → Among i is ↔ (Among i (items (st .records)) ⊎ Among i (items (b .records)))) where
     count : length (join (st .records) (b .records)) ≡ length is
     count = join-count (st .records) (b .records) is store-rising batch-rising rising either
 
-    pub apply-13-plain : (applyReply R s t ≡ refuses 13) ↔ ((Covered st b × Behind st b) × ((length (merge (st .knowledge) (b .learned) .replicas) ≤ R .limits .replicas) × ((length (merge (st .knowledge) (b .learned) .ranges) ≤ R .limits .ranges) × (R .limits .records < length is))))
+    pub apply-13-plain : (applyReply L s t ≡ refuses 13) ↔ ((Covered st b × Behind st b) × ((length (merge (st .knowledge) (b .learned) .replicas) ≤ L .replicas) × ((length (merge (st .knowledge) (b .learned) .ranges) ≤ L .ranges) × (L .records < length is))))
     apply-13-plain =
-        let law = apply-13 R s t st b os ob in (
+        let law = apply-13 L s t st b os ob in (
           (λ h. let a = law .0 h in (a .0, (a .1 .0, (a .1 .1 .0, omega (arith, a .1 .1 .1, count))))),
           λ a. law .1 (a .0, (a .1 .0, (a .1 .1 .0, omega (arith, a .1 .1 .1, count)))),
         )
 
-    pub apply-gives-plain : (bs : List ℕ) → (applyReply R s t ≡ gives bs) ↔ ApplyGivesPlain R st b is bs
+    pub apply-gives-plain : (bs : List ℕ) → (applyReply L s t ≡ gives bs) ↔ ApplyGivesPlain L st b is bs
     apply-gives-plain bs =
-        let law = apply-gives R s t st b os ob bs in (
+        let law = apply-gives L s t st b os ob bs in (
           (λ h.
               let m = law .0 h in
               record { covered = m .covered; behind = m .behind; replicas = m .replicas; ranges = m .ranges; records = omega (arith, m .records, count); bytes = m .bytes }),

@@ -8,7 +8,7 @@ use Prim.Native.Nat.{ℕ, _≤_, _<_, _^_}
 use mathlib.Core.Path.{_≡_, refl, sym, ap, _∙_, subst}
 use mathlib.Core.Logic.{_⊎_, inl, inr, ⊎-elim, _↔_}
 use mathlib.Core.Bool.{Bool, true, false}
-use mathlib.Core.List.{List}
+use mathlib.Core.List.{List, [], _∷_}
 use mathlib.Core.Option.{Option, none, some}
 use native.Mathlib.Omega.{arith}
 use lib.Dec.{leb}
@@ -18,7 +18,7 @@ use Rattle.codec.specs.Number.{beAt, Bytes}
 use Rattle.codec.specs.Reply.{Reply, gives, refuses, answer, after}
 use Rattle.codec.specs.declared.Answer.the-variants.{Written, Refused}
 use Rattle.codec.proofs.Replies.{answer-fits, answer-short, after-front, after-refused}
-use Rattle.layout.specs.Knowledge.{Rules, largestTick, basic, All}
+use Rattle.layout.specs.Knowledge.{Rules, largestTick, basic, All, anyId}
 use Rattle.layout.specs.Permitted.{Permitted}
 use Rattle.layout.proofs.Exact.{base-permitted}
 use Rattle.ticks.specs.Meaning.{highest, known}
@@ -38,11 +38,14 @@ use Rattle.replication.proofs.AgreeInvariant.{Follows, opens}
 use Rattle.replication.proofs.AgreeEdit.{largest-same}
 use Rattle.replication.proofs.AgreeMake.{id-value}
 use Rattle.replication.proofs.AgreeRun.{paired-number, batch-open-at}
-use Rattle.replication.proofs.Demand3.{ahead-fails, ends-follow, some-same}
+use Rattle.replication.proofs.Demand3.{ahead-fails, ends-follow, accepted-same}
 use Rattle.replication.proofs.RefusalsTests.{Lacks, Ahead, Behind, ahead-exact, behind-apart, Gone, Present, Exhausted, means-20}
-use Rattle.replication.proofs.RefusalsEdit.{edit-15, edit-20, delete-15, delete-19, delete-20}
-use Rattle.replication.proofs.RefusalsMake.{make-15}
-use Rattle.replication.proofs.RefusalsApply.{apply-15, apply-16, apply-18}
+use Rattle.replication.proofs.RefusalsEdit.{edit-20, delete-19, delete-20, edit-numbers, delete-numbers}
+use Rattle.replication.proofs.RefusalsMake.{make-numbers}
+use Rattle.replication.proofs.RefusalsApply.{apply-18, apply-numbers}
+use Rattle.codec.specs.Parsed.{accepted, Parsed, refused}
+use Rattle.ticks.proofs.Lists.{Among}
+use Rattle.layout.specs.Parse.{parse}
 
 -- ---- the buffer
 
@@ -127,28 +130,30 @@ pub record LacksNeeded (m : State) (p : ℕ) (span : Remembered) (b : Batch) : T
 
 -- how the calls on replica p are refused, in the machine's terms
 pub record RefusedAsMachine (R : Rules) (w : World) (m : State) (p : ℕ) : Type 0 where
-  -- 15 is never given, nor 16 for a batch of the list
-  pub edit15 : (item tag : List ℕ) → editReply R (w .stores p) item tag ≡ refuses 15 → ⊥
-  pub delete15 : (item : List ℕ) → deleteReply R (w .stores p) item ≡ refuses 15 → ⊥
-  pub make15 : (knowledge first last : List ℕ) → makeReply R (w .stores p) knowledge first last ≡ refuses 15 → ⊥
-  pub apply15 : (t : List ℕ) → applyReply R (w .stores p) t ≡ refuses 15 → ⊥
-  pub apply16 : (n : ℕ) (t : List ℕ) → batchNumber n (w .batches) ≡ some t → applyReply R (w .stores p) t ≡ refuses 16 → ⊥
+  -- the numbers that can be given: neither a store's own nor that of a batch of the list (15, 16) is among them
+  pub editNumbers : (item tag : List ℕ) (n : ℕ) → editReply (R .limits) (w .stores p) item tag ≡ refuses n → Among n (17 ∷ 20 ∷ 11 ∷ 12 ∷ 13 ∷ [])
+  pub deleteNumbers : (item : List ℕ) (n : ℕ) → deleteReply (R .limits) (w .stores p) item ≡ refuses n → Among n (17 ∷ 19 ∷ 20 ∷ 11 ∷ 12 ∷ 13 ∷ [])
+  pub makeNumbers : (knowledge first last : List ℕ) (n : ℕ) → makeReply R (w .stores p) knowledge first last ≡ refuses n → (parse R knowledge ≡ refused n) ⊎ Among n (17 ∷ 11 ∷ 12 ∷ 13 ∷ [])
+  pub applyNumbers : (k : ℕ) (t : List ℕ) (n : ℕ) → batchNumber k (w .batches) ≡ some t → applyReply (R .limits) (w .stores p) t ≡ refuses n → Among n (18 ∷ 11 ∷ 12 ∷ 13 ∷ [])
   -- 18 is given where the replica knows less than needed somewhere in the span, and on no other condition
-  pub apply18 : (n : ℕ) (t : List ℕ) (span : Remembered) (b : Batch) → batchNumber n (w .batches) ≡ some t → numbered n (m .batches) ≡ some span → openBatch R t ≡ some b → (applyReply R (w .stores p) t ≡ refuses 18) ↔ LacksNeeded m p span b
+  pub apply18 : (n : ℕ) (t : List ℕ) (span : Remembered) (b : Batch) → batchNumber n (w .batches) ≡ some t → numbered n (m .batches) ≡ some span → openBatch (R .limits) t ≡ accepted b → (applyReply (R .limits) (w .stores p) t ≡ refuses 18) ↔ LacksNeeded m p span b
   -- 19 is given where the greatest version of the item that the replica's ticks contain is missing or a tombstone
-  pub delete19 : (item : List ℕ) → (deleteReply R (w .stores p) item ≡ refuses 19) ↔ ((length item ≡ 24) × Gone (greatest (m .versions) (m .ticks p) (value 0 item)))
+  pub delete19 : (item : List ℕ) → (deleteReply (R .limits) (w .stores p) item ≡ refuses 19) ↔ ((length item ≡ 24) × Gone (greatest (m .versions) (m .ticks p) (value 0 item)))
   -- 20 is given where the replica's largest known tick is the largest there is
-  pub delete20 : (item : List ℕ) → (deleteReply R (w .stores p) item ≡ refuses 20) ↔ ((length item ≡ 24) × (Present (greatest (m .versions) (m .ticks p) (value 0 item)) × (largestKnown (m .ticks p) ≡ largestTick)))
-  pub edit20 : (item tag : List ℕ) → (editReply R (w .stores p) item tag ≡ refuses 20) ↔ (((length item ≡ 24) × (length tag ≡ 16)) × (largestKnown (m .ticks p) ≡ largestTick))
+  pub delete20 : (item : List ℕ) → (deleteReply (R .limits) (w .stores p) item ≡ refuses 20) ↔ ((length item ≡ 24) × (Present (greatest (m .versions) (m .ticks p) (value 0 item)) × (largestKnown (m .ticks p) ≡ largestTick)))
+  pub edit20 : (item tag : List ℕ) → (editReply (R .limits) (w .stores p) item tag ≡ refuses 20) ↔ (((length item ≡ 24) × (length tag ≡ 16)) × (largestKnown (m .ticks p) ≡ largestTick))
 
-not-none : {A : Type 0} (o : Option A) (x : A) → o ≡ some x → o ≡ none → ⊥
-not-none o x e f =
+same-some : {A : Type 0} (x y : A) → some x ≡ some y → x ≡ y
+same-some x y e = cc
+
+not-refused : {A : Type 0} (o : Parsed A) (x : A) (n : ℕ) → o ≡ accepted x → o ≡ refused n → ⊥
+not-refused o x n e f =
     let z : _≡_ {A = ℕ} 0 1 = cc in
     omega arith
 
-module _ (R : Rules) (permitted : Permitted (R .limits)) (accepts : (id : ℕ) → R .judge id ≡ 0) (w : World) (m : State) (f : Follows R w m) (p : ℕ) (small : p < 256 ^ 16) where
-  open-here : openStore R (w .stores p) ≡ some (f .stores p small .st)
-  open-here = opens R permitted w m f p small
+module _ (R : Rules) (permitted : Permitted (R .limits)) (w : World) (m : State) (f : Follows (R .limits) w m) (p : ℕ) (small : p < 256 ^ 16) where
+  open-here : openStore (R .limits) (w .stores p) ≡ accepted (f .stores p small .st)
+  open-here = opens (R .limits) permitted w m f p small
 
   octets : Bytes (w .stores p)
   octets = subst Bytes (sym (f .stores p small .bytes)) (store-bytes (f .stores p small .st))
@@ -159,9 +164,9 @@ module _ (R : Rules) (permitted : Permitted (R .limits)) (accepts : (id : ℕ) �
   exhausted-same =
       let s = f .stores p small in
       let k = s .st .knowledge in
-      let same : largestKnown (m .ticks p) ≡ largest k = largest-same R k (m .ticks p) (s .form) (s .ticks) (λ i q h. f .good .strangers p i q h) in (
-        (λ x. omega (arith, same, x .tick, largest-bounds k (x .item) (x .replica), lawful-largest R k (s .form .lawful))),
-        λ e. means-20 R (s .st) (s .form .lawful) .yes (le-leb largestTick (largest k) (omega (arith, same, e))),
+      let same : largestKnown (m .ticks p) ≡ largest k = largest-same (R .limits) k (m .ticks p) (s .form) (s .ticks) (λ i q h. f .good .strangers p i q h) in (
+        (λ x. omega (arith, same, x .tick, largest-bounds k (x .item) (x .replica), lawful-largest (anyId (R .limits)) k (s .form .lawful))),
+        λ e. means-20 (R .limits) (s .st) (s .form .lawful) .yes (le-leb largestTick (largest k) (omega (arith, same, e))),
       )
 
   -- the record of an item, in the store and in the machine
@@ -169,43 +174,70 @@ module _ (R : Rules) (permitted : Permitted (R .limits)) (accepts : (id : ℕ) �
   record-same item e =
       f .stores p small .records (beAt item 24 0) ∙ ap (greatest (m .versions) (m .ticks p)) (sym (id-is 24 item) ∙ id-value 24 item e)
 
-  in-list-19 : (item : List ℕ) → (deleteReply R (w .stores p) item ≡ refuses 19) ↔ ((length item ≡ 24) × Gone (greatest (m .versions) (m .ticks p) (value 0 item)))
+  in-list-19 : (item : List ℕ) → (deleteReply (R .limits) (w .stores p) item ≡ refuses 19) ↔ ((length item ≡ 24) × Gone (greatest (m .versions) (m .ticks p) (value 0 item)))
   in-list-19 item =
-      let law = delete-19 R permitted (w .stores p) item octets (f .stores p small .st) open-here in (
+      let law = delete-19 (R .limits) permitted (w .stores p) item octets (f .stores p small .st) open-here in (
         (λ h. let a = law .0 h in (a .0, subst Gone (record-same item (a .0)) (a .1))),
         λ a. law .1 (a .0, subst Gone (sym (record-same item (a .0))) (a .1)),
       )
 
-  in-list-20 : (item : List ℕ) → (deleteReply R (w .stores p) item ≡ refuses 20) ↔ ((length item ≡ 24) × (Present (greatest (m .versions) (m .ticks p) (value 0 item)) × (largestKnown (m .ticks p) ≡ largestTick)))
+  in-list-20 : (item : List ℕ) → (deleteReply (R .limits) (w .stores p) item ≡ refuses 20) ↔ ((length item ≡ 24) × (Present (greatest (m .versions) (m .ticks p) (value 0 item)) × (largestKnown (m .ticks p) ≡ largestTick)))
   in-list-20 item =
-      let law = delete-20 R permitted (w .stores p) item octets (f .stores p small .st) open-here in (
+      let law = delete-20 (R .limits) permitted (w .stores p) item octets (f .stores p small .st) open-here in (
         (λ h. let a = law .0 h in (a .0, (subst Present (record-same item (a .0)) (a .1 .0), exhausted-same .0 (a .1 .1)))),
         λ a. law .1 (a .0, (subst Present (sym (record-same item (a .0))) (a .1 .0), exhausted-same .1 (a .1 .1))),
       )
 
-  in-list-edit-20 : (item tag : List ℕ) → (editReply R (w .stores p) item tag ≡ refuses 20) ↔ (((length item ≡ 24) × (length tag ≡ 16)) × (largestKnown (m .ticks p) ≡ largestTick))
+  in-list-edit-20 : (item tag : List ℕ) → (editReply (R .limits) (w .stores p) item tag ≡ refuses 20) ↔ (((length item ≡ 24) × (length tag ≡ 16)) × (largestKnown (m .ticks p) ≡ largestTick))
   in-list-edit-20 item tag =
-      let law = edit-20 R permitted (w .stores p) item tag octets (f .stores p small .st) open-here in (
+      let law = edit-20 (R .limits) permitted (w .stores p) item tag octets (f .stores p small .st) open-here in (
         (λ h. let a = law .0 h in (a .0, exhausted-same .0 (a .1))),
         λ a. law .1 (a .0, exhausted-same .1 (a .1)),
       )
 
-  in-list-16 : (n : ℕ) (t : List ℕ) → batchNumber n (w .batches) ≡ some t → applyReply R (w .stores p) t ≡ refuses 16 → ⊥
-  in-list-16 n t e h =
-      let x = paired-number R (m .versions) n t (w .batches) (m .batches) (f .batches) e in
-      not-none (openBatch R t) (x .follows .b) (batch-open-at R permitted accepts w m f n t e x) (apply-16 R (w .stores p) t .0 h .1)
+  in-list-edit : (item tag : List ℕ) (n : ℕ) → editReply (R .limits) (w .stores p) item tag ≡ refuses n → Among n (17 ∷ 20 ∷ 11 ∷ 12 ∷ 13 ∷ [])
+  in-list-edit item tag n h =
+      elim (edit-numbers (R .limits) permitted (w .stores p) item tag octets n h) [
+        | inl e ↦ absurd (not-refused (openStore (R .limits) (w .stores p)) (f .stores p small .st) n open-here e)
+        | inr a ↦ a .1
+      ]
 
-  in-list-18 : (n : ℕ) (t : List ℕ) (span : Remembered) (b : Batch) → batchNumber n (w .batches) ≡ some t → numbered n (m .batches) ≡ some span → openBatch R t ≡ some b → (applyReply R (w .stores p) t ≡ refuses 18) ↔ LacksNeeded m p span b
+  in-list-delete : (item : List ℕ) (n : ℕ) → deleteReply (R .limits) (w .stores p) item ≡ refuses n → Among n (17 ∷ 19 ∷ 20 ∷ 11 ∷ 12 ∷ 13 ∷ [])
+  in-list-delete item n h =
+      elim (delete-numbers (R .limits) permitted (w .stores p) item octets n h) [
+        | inl e ↦ absurd (not-refused (openStore (R .limits) (w .stores p)) (f .stores p small .st) n open-here e)
+        | inr a ↦ a .1
+      ]
+
+  in-list-make : (knowledge first last : List ℕ) (n : ℕ) → makeReply R (w .stores p) knowledge first last ≡ refuses n → (parse R knowledge ≡ refused n) ⊎ Among n (17 ∷ 11 ∷ 12 ∷ 13 ∷ [])
+  in-list-make knowledge first last n h =
+      elim (make-numbers R (w .stores p) knowledge first last n h) [
+        | inl e ↦ absurd (not-refused (openStore (R .limits) (w .stores p)) (f .stores p small .st) n open-here e)
+        | inr a ↦ a .1
+      ]
+
+  in-list-apply : (k : ℕ) (t : List ℕ) (n : ℕ) → batchNumber k (w .batches) ≡ some t → applyReply (R .limits) (w .stores p) t ≡ refuses n → Among n (18 ∷ 11 ∷ 12 ∷ 13 ∷ [])
+  in-list-apply k t n d h =
+      let x = paired-number R (m .versions) k t (w .batches) (m .batches) (f .batches) d in
+      elim (apply-numbers (R .limits) (w .stores p) t n h) [
+        | inl e ↦ absurd (not-refused (openStore (R .limits) (w .stores p)) (f .stores p small .st) n open-here e)
+        | inr a ↦ elim (a .1) [
+          | inl e ↦ absurd (not-refused (openBatch (R .limits) t) (x .follows .b) n (batch-open-at R permitted w m f k t d x) e)
+          | inr b ↦ b .1
+        ]
+      ]
+
+  in-list-18 : (n : ℕ) (t : List ℕ) (span : Remembered) (b : Batch) → batchNumber n (w .batches) ≡ some t → numbered n (m .batches) ≡ some span → openBatch (R .limits) t ≡ accepted b → (applyReply (R .limits) (w .stores p) t ≡ refuses 18) ↔ LacksNeeded m p span b
   in-list-18 n t span b e numb ob =
       let x = paired-number R (m .versions) n t (w .batches) (m .batches) (f .batches) e in
       let s = f .stores p small in
-      let law = apply-18 R (w .stores p) t (s .st) b open-here ob in
-      let eb : x .follows .b ≡ b = some-same (x .follows .b) b (sym (batch-open-at R permitted accepts w m f n t e x) ∙ ob) in
-      let es : x .b ≡ span = some-same (x .b) span (sym (x .is) ∙ numb) in
+      let law = apply-18 (R .limits) (w .stores p) t (s .st) b open-here ob in
+      let eb : x .follows .b ≡ b = accepted-same (x .follows .b) b (sym (batch-open-at R permitted w m f n t e x) ∙ ob) in
+      let es : x .b ≡ span = same-some (x .b) span (sym (x .is) ∙ numb) in
       let first : b .first ≡ span .first = ap (λ (y : Batch). y .first) (sym eb) ∙ (x .follows .first ∙ ap (λ (y : Remembered). y .first) es) in
       let last : b .last ≡ span .last = ap (λ (y : Batch). y .last) (sym eb) ∙ (x .follows .last ∙ ap (λ (y : Remembered). y .last) es) in
       let top : b .last ≤ highest = subst (λ (y : Batch). y .last ≤ highest) eb (x .follows .top) in
-      let behind : Behind (s .st) b = ahead-exact (s .st) b .0 (ahead-fails R permitted accepts w m f p n t (s .st) b small e open-here ob) in (
+      let behind : Behind (s .st) b = ahead-exact (s .st) b .0 (ahead-fails R permitted w m f p n t (s .st) b small e open-here ob) in (
         (λ h. ⊎-elim (λ (l : Lacks (s .st) b). told first last top l) (λ (a : Ahead (s .st) b). absurd (behind-apart (s .st) b a behind)) (law .0 h)),
         λ l.
             law .1
@@ -230,11 +262,10 @@ module _ (R : Rules) (permitted : Permitted (R .limits)) (accepts : (id : ℕ) �
 
   pub refused-follows : RefusedAsMachine R w m p
   refused-follows = record {
-    edit15 = λ item tag h. not-none (openStore R (w .stores p)) (f .stores p small .st) open-here (edit-15 R permitted (w .stores p) item tag octets .0 h);
-    delete15 = λ item h. not-none (openStore R (w .stores p)) (f .stores p small .st) open-here (delete-15 R permitted (w .stores p) item octets .0 h);
-    make15 = λ knowledge first last h. not-none (openStore R (w .stores p)) (f .stores p small .st) open-here (make-15 R (w .stores p) knowledge first last permitted accepts .0 h);
-    apply15 = λ t h. not-none (openStore R (w .stores p)) (f .stores p small .st) open-here (apply-15 R (w .stores p) t .0 h);
-    apply16 = in-list-16;
+    editNumbers = in-list-edit;
+    deleteNumbers = in-list-delete;
+    makeNumbers = in-list-make;
+    applyNumbers = in-list-apply;
     apply18 = in-list-18;
     delete19 = in-list-19;
     delete20 = in-list-20;
@@ -242,10 +273,10 @@ module _ (R : Rules) (permitted : Permitted (R .limits)) (accepts : (id : ℕ) �
   }
 
 -- after any list of calls, for every replica
-pub refused-in-list : (R : Rules) → Permitted (R .limits) → ((id : ℕ) → R .judge id ≡ 0) → (calls : List Call) → All Given calls → (p : ℕ) → p < 256 ^ 16 → RefusedAsMachine R (ends R calls) (machine R calls) p
-refused-in-list R permitted accepts calls given p small =
-    refused-follows R permitted accepts (ends R calls) (machine R calls) (ends-follow R permitted accepts calls given) p small
+pub refused-in-list : (R : Rules) → Permitted (R .limits) → (calls : List Call) → All Given calls → (p : ℕ) → p < 256 ^ 16 → RefusedAsMachine R (ends R calls) (machine R calls) p
+refused-in-list R permitted calls given p small =
+    refused-follows R permitted (ends R calls) (machine R calls) (ends-follow R permitted calls given) p small
 
 -- with document 01's limits
 pub refused-in-list-basic : (calls : List Call) → All Given calls → (p : ℕ) → p < 256 ^ 16 → RefusedAsMachine basic (ends basic calls) (machine basic calls) p
-refused-in-list-basic calls given p small = refused-in-list basic base-permitted (λ id. refl) calls given p small
+refused-in-list-basic calls given p small = refused-in-list basic base-permitted calls given p small

@@ -19,7 +19,7 @@ use Rattle.layout.proofs.Exact.{refused-exact}
 use Rattle.layout.proofs.BackwardRefused.{refused-within}
 use Rattle.ticks.specs.Operations.{normalise, project}
 use Rattle.ticks.specs.Meaning.{emptyKnowledge}
-use Rattle.ticks.specs.Calls.{line, idOf, readAs, ownFault, wrongSpan, resultLines}
+use Rattle.ticks.specs.Calls.{line, idOf, readAs, ownFault, wrongSpan, resultLines, readOr}
 use Rattle.ticks.proofs.Lists.{Among}
 use Rattle.ticks.proofs.ForCalls.{id-is}
 use Rattle.codec.proofs.Replies.{read-accepted}
@@ -27,20 +27,20 @@ use Rattle.codec.proofs.Replies.{read-fault, read-fine}
 use Rattle.replication.specs.Formats.{Store, Batch, encodeBatch}
 use Rattle.replication.specs.OpenStore.{openStore}
 use Rattle.replication.specs.Operate.{made}
-use Rattle.replication.specs.Calls.{then, noStore, storeOr, tooManyRecords, makeLines, makes, makeReply}
+use Rattle.replication.specs.Calls.{then, storeOr, tooManyRecords, makeLines, makes, makeReply}
 use Rattle.replication.proofs.RefusalsTable.{Rule, rule, Told, told-cons, told-then, At, only, refused-at, refused-pair, refused-among, refused-never, given-none, refuses-same}
 use Rattle.replication.proofs.RefusalsTests.{Span, NoSpan, means-span, rule11, rule12, rule13, told-result, told-records}
 
 -- ---- the reply, by what opens and is read
 
-make-on : Rules → Option Store → Parsed Knowledge → List ℕ → List ℕ → Reply
+make-on : Rules → Parsed Store → Parsed Knowledge → List ℕ → List ℕ → Reply
 make-on R o p first last =
     let result = made (storeOr o) (readAs p) (idOf 24 first) (idOf 24 last) in
     firstFault refuses
-    (line 15 (noStore o) ∷
+    (ownFault o ∷
     ownFault p ∷
     line 17 (wrongSpan first last) ∷
-    then (resultLines R (result .needed)) (then (resultLines R (result .learned)) (line 13 (tooManyRecords (R .limits) (result .records)) ∷ [])))
+    then (resultLines (R .limits) (result .needed)) (then (resultLines (R .limits) (result .learned)) (line 13 (tooManyRecords (R .limits) (result .records)) ∷ [])))
     (gives (encodeBatch result))
 
 -- the batch that a make comes to
@@ -50,31 +50,27 @@ madeBatch st k first last = made st k (beAt first 24 0) (beAt last 24 0)
 abbrev make-lines : Rules → Batch → List ℕ → List ℕ → List Line
 make-lines R b first last =
     line 17 (wrongSpan first last) ∷
-    then (resultLines R (b .needed)) (then (resultLines R (b .learned)) (line 13 (tooManyRecords (R .limits) (b .records)) ∷ []))
+    then (resultLines (R .limits) (b .needed)) (then (resultLines (R .limits) (b .learned)) (line 13 (tooManyRecords (R .limits) (b .records)) ∷ []))
 
 module _ (R : Rules) (s kn first last : List ℕ) where
-  make-is : (o : Option Store) (p : Parsed Knowledge) → openStore R s ≡ o → parse R kn ≡ p → makeReply R s kn first last ≡ make-on R o p first last
+  make-is : (o : Parsed Store) (p : Parsed Knowledge) → openStore (R .limits) s ≡ o → parse R kn ≡ p → makeReply R s kn first last ≡ make-on R o p first last
   unfolding makeReply makeLines makes make-on
-  make-is o p e f = ap (λ (x : Option Store). make-on R x (parse R kn) first last) e ∙ ap (λ (x : Parsed Knowledge). make-on R o x first last) f
+  make-is o p e f = ap (λ (x : Parsed Store). make-on R x (parse R kn) first last) e ∙ ap (λ (x : Parsed Knowledge). make-on R o x first last) f
 
-  make-no-store : openStore R s ≡ none → makeReply R s kn first last ≡ refuses 15
-  unfolding make-on noStore firstFault
-  make-no-store e = make-is none (parse R kn) e refl
+  -- the store's own number, whichever it is
+  pub make-store : (n : ℕ) → openStore (R .limits) s ≡ refused n → makeReply R s kn first last ≡ refuses n
+  unfolding make-on ownFault firstFault
+  make-store n e = make-is (refused n) (parse R kn) e refl
 
-  make-unread : (st : Store) (n : ℕ) → openStore R s ≡ some st → parse R kn ≡ refused n → makeReply R s kn first last ≡ refuses n
-  unfolding make-on noStore storeOr firstFault
+  make-unread : (st : Store) (n : ℕ) → openStore (R .limits) s ≡ accepted st → parse R kn ≡ refused n → makeReply R s kn first last ≡ refuses n
+  unfolding make-on ownFault readOr firstFault
   make-unread st n e f =
-      let b = made st (readAs (refused n)) (idOf 24 first) (idOf 24 last) in
-      make-is (some st) (refused n) e f ∙ read-fault Knowledge refuses n (make-lines R b first last) (gives (encodeBatch b))
+      make-is (accepted st) (refused n) e f
 
-  make-table : (st : Store) (k : Knowledge) → openStore R s ≡ some st → parse R kn ≡ accepted k → makeReply R s kn first last ≡ firstFault refuses (make-lines R (madeBatch st k first last) first last) (gives (encodeBatch (madeBatch st k first last)))
-  unfolding make-on noStore storeOr firstFault
+  make-table : (st : Store) (k : Knowledge) → openStore (R .limits) s ≡ accepted st → parse R kn ≡ accepted k → makeReply R s kn first last ≡ firstFault refuses (make-lines R (madeBatch st k first last) first last) (gives (encodeBatch (madeBatch st k first last)))
+  unfolding make-on ownFault readOr firstFault
   make-table st k e f =
-      let b = made st (readAs (accepted k)) (idOf 24 first) (idOf 24 last) in
-      make-is (some st) (accepted k) e f
-      ∙ (read-fine refuses k (make-lines R b first last) (gives (encodeBatch b))
-      ∙ (ap (λ (x : Knowledge). of (made st x (idOf 24 first) (idOf 24 last))) (read-accepted emptyKnowledge k)
-      ∙ ap₂ (λ (x : ℕ) (y : ℕ). of (made st k x y)) (id-is 24 first) (id-is 24 last)))
+      make-is (accepted st) (accepted k) e f ∙ ap₂ (λ (x : ℕ) (y : ℕ). of (made st k x y)) (id-is 24 first) (id-is 24 last)
     where
       of : Batch → Reply
       of b = firstFault refuses (make-lines R b first last) (gives (encodeBatch b))
@@ -83,11 +79,11 @@ module _ (R : Rules) (st : Store) (k : Knowledge) (first last : List ℕ) where
   abbrev pub makeRules : List Rule
   makeRules =
       rule 17 (NoSpan first last) (Span first last) ∷
-      rule11 R (normalise k) ∷
-      rule12 R (normalise k) ∷
-      rule11 R (project (beAt first 24 0) (beAt last 24 0) (st .knowledge)) ∷
-      rule12 R (project (beAt first 24 0) (beAt last 24 0) (st .knowledge)) ∷
-      rule13 R (madeBatch st k first last .records) ∷
+      rule11 (R .limits) (normalise k) ∷
+      rule12 (R .limits) (normalise k) ∷
+      rule11 (R .limits) (project (beAt first 24 0) (beAt last 24 0) (st .knowledge)) ∷
+      rule12 (R .limits) (project (beAt first 24 0) (beAt last 24 0) (st .knowledge)) ∷
+      rule13 (R .limits) (madeBatch st k first last .records) ∷
       []
 
   make-told : Told (make-lines R (madeBatch st k first last) first last) makeRules
@@ -95,11 +91,11 @@ module _ (R : Rules) (st : Store) (k : Knowledge) (first last : List ℕ) where
   make-told =
       let b = madeBatch st k first last in
       let thirteen = line 13 (tooManyRecords (R .limits) (b .records)) ∷ [] in
-      told-cons (line 17 (wrongSpan first last)) (then (resultLines R (b .needed)) (then (resultLines R (b .learned)) thirteen)) (rule 17 (NoSpan first last) (Span first last))
-      (rule11 R (b .needed) ∷ rule12 R (b .needed) ∷ rule11 R (b .learned) ∷ rule12 R (b .learned) ∷ rule13 R (b .records) ∷ []) (means-span first last)
-      (told-then (resultLines R (b .needed)) (then (resultLines R (b .learned)) thirteen) (rule11 R (b .needed) ∷ rule12 R (b .needed) ∷ [])
-      (rule11 R (b .learned) ∷ rule12 R (b .learned) ∷ rule13 R (b .records) ∷ []) (told-result R (b .needed))
-      (told-then (resultLines R (b .learned)) thirteen (rule11 R (b .learned) ∷ rule12 R (b .learned) ∷ []) (rule13 R (b .records) ∷ []) (told-result R (b .learned)) (told-records R (b .records))))
+      told-cons (line 17 (wrongSpan first last)) (then (resultLines (R .limits) (b .needed)) (then (resultLines (R .limits) (b .learned)) thirteen)) (rule 17 (NoSpan first last) (Span first last))
+      (rule11 (R .limits) (b .needed) ∷ rule12 (R .limits) (b .needed) ∷ rule11 (R .limits) (b .learned) ∷ rule12 (R .limits) (b .learned) ∷ rule13 (R .limits) (b .records) ∷ []) (means-span first last)
+      (told-then (resultLines (R .limits) (b .needed)) (then (resultLines (R .limits) (b .learned)) thirteen) (rule11 (R .limits) (b .needed) ∷ rule12 (R .limits) (b .needed) ∷ [])
+      (rule11 (R .limits) (b .learned) ∷ rule12 (R .limits) (b .learned) ∷ rule13 (R .limits) (b .records) ∷ []) (told-result (R .limits) (b .needed))
+      (told-then (resultLines (R .limits) (b .learned)) thirteen (rule11 (R .limits) (b .learned) ∷ rule12 (R .limits) (b .learned) ∷ []) (rule13 (R .limits) (b .records) ∷ []) (told-result (R .limits) (b .learned)) (told-records (R .limits) (b .records))))
 
 -- ---- a store and a knowledge
 
@@ -116,7 +112,7 @@ pub record MakeGives (R : Rules) (st : Store) (k : Knowledge) (first last bs : L
   pub records : length (madeBatch st k first last .records) ≤ R .limits .records
   pub bytes : bs ≡ encodeBatch (madeBatch st k first last)
 
-module _ (R : Rules) (s kn first last : List ℕ) (st : Store) (k : Knowledge) (os : openStore R s ≡ some st) (read : parse R kn ≡ accepted k) where
+module _ (R : Rules) (s kn first last : List ℕ) (st : Store) (k : Knowledge) (os : openStore (R .limits) s ≡ accepted st) (read : parse R kn ≡ accepted k) where
   at : (n j : ℕ) → only n j (makeRules R st k first last) ≡ true → (makeReply R s kn first last ≡ refuses n) ↔ At j (makeRules R st k first last)
   at n j o =
       refused-at (makeReply R s kn first last) (make-lines R (madeBatch st k first last) first last) (makeRules R st k first last) (encodeBatch (madeBatch st k first last))
@@ -165,7 +161,7 @@ module _ (R : Rules) (s kn first last : List ℕ) (st : Store) (k : Knowledge) (
       )
 
 -- needed before learned, and ranges after replicas, one by one
-module _ (R : Rules) (s kn first last : List ℕ) (st : Store) (k : Knowledge) (os : openStore R s ≡ some st) (read : parse R kn ≡ accepted k) (span : Span first last) where
+module _ (R : Rules) (s kn first last : List ℕ) (st : Store) (k : Knowledge) (os : openStore (R .limits) s ≡ accepted st) (read : parse R kn ≡ accepted k) (span : Span first last) where
   pub make-needed-11 : R .limits .replicas < length (normalise k .replicas) → makeReply R s kn first last ≡ refuses 11
   make-needed-11 h = make-11 R s kn first last st k os read .1 (inl (span, h))
 
@@ -182,43 +178,32 @@ module _ (R : Rules) (s kn first last : List ℕ) (st : Store) (k : Knowledge) (
 
 module _ (R : Rules) (s kn first last : List ℕ) where
   -- the knowledge's own fault
-  pub make-own : (st : Store) (m n : ℕ) → openStore R s ≡ some st → parse R kn ≡ refused m → (makeReply R s kn first last ≡ refuses n) ↔ (n ≡ m)
+  pub make-own : (st : Store) (m n : ℕ) → openStore (R .limits) s ≡ accepted st → parse R kn ≡ refused m → (makeReply R s kn first last ≡ refuses n) ↔ (n ≡ m)
   make-own st m n e f = (
     (λ h. sym (refuses-same (makeReply R s kn first last) m n (make-unread R s kn first last st m e f) h)),
     λ h. make-unread R s kn first last st m e f ∙ ap refuses (sym h),
   )
 
-  -- 15, where reading gives none but its own numbers
-  pub make-15 : Permitted (R .limits) → ((id : ℕ) → R .judge id ≡ 0) → (makeReply R s kn first last ≡ refuses 15) ↔ (openStore R s ≡ none)
-  make-15 permitted accepts = (go (openStore R s) refl (parse R kn) refl, make-no-store R s kn first last)
+  -- no other number: the store's own, the knowledge's own, or one of the table
+  pub make-numbers : (n : ℕ) → makeReply R s kn first last ≡ refuses n → (openStore (R .limits) s ≡ refused n) ⊎ (((st : Store) × (openStore (R .limits) s ≡ accepted st)) × ((parse R kn ≡ refused n) ⊎ Among n (17 ∷ 11 ∷ 12 ∷ 13 ∷ [])))
+  make-numbers n = go (openStore (R .limits) s) refl (parse R kn) refl
     where
-      go : (o : Option Store) → openStore R s ≡ o → (p : Parsed Knowledge) → parse R kn ≡ p → makeReply R s kn first last ≡ refuses 15 → openStore R s ≡ none
-      go none e p f h = e
-      go (some st) e (refused n) f h =
-          let b = refused-within 10 (omega arith) R kn (λ id. omega (arith, accepts id)) n (refused-exact R permitted kn n .1 f) in
-          absurd (omega (arith, b .1, make-own st n 15 e f .0 h))
-      go (some st) e (accepted k) f h =
-          absurd
-          (refused-never (makeReply R s kn first last) (make-lines R (madeBatch st k first last) first last) (makeRules R st k first last) (encodeBatch (madeBatch st k first last))
-          (make-table R s kn first last st k e f) (make-told R st k first last) 15 refl h)
+      once : Among n (17 ∷ 11 ∷ 12 ∷ 11 ∷ 12 ∷ 13 ∷ []) → Among n (17 ∷ 11 ∷ 12 ∷ 13 ∷ [])
+      once (inl e) = inl e
+      once (inr (inl e)) = inr (inl e)
+      once (inr (inr (inl e))) = inr (inr (inl e))
+      once (inr (inr (inr (inl e)))) = inr (inl e)
+      once (inr (inr (inr (inr (inl e))))) = inr (inr (inl e))
+      once (inr (inr (inr (inr (inr m))))) = inr (inr (inr m))
 
-  -- no other number: the store, the knowledge's own fault, or one of the table
-  pub make-numbers : (n : ℕ) → makeReply R s kn first last ≡ refuses n → (parse R kn ≡ refused n) ⊎ Among n (15 ∷ 17 ∷ 11 ∷ 12 ∷ 13 ∷ [])
-  make-numbers n = go (openStore R s) refl (parse R kn) refl
-    where
-      once : Among n (17 ∷ 11 ∷ 12 ∷ 11 ∷ 12 ∷ 13 ∷ []) → Among n (15 ∷ 17 ∷ 11 ∷ 12 ∷ 13 ∷ [])
-      once (inl e) = inr (inl e)
-      once (inr (inl e)) = inr (inr (inl e))
-      once (inr (inr (inl e))) = inr (inr (inr (inl e)))
-      once (inr (inr (inr (inl e)))) = inr (inr (inl e))
-      once (inr (inr (inr (inr (inl e))))) = inr (inr (inr (inl e)))
-      once (inr (inr (inr (inr (inr m))))) = inr (inr (inr (inr m)))
-
-      go : (o : Option Store) → openStore R s ≡ o → (p : Parsed Knowledge) → parse R kn ≡ p → makeReply R s kn first last ≡ refuses n → (parse R kn ≡ refused n) ⊎ Among n (15 ∷ 17 ∷ 11 ∷ 12 ∷ 13 ∷ [])
-      go none e p f h = inr (inl (sym (refuses-same (makeReply R s kn first last) 15 n (make-no-store R s kn first last e) h)))
-      go (some st) e (refused m) f h = inl (f ∙ ap refused (sym (make-own st m n e f .0 h)))
-      go (some st) e (accepted k) f h =
-          inr
-          (once
-          (refused-among (makeReply R s kn first last) (make-lines R (madeBatch st k first last) first last) (makeRules R st k first last) (encodeBatch (madeBatch st k first last))
-          (make-table R s kn first last st k e f) (make-told R st k first last) n h))
+      go : (o : Parsed Store) → openStore (R .limits) s ≡ o → (p : Parsed Knowledge) → parse R kn ≡ p → makeReply R s kn first last ≡ refuses n → (openStore (R .limits) s ≡ refused n) ⊎ (((st : Store) × (openStore (R .limits) s ≡ accepted st)) × ((parse R kn ≡ refused n) ⊎ Among n (17 ∷ 11 ∷ 12 ∷ 13 ∷ [])))
+      go (refused m) e p f h = inl (e ∙ ap refused (refuses-same (makeReply R s kn first last) m n (make-store R s kn first last m e) h))
+      go (accepted st) e (refused m) f h = inr ((st, e), inl (f ∙ ap refused (sym (make-own st m n e f .0 h))))
+      go (accepted st) e (accepted k) f h =
+          inr (
+            (st, e),
+            inr
+                (once
+                (refused-among (makeReply R s kn first last) (make-lines R (madeBatch st k first last) first last) (makeRules R st k first last) (encodeBatch (madeBatch st k first last))
+                (make-table R s kn first last st k e f) (make-told R st k first last) n h)),
+          )

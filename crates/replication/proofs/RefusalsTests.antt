@@ -15,7 +15,7 @@ use borrow.Author.Tests.{leb-true, leb-false, ltb-true, ltb-false, eqb-true, eqb
 use Rattle.codec.specs.Number.{beAt, Bytes}
 use Rattle.codec.specs.Reply.{Reply, gives, refuses, firstFault}
 use Rattle.codec.proofs.Replies.{fault-exact, fault-gives, fault-none}
-use Rattle.layout.specs.Knowledge.{Rules, largestTick, Knowledge, Lawful, encode}
+use Rattle.layout.specs.Knowledge.{Limits, anyId, largestTick, Knowledge, Lawful, encode}
 use Rattle.layout.specs.Permitted.{Permitted}
 use Rattle.ticks.specs.Meaning.{highest, known}
 use Rattle.ticks.specs.Operations.{covers, coversFor, largest, tooManyReplicas, tooManyRanges}
@@ -34,6 +34,7 @@ use Rattle.replication.specs.OpenStore.{openStore}
 use Rattle.replication.specs.Calls.{uncovered, ownAhead, gone, exhausted, tooManyRecords, storeLines}
 use Rattle.replication.proofs.StoreBytes.{store-opened}
 use Rattle.replication.proofs.RefusalsTable.{Rule, rule, Means, FirstOf, NoneOf, Told, told-nil, told-cons, told-then}
+use Rattle.codec.specs.Parsed.{accepted}
 
 -- ---- finite searches
 
@@ -223,11 +224,11 @@ pub record Exhausted (st : Store) : Type 0 where
 pub record Unexhausted (st : Store) : Type 0 where
   pub known : (i p : ℕ) → i ≤ highest → known (st .knowledge) i p < largestTick
 
-pub means-20 : (R : Rules) (st : Store) → Lawful R (st .knowledge) → Means (line 20 (exhausted st)) (rule 20 (Exhausted st) (Unexhausted st))
+pub means-20 : (L : Limits) (st : Store) → Lawful (anyId L) (st .knowledge) → Means (line 20 (exhausted st)) (rule 20 (Exhausted st) (Unexhausted st))
 unfolding exhausted
-means-20 R st l = record {
+means-20 L st l = record {
   number = refl;
-  yes = λ e. found (leb-true largestTick (largest (st .knowledge)) e) (largest-attained (st .knowledge) (lawful-sound R (st .knowledge) l));
+  yes = λ e. found (leb-true largestTick (largest (st .knowledge)) e) (largest-attained (st .knowledge) (lawful-sound (anyId L) (st .knowledge) l));
   no = λ e. record { known = λ i p h. omega (arith, leb-false largestTick (largest (st .knowledge)) e, largest-bounds (st .knowledge) i p) };
   apart = λ x y. omega (arith, x .tick, y .known (x .item) (x .replica) (x .inside));
 }
@@ -238,7 +239,7 @@ means-20 R st l = record {
       item = w .0;
       replica = w .1 .0;
       inside = w .1 .1 .0;
-      tick = omega (arith, w .1 .1 .1, lawful-ticks R (st .knowledge) (w .0) (w .1 .0) l);
+      tick = omega (arith, w .1 .1 .1, lawful-ticks (anyId L) (st .knowledge) (w .0) (w .1 .0) l);
     }
 
 -- ---- 17
@@ -305,96 +306,96 @@ means-span first last = record {
 
 -- ---- 11, 12 and 13
 
-abbrev pub rule11 : Rules → Knowledge → Rule
-rule11 R k = rule 11 (R .limits .replicas < length (k .replicas)) (length (k .replicas) ≤ R .limits .replicas)
+abbrev pub rule11 : Limits → Knowledge → Rule
+rule11 L k = rule 11 (L .replicas < length (k .replicas)) (length (k .replicas) ≤ L .replicas)
 
-abbrev pub rule12 : Rules → Knowledge → Rule
-rule12 R k = rule 12 (R .limits .ranges < length (k .ranges)) (length (k .ranges) ≤ R .limits .ranges)
+abbrev pub rule12 : Limits → Knowledge → Rule
+rule12 L k = rule 12 (L .ranges < length (k .ranges)) (length (k .ranges) ≤ L .ranges)
 
-abbrev pub rule13 : Rules → List Rec → Rule
-rule13 R rs = rule 13 (R .limits .records < length rs) (length rs ≤ R .limits .records)
+abbrev pub rule13 : Limits → List Rec → Rule
+rule13 L rs = rule 13 (L .records < length rs) (length rs ≤ L .records)
 
-means-13 : (R : Rules) (rs : List Rec) → Means (line 13 (tooManyRecords (R .limits) rs)) (rule13 R rs)
+means-13 : (L : Limits) (rs : List Rec) → Means (line 13 (tooManyRecords L rs)) (rule13 L rs)
 unfolding tooManyRecords
-means-13 R rs = record {
+means-13 L rs = record {
   number = refl;
-  yes = λ e. ltb-true (R .limits .records) (length rs) e;
-  no = λ e. ltb-false (R .limits .records) (length rs) e;
+  yes = λ e. ltb-true (L .records) (length rs) e;
+  no = λ e. ltb-false (L .records) (length rs) e;
   apart = λ x y. omega arith;
 }
 
-over-11 : (R : Rules) (k : Knowledge) → tooManyReplicas (R .limits) k ≡ true → R .limits .replicas < length (k .replicas)
-over-11 R k e =
-    elim (at-most? (length (k .replicas)) (R .limits .replicas)) [
-      | inl h ↦ clash (tooManyReplicas (R .limits) k) e (replicas-fit (R .limits) k .1 h)
+over-11 : (L : Limits) (k : Knowledge) → tooManyReplicas L k ≡ true → L .replicas < length (k .replicas)
+over-11 L k e =
+    elim (at-most? (length (k .replicas)) (L .replicas)) [
+      | inl h ↦ clash (tooManyReplicas L k) e (replicas-fit L k .1 h)
       | inr l ↦ l
     ]
 
-over-12 : (R : Rules) (k : Knowledge) → tooManyRanges (R .limits) k ≡ true → R .limits .ranges < length (k .ranges)
-over-12 R k e =
-    elim (at-most? (length (k .ranges)) (R .limits .ranges)) [
-      | inl h ↦ clash (tooManyRanges (R .limits) k) e (ranges-fit (R .limits) k .1 h)
+over-12 : (L : Limits) (k : Knowledge) → tooManyRanges L k ≡ true → L .ranges < length (k .ranges)
+over-12 L k e =
+    elim (at-most? (length (k .ranges)) (L .ranges)) [
+      | inl h ↦ clash (tooManyRanges L k) e (ranges-fit L k .1 h)
       | inr l ↦ l
     ]
 
 -- the lines of a resulting knowledge, by what a table of them comes to
-module _ (R : Rules) (k : Knowledge) where
-  result-refuses : (n : ℕ) (r : Reply) → ResultSays R k r → r ≡ refuses n → FirstOf n (rule11 R k ∷ rule12 R k ∷ [])
-  result-refuses n r (over-replicas e) h = inl (over-11 R k e, cc)
-  result-refuses n r (over-ranges e f) h = inr (replicas-fit (R .limits) k .0 e, inl (over-12 R k f, cc))
+module _ (L : Limits) (k : Knowledge) where
+  result-refuses : (n : ℕ) (r : Reply) → ResultSays L k r → r ≡ refuses n → FirstOf n (rule11 L k ∷ rule12 L k ∷ [])
+  result-refuses n r (over-replicas e) h = inl (over-11 L k e, cc)
+  result-refuses n r (over-ranges e f) h = inr (replicas-fit L k .0 e, inl (over-12 L k f, cc))
   result-refuses n r (result-given e f) h =
       let z : _≡_ {A = ℕ} 0 1 = cc in
       absurd (omega arith)
 
-  result-refused : (n : ℕ) (r : Reply) → ResultSays R k r → FirstOf n (rule11 R k ∷ rule12 R k ∷ []) → r ≡ refuses n
+  result-refused : (n : ℕ) (r : Reply) → ResultSays L k r → FirstOf n (rule11 L k ∷ rule12 L k ∷ []) → r ≡ refuses n
   result-refused n r (over-replicas e) (inl h) = ap refuses (h .1)
-  result-refused n r (over-replicas e) (inr h) = absurd (omega (arith, over-11 R k e, h .0))
-  result-refused n r (over-ranges e f) (inl h) = absurd (omega (arith, replicas-fit (R .limits) k .0 e, h .0))
+  result-refused n r (over-replicas e) (inr h) = absurd (omega (arith, over-11 L k e, h .0))
+  result-refused n r (over-ranges e f) (inl h) = absurd (omega (arith, replicas-fit L k .0 e, h .0))
   result-refused n r (over-ranges e f) (inr (l, inl h)) = ap refuses (h .1)
   result-refused n r (over-ranges e f) (inr (l, inr h)) = absurd (h .1)
-  result-refused n r (result-given e f) (inl h) = absurd (omega (arith, replicas-fit (R .limits) k .0 e, h .0))
-  result-refused n r (result-given e f) (inr (l, inl h)) = absurd (omega (arith, ranges-fit (R .limits) k .0 f, h .0))
+  result-refused n r (result-given e f) (inl h) = absurd (omega (arith, replicas-fit L k .0 e, h .0))
+  result-refused n r (result-given e f) (inr (l, inl h)) = absurd (omega (arith, ranges-fit L k .0 f, h .0))
   result-refused n r (result-given e f) (inr (l, inr h)) = absurd (h .1)
 
-  result-gives : (r : Reply) → ResultSays R k r → r ≡ gives (encode k) → NoneOf (rule11 R k ∷ rule12 R k ∷ [])
+  result-gives : (r : Reply) → ResultSays L k r → r ≡ gives (encode k) → NoneOf (rule11 L k ∷ rule12 L k ∷ [])
   result-gives r (over-replicas e) h =
       let z : _≡_ {A = ℕ} 0 1 = cc in
       absurd (omega arith)
   result-gives r (over-ranges e f) h =
       let z : _≡_ {A = ℕ} 0 1 = cc in
       absurd (omega arith)
-  result-gives r (result-given e f) h = (replicas-fit (R .limits) k .0 e, (ranges-fit (R .limits) k .0 f, tt))
+  result-gives r (result-given e f) h = (replicas-fit L k .0 e, (ranges-fit L k .0 f, tt))
 
-  result-given-by : (r : Reply) → ResultSays R k r → NoneOf (rule11 R k ∷ rule12 R k ∷ []) → r ≡ gives (encode k)
-  result-given-by r (over-replicas e) h = absurd (omega (arith, over-11 R k e, h .0))
-  result-given-by r (over-ranges e f) h = absurd (omega (arith, over-12 R k f, h .1 .0))
+  result-given-by : (r : Reply) → ResultSays L k r → NoneOf (rule11 L k ∷ rule12 L k ∷ []) → r ≡ gives (encode k)
+  result-given-by r (over-replicas e) h = absurd (omega (arith, over-11 L k e, h .0))
+  result-given-by r (over-ranges e f) h = absurd (omega (arith, over-12 L k f, h .1 .0))
   result-given-by r (result-given e f) h = refl
 
-  pub told-result : Told (resultLines R k) (rule11 R k ∷ rule12 R k ∷ [])
+  pub told-result : Told (resultLines L k) (rule11 L k ∷ rule12 L k ∷ [])
   told-result =
-      let ls = resultLines R k in
+      let ls = resultLines L k in
       let r = firstFault refuses ls (gives (encode k)) in
       record {
         first = λ n. (
-          (λ f. result-refuses n r (result-says R k) (fault-exact ls (encode k) n .1 f)),
-          λ f. fault-exact ls (encode k) n .0 (result-refused n r (result-says R k) f),
+          (λ f. result-refuses n r (result-says L k) (fault-exact ls (encode k) n .1 f)),
+          λ f. fault-exact ls (encode k) n .0 (result-refused n r (result-says L k) f),
         );
         none = (
-          (λ f. result-gives r (result-says R k) (fault-none refuses ls (gives (encode k)) f)),
-          λ f. fault-gives ls (encode k) (encode k) (result-given-by r (result-says R k) f) .0,
+          (λ f. result-gives r (result-says L k) (fault-none refuses ls (gives (encode k)) f)),
+          λ f. fault-gives ls (encode k) (encode k) (result-given-by r (result-says L k) f) .0,
         );
       }
 
-pub told-records : (R : Rules) (rs : List Rec) → Told (line 13 (tooManyRecords (R .limits) rs) ∷ []) (rule13 R rs ∷ [])
-told-records R rs = told-cons (line 13 (tooManyRecords (R .limits) rs)) [] (rule13 R rs) [] (means-13 R rs) told-nil
+pub told-records : (L : Limits) (rs : List Rec) → Told (line 13 (tooManyRecords L rs) ∷ []) (rule13 L rs ∷ [])
+told-records L rs = told-cons (line 13 (tooManyRecords L rs)) [] (rule13 L rs) [] (means-13 L rs) told-nil
 
 -- the lines of a resulting store
-pub told-store : (R : Rules) (st : Store) → Told (storeLines R st) (rule11 R (st .knowledge) ∷ rule12 R (st .knowledge) ∷ rule13 R (st .records) ∷ [])
+pub told-store : (L : Limits) (st : Store) → Told (storeLines L st) (rule11 L (st .knowledge) ∷ rule12 L (st .knowledge) ∷ rule13 L (st .records) ∷ [])
 unfolding storeLines
-told-store R st =
-    told-then (resultLines R (st .knowledge)) (line 13 (tooManyRecords (R .limits) (st .records)) ∷ []) (rule11 R (st .knowledge) ∷ rule12 R (st .knowledge) ∷ []) (rule13 R (st .records) ∷ [])
-    (told-result R (st .knowledge)) (told-records R (st .records))
+told-store L st =
+    told-then (resultLines L (st .knowledge)) (line 13 (tooManyRecords L (st .records)) ∷ []) (rule11 L (st .knowledge) ∷ rule12 L (st .knowledge) ∷ []) (rule13 L (st .records) ∷ [])
+    (told-result L (st .knowledge)) (told-records L (st .records))
 
 -- a store that opens has a lawful knowledge
-pub opened-lawful : (R : Rules) (s : List ℕ) (st : Store) → Permitted (R .limits) → Bytes s → openStore R s ≡ some st → Lawful R (st .knowledge)
-opened-lawful R s st p b e = store-opened R s st p b e .1 .0 .knowledge
+pub opened-lawful : (L : Limits) (s : List ℕ) (st : Store) → Permitted L → Bytes s → openStore L s ≡ accepted st → Lawful (anyId L) (st .knowledge)
+opened-lawful L s st p b e = store-opened L s st p b e .1 .0 .knowledge

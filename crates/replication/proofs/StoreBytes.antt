@@ -14,7 +14,7 @@ use lib.ListN.{length, take, drop}
 use borrow.Author.Tests.{le-leb, eq-eqb, leb-true, eqb-true}
 use Rattle.codec.specs.Number.{Bytes, beAt, put}
 use Rattle.codec.proofs.Numbers.{be-below, put-bytes}
-use Rattle.layout.specs.Knowledge.{Limits, Rules, Knowledge, encode, All, Lawful}
+use Rattle.layout.specs.Knowledge.{Limits, anyId, Knowledge, encode, All, Lawful}
 use Rattle.layout.specs.Permitted.{Permitted}
 use Rattle.layout.specs.Parse.{Parsed, accepted, refused, parse}
 use Rattle.layout.proofs.Chain.{Stands, stands-whole, over, reads}
@@ -26,14 +26,14 @@ use Rattle.ticks.specs.Operations.{ownAlike}
 use Rattle.replication.specs.Formats.{Rec, putRecs, Store, encodeStore}
 use Rattle.replication.specs.Reading.{recsAt, validRecs}
 use Rattle.replication.specs.OpenStore.{storeWith, storeFrom, decodeStore, versionsIn, validStore, ifValid, openStore}
-use Rattle.replication.proofs.PartBytes.{part-over, part-reads, part-length, part-back, no-bytes, append-bytes, part-bytes, test-back, both-left, both-right}
+use Rattle.replication.proofs.PartBytes.{part-over, part-reads, part-length, part-back, no-bytes, append-bytes, part-bytes, test-back, valid-back, both-left, both-right}
 use Rattle.replication.proofs.Tables.{both-holds}
 use Rattle.replication.proofs.RecordBytes.{FitsRec, put-upto, recs-bytes, recs-read, Read, recs-back}
 
 -- a store whose values have room in their fields
-pub record FitsStore (R : Rules) (st : Store) : Type 0 where
+pub record FitsStore (L : Limits) (st : Store) : Type 0 where
   pub own : st .own < 256 ^ 16
-  pub knowledge : Lawful R (st .knowledge)
+  pub knowledge : Lawful (anyId L) (st .knowledge)
   pub count : length (st .records) < 256 ^ 4
   pub records : All FitsRec (st .records)
 
@@ -44,8 +44,8 @@ store-bytes st =
     (append-bytes (encode (st .knowledge)) (putRecs (st .records) []) (encode-bytes (st .knowledge)) (recs-bytes (st .records) [] no-bytes)))))
 
 -- the bytes of a lawful knowledge are few enough that their number has room in four bytes
-pub length-fits : (R : Rules) (k : Knowledge) → Permitted (R .limits) → Lawful R k → length (encode k) < 256 ^ 4
-length-fits R k p l = omega (arith, lawful-length R k l, p .lengths)
+pub length-fits : (L : Limits) (k : Knowledge) → Permitted L → Lawful (anyId L) k → length (encode k) < 256 ^ 4
+length-fits L k p l = omega (arith, lawful-length (anyId L) k l, p .lengths)
 
 -- ---- writing and reading back
 
@@ -71,50 +71,50 @@ module _ (st : Store) where
   kind-read = reads (encodeStore st) 0 1 3 _ (stands-whole (encodeStore st)) (omega arith)
 
 -- the tests in front hold
-tests-hold : (R : Rules) (s : List ℕ) → beAt s 1 0 ≡ 3 → 25 + beAt s 4 17 ≤ length s →
-    decodeStore R s ≡ storeFrom s (parse R (take (beAt s 4 17) (drop 25 s)))
+tests-hold : (L : Limits) (s : List ℕ) → beAt s 1 0 ≡ 3 → 25 + beAt s 4 17 ≤ length s →
+    decodeStore L s ≡ storeFrom s (parse (anyId L) (take (beAt s 4 17) (drop 25 s)))
 unfolding decodeStore
-tests-hold R s e l = rw (eq-eqb (beAt s 1 0) 3 e, le-leb (25 + beAt s 4 17) (length s) l, decodeStore)
+tests-hold L s e l = rw (eq-eqb (beAt s 1 0) 3 e, le-leb (25 + beAt s 4 17) (length s) l, decodeStore)
 
 -- bytes whose parts are known are read as a store
-decode-of : (R : Rules) (s : List ℕ) (n c : ℕ) (k : Knowledge) (rs : List Rec) → beAt s 1 0 ≡ 3 → beAt s 4 17 ≡ n → beAt s 4 21 ≡ c →
-    25 + n ≤ length s → parse R (take n (drop 25 s)) ≡ accepted k → recsAt s c (25 + n) ≡ some rs →
-    decodeStore R s ≡ some (record { own = beAt s 16 1; knowledge = k; records = rs })
+decode-of : (L : Limits) (s : List ℕ) (n c : ℕ) (k : Knowledge) (rs : List Rec) → beAt s 1 0 ≡ 3 → beAt s 4 17 ≡ n → beAt s 4 21 ≡ c →
+    25 + n ≤ length s → parse (anyId L) (take n (drop 25 s)) ≡ accepted k → recsAt s c (25 + n) ≡ some rs →
+    decodeStore L s ≡ some (record { own = beAt s 16 1; knowledge = k; records = rs })
 unfolding storeFrom storeWith
-decode-of R s n c k rs e f g l h i =
-    tests-hold R s e (omega arith)
-    ∙ ap (storeFrom s) (ap (λ x. parse R (take x (drop 25 s))) f ∙ h)
+decode-of L s n c k rs e f g l h i =
+    tests-hold L s e (omega arith)
+    ∙ ap (storeFrom s) (ap (λ x. parse (anyId L) (take x (drop 25 s))) f ∙ h)
     ∙ ap (storeWith (beAt s 16 1) k) (ap₂ (λ x y. recsAt s x (25 + y)) g f ∙ i)
 
-pub store-decode : (R : Rules) (st : Store) → Permitted (R .limits) → FitsStore R st → decodeStore R (encodeStore st) ≡ some st
-store-decode R st p f =
+pub store-decode : (L : Limits) (st : Store) → Permitted L → FitsStore L st → decodeStore L (encodeStore st) ≡ some st
+store-decode L st p f =
     let s = encodeStore st in
     let k = st .knowledge in
-    decode-of R s (length (encode k)) (length (st .records)) k (st .records) (kind-read st)
-    (reads s 17 4 _ _ (at-length st) (length-fits R k p (f .knowledge)))
+    decode-of L s (length (encode k)) (length (st .records)) k (st .records) (kind-read st)
+    (reads s 17 4 _ _ (at-length st) (length-fits L k p (f .knowledge)))
     (reads s 21 4 _ _ (at-count st) (f .count))
     (at-records st .inside)
-    (ap (parse R) (part-reads s 25 (encode k) _ (at-knowledge st)) ∙ read-back R p k (f .knowledge))
+    (ap (parse (anyId L)) (part-reads s 25 (encode k) _ (at-knowledge st)) ∙ read-back (anyId L) p k (f .knowledge))
     (recs-read s (25 + length (encode k)) (st .records) (f .records) (at-records st))
     ∙ rw (reads s 1 16 _ _ (at-own st) (f .own))
 
-if-valid : (L : Limits) (st : Store) → validStore L st ≡ true → ifValid L (some st) ≡ some st
+if-valid : (L : Limits) (st : Store) → validStore L st ≡ true → ifValid L (some st) ≡ accepted st
 unfolding ifValid
 if-valid L st v = rw (v, ifValid)
 
-pub store-open : (R : Rules) (st : Store) → Permitted (R .limits) → FitsStore R st → validStore (R .limits) st ≡ true →
-    openStore R (encodeStore st) ≡ some st
+pub store-open : (L : Limits) (st : Store) → Permitted L → FitsStore L st → validStore L st ≡ true →
+    openStore L (encodeStore st) ≡ accepted st
 unfolding openStore
-store-open R st p f v = ap (ifValid (R .limits)) (store-decode R st p f) ∙ if-valid (R .limits) st v
+store-open L st p f v = ap (ifValid L) (store-decode L st p f) ∙ if-valid L st v
 
 -- ---- reading and writing again
 
 -- what bytes that are read as a store hold
-record Holds (R : Rules) (s : List ℕ) (st : Store) : Type 0 where
+record Holds (L : Limits) (s : List ℕ) (st : Store) : Type 0 where
   kind : beAt s 1 0 ≡ 3
   inside : 25 + beAt s 4 17 ≤ length s
   own : beAt s 16 1 ≡ st .own
-  knowledge : parse R (take (beAt s 4 17) (drop 25 s)) ≡ accepted (st .knowledge)
+  knowledge : parse (anyId L) (take (beAt s 4 17) (drop 25 s)) ≡ accepted (st .knowledge)
   records : recsAt s (beAt s 4 21) (25 + beAt s 4 17) ≡ some (st .records)
 
 with-back : (own : ℕ) (k : Knowledge) (o : Option (List Rec)) (st : Store) → storeWith own k o ≡ some st →
@@ -131,12 +131,12 @@ from-back s (accepted k) st e =
     let w = with-back (beAt s 16 1) k (recsAt s (beAt s 4 21) (25 + beAt s 4 17)) st e in
     (w .0, (ap accepted (w .1 .0), w .1 .1))
 
-decode-back : (R : Rules) (s : List ℕ) (st : Store) → decodeStore R s ≡ some st → Holds R s st
+decode-back : (L : Limits) (s : List ℕ) (st : Store) → decodeStore L s ≡ some st → Holds L s st
 unfolding decodeStore
-decode-back R s st e =
-    test-back (eqb (beAt s 1 0) 3) _ st (Holds R s st) e (λ a e.
-    test-back (leb (25 + beAt s 4 17) (length s)) _ st (Holds R s st) e (λ b e.
-    let w = from-back s (parse R (take (beAt s 4 17) (drop 25 s))) st e in
+decode-back L s st e =
+    test-back (eqb (beAt s 1 0) 3) _ st (Holds L s st) e (λ a e.
+    test-back (leb (25 + beAt s 4 17) (length s)) _ st (Holds L s st) e (λ b e.
+    let w = from-back s (parse (anyId L) (take (beAt s 4 17) (drop 25 s))) st e in
     record {
       kind = eqb-true (beAt s 1 0) 3 a;
       inside = leb-true (25 + beAt s 4 17) (length s) b;
@@ -145,14 +145,16 @@ decode-back R s st e =
       records = w .1 .1;
     }))
 
-open-back : (L : Limits) (o : Option Store) (st : Store) → ifValid L o ≡ some st → (o ≡ some st) × (validStore L st ≡ true)
+open-back : (L : Limits) (o : Option Store) (st : Store) → ifValid L o ≡ accepted st → (o ≡ some st) × (validStore L st ≡ true)
 unfolding ifValid
 open-back L none st e = absurd (let z : _≡_ {A = ℕ} 0 1 = cc in omega arith)
-open-back L (some x) st e = test-back (validStore L x) (some x) st ((some x ≡ some st) × (validStore L st ≡ true)) e (λ v f. (f, cc))
+open-back L (some x) st e =
+    let h = valid-back (validStore L x) x st 15 e in
+    (ap some (h .1), ap (validStore L) (sym (h .1)) ∙ h .0)
 
-module _ (R : Rules) (s : List ℕ) (st : Store) (p : Permitted (R .limits)) (b : Bytes s) (h : Holds R s st) where
-  held : (take (beAt s 4 17) (drop 25 s) ≡ encode (st .knowledge)) × Lawful R (st .knowledge)
-  held = exact R p (take (beAt s 4 17) (drop 25 s)) (st .knowledge) (part-bytes s (beAt s 4 17) 25 b) .0 (h .knowledge)
+module _ (L : Limits) (s : List ℕ) (st : Store) (p : Permitted L) (b : Bytes s) (h : Holds L s st) where
+  held : (take (beAt s 4 17) (drop 25 s) ≡ encode (st .knowledge)) × Lawful (anyId L) (st .knowledge)
+  held = exact (anyId L) p (take (beAt s 4 17) (drop 25 s)) (st .knowledge) (part-bytes s (beAt s 4 17) 25 b) .0 (h .knowledge)
 
   held-length : beAt s 4 17 ≡ length (encode (st .knowledge))
   held-length = sym (part-length s (beAt s 4 17) 25 (h .inside)) ∙ ap length (held .0)
@@ -160,7 +162,7 @@ module _ (R : Rules) (s : List ℕ) (st : Store) (p : Permitted (R .limits)) (b 
   held-records : Read s (beAt s 4 21) (25 + beAt s 4 17) (st .records)
   held-records = recs-back s (beAt s 4 21) (25 + beAt s 4 17) (st .records) b (h .records)
 
-  held-fits : FitsStore R st
+  held-fits : FitsStore L st
   held-fits = record {
     own = rw (← h .own) (be-below s 16 1 b);
     knowledge = held .1;
@@ -181,13 +183,13 @@ module _ (R : Rules) (s : List ℕ) (st : Store) (p : Permitted (R .limits)) (b 
       ∙ ap₂ (put 4) (sym (held-records .count))
       (part-back s (beAt s 4 17) 25 ∙ ap₂ (λ x y. x ++ y) (held .0) (held-records .bytes)))))
 
-pub store-opened : (R : Rules) (s : List ℕ) (st : Store) → Permitted (R .limits) → Bytes s → openStore R s ≡ some st →
-    (s ≡ encodeStore st) × (FitsStore R st × (validStore (R .limits) st ≡ true))
+pub store-opened : (L : Limits) (s : List ℕ) (st : Store) → Permitted L → Bytes s → openStore L s ≡ accepted st →
+    (s ≡ encodeStore st) × (FitsStore L st × (validStore L st ≡ true))
 unfolding openStore
-store-opened R s st p b e =
-    let o = open-back (R .limits) (decodeStore R s) st e in
-    let h = decode-back R s st (o .0) in
-    (held-bytes R s st p b h, (held-fits R s st p b h, o .1))
+store-opened L s st p b e =
+    let o = open-back L (decodeStore L s) st e in
+    let h = decode-back L s st (o .0) in
+    (held-bytes L s st p b h, (held-fits L s st p b h, o .1))
 
 -- ---- a valid store, part by part
 

@@ -1,7 +1,8 @@
 -- What each batch of a list carries, in the machine's terms. The promise of demand 3 says of batches only that they are valid; this says
 -- the rest of document 01's "Make".
 use Rattle.codec.specs.Prelude.{ℕ, _≤_, _<_, _≡_, _⊎_, _↔_, List, some}
-use Rattle.layout.specs.Knowledge.{Rules, Rising}
+use Rattle.layout.specs.Knowledge.{Limits, Rules, Rising}
+use Rattle.layout.specs.Parse.{accepted}
 use Rattle.ticks.specs.Meaning.{highest, known}
 use Rattle.replication.specs.Formats.{Rec, items, find, Batch}
 use Rattle.replication.specs.OpenBatch.{openBatch}
@@ -10,10 +11,10 @@ use Rattle.replication.specs.Machine.{Remembered, State, greatest, numbe
 use Rattle.replication.specs.Promise.{ends, machine}
 
 -- one batch made, with its bytes, compared with what the machine remembers under the same number
-pub record BatchAgrees (R : Rules) (m : State) (n : ℕ) (s : List ℕ) : Type 0 where
+pub record BatchAgrees (L : Limits) (m : State) (n : ℕ) (s : List ℕ) : Type 0 where
   -- every batch made is valid
   pub batch : Batch
-  pub opens : openBatch R s ≡ some batch
+  pub opens : openBatch L s ≡ accepted batch
   pub remembered : Remembered
   pub remembers : numbered n (m .batches) ≡ some remembered
   -- the span
@@ -34,4 +35,4 @@ pub record BatchAgrees (R : Rules) (m : State) (n : ℕ) (s : List ℕ) : Type 0
 
 -- every batch made is what the machine remembers
 pub record Batches (R : Rules) (calls : List Call) : Type 0 where
-  pub agree : (n : ℕ) (s : List ℕ) → batchNumber n (ends R calls .batches) ≡ some s → BatchAgrees R (machine R calls) n s
+  pub agree : (n : ℕ) (s : List ℕ) → batchNumber n (ends R calls .batches) ≡ some s → BatchAgrees (R .limits) (machine R calls) n s

@@ -3,10 +3,11 @@
 -- the bytes where no line holds. 14, the output buffer shorter than the result, is looked for last, by `answer`.
 use Rattle.codec.specs.Prelude.{ℕ, Bool, true, false, not, _||_, List, [], _∷_, Option, none, some, eqb, ltb, leb, length}
 use Rattle.codec.specs.Reply.{Reply, gives, Line, firstFault, refuses}
-use Rattle.layout.specs.Knowledge.{Limits, Rules, largestTick, Knowledge}
+use Rattle.layout.specs.Knowledge.{Limits, Rules, anyId, largestTick, Knowledge}
 use Rattle.layout.specs.Parse.{parse}
 use Rattle.ticks.specs.Meaning.{highest, emptyKnowledge}
 use Rattle.ticks.specs.Operations.{covers, coversFor, largest}
+use Rattle.codec.specs.Parsed.{Parsed, readOr}
 use Rattle.ticks.specs.Calls.{line, idOf, readAs, ownFault, wrongLength, wrongSpan, resultLines}
 use Rattle.replication.specs.Formats.{Rec, Store, newStore, encodeStore, Batch, encodeBatch, find}
 use Rattle.replication.specs.Reading.{live, tombstone}
@@ -19,23 +20,12 @@ unfoldable pub then : List Line → List Line → List Line
 then [] ms = ms
 then (l ∷ ls) ms = l ∷ then ls ms
 
--- 15: the store is not valid. Where it is not, its value is of no account
-unfoldable pub noStore : Option Store → Bool
-noStore none = true
-noStore (some st) = false
+-- the store or batch that was opened; where it is refused, the value is of no account
+abbrev pub storeOr : Parsed Store → Store
+storeOr o = readOr (newStore 0) o
 
-unfoldable pub storeOr : Option Store → Store
-storeOr none = newStore 0
-storeOr (some st) = st
-
--- 16: the batch is not valid
-unfoldable pub noBatch : Option Batch → Bool
-noBatch none = true
-noBatch (some b) = false
-
-unfoldable pub batchOr : Option Batch → Batch
-batchOr none = record { first = 0; last = 0; needed = emptyKnowledge; learned = emptyKnowledge; records = [] }
-batchOr (some b) = b
+abbrev pub batchOr : Parsed Batch → Batch
+batchOr p = readOr (record { first = 0; last = 0; needed = emptyKnowledge; learned = emptyKnowledge; records = [] }) p
 
 -- 18: "store doesn't cover needed in the span"
 unfoldable pub uncovered : Store → Batch → Bool
@@ -59,78 +49,78 @@ unfoldable pub tooManyRecords : Limits → List Rec → Bool
 tooManyRecords L rs = ltb (L .records) (length rs)
 
 -- 11, 12 and 13 of a resulting store
-unfoldable pub storeLines : Rules → Store → List Line
-storeLines R st =
-    then (resultLines R (st .knowledge)) (line 13 (tooManyRecords (R .limits) (st .records)) ∷ [])
+unfoldable pub storeLines : Limits → Store → List Line
+storeLines L st =
+    then (resultLines L (st .knowledge)) (line 13 (tooManyRecords L (st .records)) ∷ [])
 
 -- new
 unfoldable pub newReply : List ℕ → Reply
 newReply own = firstFault refuses (line 17 (wrongLength 16 own) ∷ []) (gives (encodeStore (newStore (idOf 16 own))))
 
 -- edit
-unfoldable pub editLines : Rules → Option Store → List ℕ → List ℕ → Store → List Line
-editLines R o item tag result =
-    line 15 (noStore o) ∷
+unfoldable pub editLines : Limits → Parsed Store → List ℕ → List ℕ → Store → List Line
+editLines L o item tag result =
+    ownFault o ∷
     line 17 (wrongLength 24 item || wrongLength 16 tag) ∷
     line 20 (exhausted (storeOr o)) ∷
-    storeLines R result
+    storeLines L result
 
-unfoldable pub edited : Option Store → List ℕ → List ℕ → Store
+unfoldable pub edited : Parsed Store → List ℕ → List ℕ → Store
 edited o item tag = changed live (idOf 24 item) (idOf 16 tag) (storeOr o)
 
-unfoldable pub editReply : Rules → List ℕ → List ℕ → List ℕ → Reply
-editReply R s item tag =
-    let o = openStore R s in
+unfoldable pub editReply : Limits → List ℕ → List ℕ → List ℕ → Reply
+editReply L s item tag =
+    let o = openStore L s in
     let result = edited o item tag in
-    firstFault refuses (editLines R o item tag result) (gives (encodeStore result))
+    firstFault refuses (editLines L o item tag result) (gives (encodeStore result))
 
 -- delete
-unfoldable pub deleteLines : Rules → Option Store → List ℕ → Store → List Line
-deleteLines R o item result =
-    line 15 (noStore o) ∷
+unfoldable pub deleteLines : Limits → Parsed Store → List ℕ → Store → List Line
+deleteLines L o item result =
+    ownFault o ∷
     line 17 (wrongLength 24 item) ∷
     line 19 (gone (find (idOf 24 item) (storeOr o .records))) ∷
     line 20 (exhausted (storeOr o)) ∷
-    storeLines R result
+    storeLines L result
 
-unfoldable pub deleted : Option Store → List ℕ → Store
+unfoldable pub deleted : Parsed Store → List ℕ → Store
 deleted o item = changed tombstone (idOf 24 item) 0 (storeOr o)
 
-unfoldable pub deleteReply : Rules → List ℕ → List ℕ → Reply
-deleteReply R s item =
-    let o = openStore R s in
+unfoldable pub deleteReply : Limits → List ℕ → List ℕ → Reply
+deleteReply L s item =
+    let o = openStore L s in
     let result = deleted o item in
-    firstFault refuses (deleteLines R o item result) (gives (encodeStore result))
+    firstFault refuses (deleteLines L o item result) (gives (encodeStore result))
 
 -- make: the store, the given knowledge's own fault, the span, then needed before learned
-unfoldable pub makeLines : Rules → Option Store → List ℕ → List ℕ → List ℕ → Batch → List Line
+unfoldable pub makeLines : Rules → Parsed Store → List ℕ → List ℕ → List ℕ → Batch → List Line
 makeLines R o knowledge first last result =
-    line 15 (noStore o) ∷
+    ownFault o ∷
     ownFault (parse R knowledge) ∷
     line 17 (wrongSpan first last) ∷
-    then (resultLines R (result .needed))
-    (then (resultLines R (result .learned)) (line 13 (tooManyRecords (R .limits) (result .records)) ∷ []))
+    then (resultLines (R .limits) (result .needed))
+    (then (resultLines (R .limits) (result .learned)) (line 13 (tooManyRecords (R .limits) (result .records)) ∷ []))
 
-unfoldable pub makes : Rules → Option Store → List ℕ → List ℕ → List ℕ → Batch
+unfoldable pub makes : Rules → Parsed Store → List ℕ → List ℕ → List ℕ → Batch
 makes R o knowledge first last = made (storeOr o) (readAs (parse R knowledge)) (idOf 24 first) (idOf 24 last)
 
 unfoldable pub makeReply : Rules → List ℕ → List ℕ → List ℕ → List ℕ → Reply
 makeReply R s knowledge first last =
-    let o = openStore R s in
+    let o = openStore (R .limits) s in
     let result = makes R o knowledge first last in
     firstFault refuses (makeLines R o knowledge first last result) (gives (encodeBatch result))
 
 -- apply
-unfoldable pub applyLines : Rules → Option Store → Option Batch → Store → List Line
-applyLines R o p result =
-    line 15 (noStore o) ∷
-    line 16 (noBatch p) ∷
+unfoldable pub applyLines : Limits → Parsed Store → Parsed Batch → Store → List Line
+applyLines L o p result =
+    ownFault o ∷
+    ownFault p ∷
     line 18 (uncovered (storeOr o) (batchOr p) || ownAhead (storeOr o) (batchOr p)) ∷
-    storeLines R result
+    storeLines L result
 
-unfoldable pub applyReply : Rules → List ℕ → List ℕ → Reply
-applyReply R s batch =
-    let o = openStore R s in
-    let p = openBatch R batch in
+unfoldable pub applyReply : Limits → List ℕ → List ℕ → Reply
+applyReply L s batch =
+    let o = openStore L s in
+    let p = openBatch L batch in
     let result = applied (storeOr o) (batchOr p) in
-    firstFault refuses (applyLines R o p result) (gives (encodeStore result))
+    firstFault refuses (applyLines L o p result) (gives (encodeStore result))

@@ -4,7 +4,7 @@
 use Rattle.codec.specs.Prelude.{ℕ, zero, suc, _^_, _<_, Bool, true, false, List, [], _∷_, _++_, Option, none, some, leb, eqb, length}
 use Rattle.codec.specs.Number.{Bytes}
 use Rattle.codec.specs.Reply.{Reply, gives, refuses}
-use Rattle.layout.specs.Knowledge.{Rules}
+use Rattle.layout.specs.Knowledge.{Limits, Rules}
 use Rattle.replication.specs.Formats.{newStore, encodeStore}
 use Rattle.replication.specs.Calls.{editReply, deleteReply, makeReply, applyReply}
 
@@ -16,12 +16,15 @@ pub data Call : Type 0 where
   make : (who : ℕ) (knowledge first last : List ℕ) (room : ℕ) → Call
   apply : (who which : ℕ) (room : ℕ) → Call
 
+abbrev pub ReplicaId : ℕ → Type 0  -- the ids that lists speak of: those of 16 bytes
+ReplicaId p = p < 256 ^ 16
+
 -- what is given of a call: the id has 16 bytes, and the arguments are bytes, of any number
 abbrev pub Given : Call → Type 0
-Given (edit who item tag room) = (who < 256 ^ 16) × (Bytes item × Bytes tag)
-Given (delete who item room) = (who < 256 ^ 16) × Bytes item
-Given (make who knowledge first last room) = (who < 256 ^ 16) × (Bytes knowledge × (Bytes first × Bytes last))
-Given (apply who which room) = who < 256 ^ 16
+Given (edit who item tag room) = ReplicaId who × (Bytes item × Bytes tag)
+Given (delete who item room) = ReplicaId who × Bytes item
+Given (make who knowledge first last room) = ReplicaId who × (Bytes knowledge × (Bytes first × Bytes last))
+Given (apply who which room) = ReplicaId who
 
 -- the bytes of every replica's store, and of the batches made, the oldest first
 pub record World : Type 0 where
@@ -42,15 +45,15 @@ batchNumber zero (b ∷ bs) = some b
 batchNumber (suc n) (b ∷ bs) = batchNumber n bs
 
 -- "An apply gets a batch just as an earlier make of the list wrote it, on any replica, the maker too."
-unfoldable pub applyTo : Rules → List ℕ → Option (List ℕ) → ℕ → Option (List ℕ)
-applyTo R s none room = none
-applyTo R s (some batch) room = outcome (applyReply R s batch) room
+unfoldable pub applyTo : Limits → List ℕ → Option (List ℕ) → ℕ → Option (List ℕ)
+applyTo L s none room = none
+applyTo L s (some batch) room = outcome (applyReply L s batch) room
 
 unfoldable pub writes : Rules → World → Call → Option (List ℕ)
-writes R w (edit who item tag room) = outcome (editReply R (w .stores who) item tag) room
-writes R w (delete who item room) = outcome (deleteReply R (w .stores who) item) room
+writes R w (edit who item tag room) = outcome (editReply (R .limits) (w .stores who) item tag) room
+writes R w (delete who item room) = outcome (deleteReply (R .limits) (w .stores who) item) room
 writes R w (make who knowledge first last room) = outcome (makeReply R (w .stores who) knowledge first last) room
-writes R w (apply who which room) = applyTo R (w .stores who) (batchNumber which (w .batches)) room
+writes R w (apply who which room) = applyTo (R .limits) (w .stores who) (batchNumber which (w .batches)) room
 
 -- a function with another value at one place
 unfoldable pub putAt : {A : Type 0} → ℕ → A → (ℕ → A) → ℕ → A

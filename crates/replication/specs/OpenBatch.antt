@@ -2,7 +2,7 @@
 -- batch are read as its value exactly where the batch meets document 01's list (specs/Valid.antt).
 use Rattle.codec.specs.Prelude.{ℕ, suc, _+_, Bool, true, false, not, List, Option, none, some, eqb, leb, length, take, drop}
 use Rattle.codec.specs.Number.{beAt}
-use Rattle.layout.specs.Knowledge.{Limits, Rules, Knowledge}
+use Rattle.layout.specs.Knowledge.{Limits, anyId, Knowledge}
 use Rattle.layout.specs.Parse.{Parsed, accepted, refused, parse}
 use Rattle.ticks.specs.Meaning.{contains}
 use Rattle.ticks.specs.Written.{isNormal, eqKnowledge}
@@ -20,15 +20,15 @@ unfoldable pub batchAfter : List ℕ → Knowledge → Parsed Knowledge → Opti
 batchAfter s needed (refused n) = none
 batchAfter s needed (accepted k) = batchWith s needed k (recsAt s (beAt s 4 57) (61 + beAt s 4 49 + beAt s 4 53))
 
-unfoldable pub batchFrom : Rules → List ℕ → Parsed Knowledge → Option Batch
-batchFrom R s (refused n) = none
-batchFrom R s (accepted k) = batchAfter s k (parse R (take (beAt s 4 53) (drop (61 + beAt s 4 49) s)))
+unfoldable pub batchFrom : Limits → List ℕ → Parsed Knowledge → Option Batch
+batchFrom L s (refused n) = none
+batchFrom L s (accepted k) = batchAfter s k (parse (anyId L) (take (beAt s 4 53) (drop (61 + beAt s 4 49) s)))
 
-unfoldable pub decodeBatch : Rules → List ℕ → Option Batch
-decodeBatch R s =
+unfoldable pub decodeBatch : Limits → List ℕ → Option Batch
+decodeBatch L s =
     elim (eqb (beAt s 1 0) 4) [
       | true ↦ elim (leb (61 + beAt s 4 49 + beAt s 4 53) (length s)) [
-        | true ↦ batchFrom R s (parse R (take (beAt s 4 49) (drop 61 s)))
+        | true ↦ batchFrom L s (parse (anyId L) (take (beAt s 4 49) (drop 61 s)))
         | false ↦ none
       ]
       | false ↦ none
@@ -54,10 +54,10 @@ validBatch L b =
     (both (isNormal (b .learned))
     (both (eqKnowledge (project (b .first) (b .last) (b .learned)) (b .learned)) (validRecs (carried b) 0 (b .records))))))
 
-unfoldable pub ifValidBatch : Limits → Option Batch → Option Batch
-ifValidBatch L none = none
-ifValidBatch L (some b) = elim (validBatch L b) [ true ↦ some b | false ↦ none ]
+unfoldable pub ifValidBatch : Limits → Option Batch → Parsed Batch
+ifValidBatch L none = refused 16
+ifValidBatch L (some b) = elim (validBatch L b) [ true ↦ accepted b | false ↦ refused 16 ]
 
--- the value of a valid batch; none where the bytes are none (16)
-unfoldable pub openBatch : Rules → List ℕ → Option Batch
-openBatch R s = ifValidBatch (R .limits) (decodeBatch R s)
+-- the value of a valid batch, or 16
+unfoldable pub openBatch : Limits → List ℕ → Parsed Batch
+openBatch L s = ifValidBatch L (decodeBatch L s)

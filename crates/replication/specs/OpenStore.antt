@@ -2,7 +2,7 @@
 -- store are read as its value exactly where the store meets document 01's list (specs/Valid.antt).
 use Rattle.codec.specs.Prelude.{ℕ, _+_, Bool, true, false, List, Option, none, some, eqb, leb, length, take, drop}
 use Rattle.codec.specs.Number.{beAt}
-use Rattle.layout.specs.Knowledge.{Limits, Rules, Knowledge}
+use Rattle.layout.specs.Knowledge.{Limits, anyId, Knowledge}
 use Rattle.layout.specs.Parse.{Parsed, accepted, refused, parse}
 use Rattle.ticks.specs.Meaning.{contains}
 use Rattle.ticks.specs.Written.{isNormal}
@@ -19,11 +19,11 @@ unfoldable pub storeFrom : List ℕ → Parsed Knowledge → Option Store
 storeFrom s (refused n) = none
 storeFrom s (accepted k) = storeWith (beAt s 16 1) k (recsAt s (beAt s 4 21) (25 + beAt s 4 17))
 
-unfoldable pub decodeStore : Rules → List ℕ → Option Store
-decodeStore R s =
+unfoldable pub decodeStore : Limits → List ℕ → Option Store
+decodeStore L s =
     elim (eqb (beAt s 1 0) 3) [
       | true ↦ elim (leb (25 + beAt s 4 17) (length s)) [
-        | true ↦ storeFrom s (parse R (take (beAt s 4 17) (drop 25 s)))
+        | true ↦ storeFrom s (parse (anyId L) (take (beAt s 4 17) (drop 25 s)))
         | false ↦ none
       ]
       | false ↦ none
@@ -40,10 +40,10 @@ validStore L st =
     (both (isNormal (st .knowledge))
     (both (ownAlike (st .own) (st .knowledge)) (validRecs (versionsIn (st .knowledge)) 0 (st .records))))
 
-unfoldable pub ifValid : Limits → Option Store → Option Store
-ifValid L none = none
-ifValid L (some st) = elim (validStore L st) [ true ↦ some st | false ↦ none ]
+unfoldable pub ifValid : Limits → Option Store → Parsed Store
+ifValid L none = refused 15
+ifValid L (some st) = elim (validStore L st) [ true ↦ accepted st | false ↦ refused 15 ]
 
--- the value of a valid store; none where the bytes are none (15)
-unfoldable pub openStore : Rules → List ℕ → Option Store
-openStore R s = ifValid (R .limits) (decodeStore R s)
+-- the value of a valid store, or 15
+unfoldable pub openStore : Limits → List ℕ → Parsed Store
+openStore L s = ifValid L (decodeStore L s)

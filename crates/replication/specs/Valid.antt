@@ -1,6 +1,6 @@
 -- Which stores and batches are valid, on their values: document 01's lists "A valid store: …" and "A valid batch: …".
 use Rattle.codec.specs.Prelude.{ℕ, _^_, _≤_, _<_, _≡_, _⊎_, length}
-use Rattle.layout.specs.Knowledge.{Rules, largestTick, Knowledge, All, Rising, Lawful}
+use Rattle.layout.specs.Knowledge.{Limits, anyId, largestTick, Knowledge, All, Rising, Lawful}
 use Rattle.ticks.specs.Meaning.{highest, known, Normal}
 use Rattle.replication.specs.Formats.{Rec, items, Store, Batch}
 
@@ -23,12 +23,12 @@ pub record ContainedIn (k : Knowledge) (r : Rec) : Type 0 where
 
 -- "A valid store: records, kinds and tombstone tags as above, exact length, knowledge in normal form, each change and create version
 -- contained in it, own tick alike in all ranges"; records "at most 256" that "rise strictly by item id"
-pub record LawfulStore (R : Rules) (st : Store) : Type 0 where
+pub record LawfulStore (L : Limits) (st : Store) : Type 0 where
   pub own : st .own < 256 ^ 16
-  pub lawful : Lawful R (st .knowledge)
+  pub lawful : Lawful (anyId L) (st .knowledge)
   pub normal : Normal (st .knowledge)
   pub alike : (i j : ℕ) → i ≤ highest → j ≤ highest → known (st .knowledge) i (st .own) ≡ known (st .knowledge) j (st .own)
-  pub count : length (st .records) ≤ R .limits .records
+  pub count : length (st .records) ≤ L .records
   pub rising : Rising 0 (items (st .records))
   pub records : All LawfulRec (st .records)
   pub versions : All (ContainedIn (st .knowledge)) (st .records)
@@ -36,15 +36,15 @@ pub record LawfulStore (R : Rules) (st : Store) : Type 0 where
 -- "A valid batch: records, kinds and tombstone tags as above, exact length, first not above last, both knowledges in normal form,
 -- learned unchanged by projecting onto the span, records inside the span, change and create versions contained in learned, change
 -- versions not in needed"
-pub record LawfulBatch (R : Rules) (b : Batch) : Type 0 where
+pub record LawfulBatch (L : Limits) (b : Batch) : Type 0 where
   pub span : b .first ≤ b .last
   pub last : b .last < 256 ^ 24
-  pub neededLawful : Lawful R (b .needed)
+  pub neededLawful : Lawful (anyId L) (b .needed)
   pub neededNormal : Normal (b .needed)
-  pub learnedLawful : Lawful R (b .learned)
+  pub learnedLawful : Lawful (anyId L) (b .learned)
   pub learnedNormal : Normal (b .learned)
   pub outside : (i p : ℕ) → i ≤ highest → (i < b .first) ⊎ (b .last < i) → known (b .learned) i p ≡ 0
-  pub count : length (b .records) ≤ R .limits .records
+  pub count : length (b .records) ≤ L .records
   pub rising : Rising 0 (items (b .records))
   pub records : All LawfulRec (b .records)
   pub inside : All (λ r. (b .first ≤ r .item) × (r .item ≤ b .last)) (b .records)

@@ -49,7 +49,7 @@ pub record Given (R : Rules) (k : Knowledge) (bs : List ℕ) : Type 0 where
   pub short : tooManyRanges (R .limits) k ≡ false
   pub bytes : bs ≡ encode k
 
-pub given-result : (R : Rules) (k : Knowledge) (bs : List ℕ) {r : Reply} → ResultSays R k r → r ≡ gives bs → Given R k bs
+pub given-result : (R : Rules) (k : Knowledge) (bs : List ℕ) {r : Reply} → ResultSays (R .limits) k r → r ≡ gives bs → Given R k bs
 given-result R k bs (over-replicas e) q = gave 11 bs q
 given-result R k bs (over-ranges e f) q = gave 12 bs q
 given-result R k bs (result-given e f) q = record { few = e; short = f; bytes = sym (gave-same (encode k) bs q) }

@@ -10,7 +10,7 @@ use lib.ListN.{length}
 use borrow.Author.Tests.{eqb-true, ltb-false, not-false}
 use Rattle.codec.specs.Number.{beAt}
 use Rattle.codec.proofs.Replies.{None}
-use Rattle.layout.specs.Knowledge.{Rules, Knowledge}
+use Rattle.layout.specs.Knowledge.{Limits, Knowledge}
 use Rattle.layout.specs.Parse.{Parsed, accepted, refused}
 use Rattle.ticks.specs.Operations.{tooManyReplicas, tooManyRanges}
 use Rattle.ticks.specs.Calls.{idOf, readAs, ownFault, wrongLength, wrongSpan, resultLines}
@@ -37,10 +37,10 @@ span-right first last h =
     (length-right 24 first (a .0), (length-right 24 last (b .0), ltb-false (idOf 24 last) (idOf 24 first) (b .1)))
 
 -- a resulting knowledge within the limits
-pub record Within (R : Rules) (k : Knowledge) : Type 0 where
-  pub replicas : tooManyReplicas (R .limits) k ≡ false
-  pub ranges : tooManyRanges (R .limits) k ≡ false
+pub record Within (L : Limits) (k : Knowledge) : Type 0 where
+  pub replicas : tooManyReplicas L k ≡ false
+  pub ranges : tooManyRanges L k ≡ false
 
-pub within-lines : (R : Rules) (k : Knowledge) → None (resultLines R k) → Within R k
+pub within-lines : (L : Limits) (k : Knowledge) → None (resultLines L k) → Within L k
 unfolding resultLines
-within-lines R k h = record { replicas = h .0; ranges = h .1 .0 }
+within-lines L k h = record { replicas = h .0; ranges = h .1 .0 }

@@ -23,7 +23,7 @@ use Rattle.ticks.proofs.Replies.{read-lawful, ResultSays, over-replicas
 use Rattle.ticks.proofs.Demand2.{gave, accepted-same, not-refused, Given, given-result, given-written, demand2}
 
 -- a lawful knowledge's own bytes are given
-given-own : (R : Rules) (k : Knowledge) {r : Reply} → Lawful R k → ResultSays R k r → r ≡ gives (encode k)
+given-own : (R : Rules) (k : Knowledge) {r : Reply} → Lawful R k → ResultSays (R .limits) k r → r ≡ gives (encode k)
 given-own R k l (over-replicas e) = clash (tooManyReplicas (R .limits) k) e (replicas-fit (R .limits) k .1 (l .replicas))
 given-own R k l (over-ranges e f) = clash (tooManyRanges (R .limits) k) f (ranges-fit (R .limits) k .1 (l .ranges))
 given-own R k l (result-given e f) = refl
@@ -33,7 +33,7 @@ module _ (R : Rules) (permitted : Permitted (R .limits)) where
   written-anew s k b e n (normalise-own m h) = not-refused k m (parse R s) e h
   written-anew s k b e n (normalise-result a r h w) =
       let same : normalise a ≡ k = ap normalise (accepted-same a k (parse R s) h e) ∙ normalise-normal k n in
-      given-own R k (read-lawful R s k permitted b e) (subst (λ l. ResultSays R l r) same w)
+      given-own R k (read-lawful R s k permitted b e) (subst (λ l. ResultSays (R .limits) l r) same w)
       ∙ ap gives (sym (exact R permitted s k b .0 e .0))
 
   test-of : (s : List ℕ) (k : Knowledge) → Bytes s → parse R s ≡ accepted k → Normal k ↔ (normaliseReply R s ≡ gives s)

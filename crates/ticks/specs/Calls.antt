@@ -8,7 +8,7 @@ use Rattle.codec.specs.Reply.{Reply, gives, refuses, Line, firstFault}
 use Rattle.codec.specs.Parsed.{Parsed}
 pub use Rattle.codec.specs.Parsed.{line}
 unfoldable pub use Rattle.codec.specs.Parsed.{ownFault, readOr}
-use Rattle.layout.specs.Knowledge.{Rules, Knowledge, encode}
+use Rattle.layout.specs.Knowledge.{Limits, Rules, Knowledge, encode}
 use Rattle.layout.specs.Parse.{parse}
 use Rattle.ticks.specs.Meaning.{known, contains, emptyKnowledge}
 use Rattle.ticks.specs.Operations.{normalise, merge, project, covers, tooManyReplicas, tooManyRanges}
@@ -106,24 +106,24 @@ coverAnswer R s t first last =
     (firstFault refuses (ownFault p ∷ ownFault q ∷ line 17 (wrongSpan first last) ∷ []) (gives []))
 
 -- the lines of a result: 11 over the most replicas, 12 over the most ranges
-unfoldable pub resultLines : Rules → Knowledge → List Line
-resultLines R k = line 11 (tooManyReplicas (R .limits) k) ∷ line 12 (tooManyRanges (R .limits) k) ∷ []
+unfoldable pub resultLines : Limits → Knowledge → List Line
+resultLines L k = line 11 (tooManyReplicas L k) ∷ line 12 (tooManyRanges L k) ∷ []
 
 unfoldable pub normaliseReply : Rules → List ℕ → Reply
 normaliseReply R s =
     let p = parse R s in
     let k = normalise (readAs p) in
-    firstFault refuses (ownFault p ∷ resultLines R k) (gives (encode k))
+    firstFault refuses (ownFault p ∷ resultLines (R .limits) k) (gives (encode k))
 
 unfoldable pub mergeReply : Rules → List ℕ → List ℕ → Reply
 mergeReply R s t =
     let p = parse R s in
     let q = parse R t in
     let k = merge (readAs p) (readAs q) in
-    firstFault refuses (ownFault p ∷ ownFault q ∷ resultLines R k) (gives (encode k))
+    firstFault refuses (ownFault p ∷ ownFault q ∷ resultLines (R .limits) k) (gives (encode k))
 
 unfoldable pub projectReply : Rules → List ℕ → List ℕ → List ℕ → Reply
 projectReply R s first last =
     let p = parse R s in
     let k = project (idOf 24 first) (idOf 24 last) (readAs p) in
-    firstFault refuses (ownFault p ∷ line 17 (wrongSpan first last) ∷ resultLines R k) (gives (encode k))
+    firstFault refuses (ownFault p ∷ line 17 (wrongSpan first last) ∷ resultLines (R .limits) k) (gives (encode k))
