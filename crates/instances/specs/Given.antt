@@ -5,7 +5,10 @@ use mathlib.Core.List.{List, [], _∷_}
 use Rattle.codec.specs.Number.{put}
 use Rattle.layout.specs.Knowledge.{Element, Range, Knowledge}
 use Rattle.ticks.specs.Meaning.{highest}
-use Rattle.replication.specs.Formats.{Rec, Store, Batch}
+use Rattle.replication.specs.Record.{Rec}
+use Rattle.replication.specs.Call.{Brought}
+use Rattle.replication.specs.Formats.{Store, Batch}
+use mathlib.Core.Bool.{false}
 
 -- the empty knowledge as a value: r = 0, v = 1, g = 1
 unfoldable pub emptyValue : Knowledge
@@ -35,6 +38,10 @@ replicaBytes p = put 16 p []
 unfoldable pub tagBytes : ℕ → List ℕ
 tagBytes t = put 16 t []
 
+-- what an edit with a tag brings
+unfoldable pub tagged : ℕ → Brought
+tagged t = record { tag = tagBytes t }
+
 abbrev pub el : ℕ → ℕ → Element
 el key tick = record { key = record { 0 = key }; tick = tick }
 
@@ -52,15 +59,14 @@ two p t q u = record { replicas = p ∷ q ∷ []; vectors = [] ∷ (el 0 t ∷ e
 unfoldable pub parts : ℕ → ℕ → List Range → Knowledge
 parts p t rs = record { replicas = p ∷ []; vectors = [] ∷ (el 0 t ∷ []) ∷ []; ranges = rs }
 
--- a live record made and created by replica p at tick t
-unfoldable pub fresh : ℕ → ℕ → ℕ → ℕ → Rec
-fresh item p t tag =
-    record { kind = 1; item = item; changeReplica = p; changeTick = t; createReplica = p; createTick = t; tag = tag }
-
 -- a live record of replica p at tick t that keeps a create version
 unfoldable pub again : ℕ → ℕ → ℕ → ℕ → ℕ → ℕ → Rec
 again item p t q u tag =
-    record { kind = 1; item = item; changeReplica = p; changeTick = t; createReplica = q; createTick = u; tag = tag }
+    record { item = item; changeReplica = p; changeTick = t; createReplica = q; createTick = u; content = record { deleted = false; tag = tag } }
+
+-- a live record made and created by replica p at tick t
+unfoldable pub fresh : ℕ → ℕ → ℕ → ℕ → Rec
+fresh item p t tag = again item p t p t tag
 
 unfoldable pub store : ℕ → Knowledge → List Rec → Store
 store p k rs = record { own = p; knowledge = k; records = rs }

@@ -16,12 +16,13 @@ use Rattle.ticks.specs.declared.Contain.{Contain}
 use Rattle.ticks.specs.declared.Contain.the-variants as C
 use Rattle.ticks.specs.declared.Lead.{Lead}
 use Rattle.ticks.specs.declared.Lead.the-variants as D
-use Rattle.replication.specs.Formats.{Rec, Store, encodeStore, Batch, encodeBatch}
+use Rattle.replication.specs.Record.{Rec}
+use Rattle.replication.specs.Formats.{Store, encodeStore, Batch, encodeBatch}
 use Rattle.replication.specs.Operate.{nextTick}
 use Rattle.replication.specs.Calls.{newReply, editReply, makeReply, applyReply}
 use Rattle.replication.specs.Queries.{winnerPart, learnedPart}
 use Rattle.instances.specs.Spelled.{bytesK6, bytesK10, bytesK11}
-use Rattle.instances.specs.Given.{emptyValue, smallest, itemBytes, replicaBytes, tagBytes, ran, one, two, parts, fresh, again, store, batch, p1, q1, p2, q2}
+use Rattle.instances.specs.Given.{emptyValue, smallest, itemBytes, replicaBytes, tagged, ran, one, two, parts, fresh, again, store, batch, p1, q1, p2, q2}
 use Rattle.replication.specs.declared.Part.{Part}
 use Rattle.replication.specs.declared.Part.the-variants as W
 
@@ -129,19 +130,19 @@ unfoldable pub storeRows : ℕ → ℕ → List Row
 storeRows P Q =
     -- K9 new store 138 bytes; after one edit 263
     gets (newReply (replicaBytes P)) (encodeStore (newOf P)) 138 ∷
-    gets (editReply base (encodeStore (newOf P)) (itemBytes 1) (tagBytes 9)) (encodeStore (editedOnce P 9)) 263 ∷
+    gets (editReply base (encodeStore (newOf P)) (itemBytes 1) (tagged 9)) (encodeStore (editedOnce P 9)) 263 ∷
     -- K10 P and Q both edit item 1 first, P applies Q's batch: Q's record wins, P's next tick 2
-    gets (editReply base (encodeStore (newOf Q)) (itemBytes 1) (tagBytes 6)) (encodeStore (editedOnce Q 6)) 263 ∷
+    gets (editReply base (encodeStore (newOf Q)) (itemBytes 1) (tagged 6)) (encodeStore (editedOnce Q 6)) 263 ∷
     gets (everything (makeReply basic (encodeStore (editedOnce Q 6)) smallest)) (encodeBatch (batchOne Q 6)) 412 ∷
     gets (applyReply base (encodeStore (editedOnce P 9)) (encodeBatch (batchOne Q 6))) (encodeStore (store P (two P 1 Q 1) (fresh 1 Q 1 6 ∷ []))) 291 ∷
     hands (winnerPart base (encodeStore (editedOnce P 9)) (encodeBatch (batchOne Q 6)) (itemBytes 1)) (W.OfBatch 323 89) ∷
     next (store P (two P 1 Q 1) (fresh 1 Q 1 6 ∷ [])) 2 ∷
-    gets (editReply base (encodeStore (store P (two P 1 Q 1) (fresh 1 Q 1 6 ∷ []))) (itemBytes 1) (tagBytes 7)) (encodeStore (store P (two P 2 Q 1) (again 1 P 2 Q 1 7 ∷ []))) 291 ∷
+    gets (editReply base (encodeStore (store P (two P 1 Q 1) (fresh 1 Q 1 6 ∷ []))) (itemBytes 1) (tagged 7)) (encodeStore (store P (two P 2 Q 1) (again 1 P 2 Q 1 7 ∷ []))) 291 ∷
     -- K11 batch of K9's edited store for empty knowledge, all ids: 412 bytes
     gets (everything (makeReply basic (encodeStore (editedOnce P 9)) smallest)) (encodeBatch (batchOne P 9)) 412 ∷
     -- K12 P edits item 1, makes batch one for empty knowledge (K11), edits item 2, and makes batch two for batch one's
     -- learned knowledge, both over all ids. A new Q refuses two (18), takes one, then two
-    gets (editReply base (encodeStore (editedOnce P 9)) (itemBytes 2) (tagBytes 8)) (encodeStore (editedTwice P)) 352 ∷
+    gets (editReply base (encodeStore (editedOnce P 9)) (itemBytes 2) (tagged 8)) (encodeStore (editedTwice P)) 352 ∷
     hands (learnedPart base (encodeBatch (batchOne P 9))) (W.OfBatch 174 149) ∷
     bytesAre (take 149 (drop 174 (encodeBatch (batchOne P 9)))) (encode (one P 1)) ∷
     gets (everything (makeReply basic (encodeStore (editedTwice P)) (encode (one P 1)))) (encodeBatch (batchTwo P)) 448 ∷
@@ -154,7 +155,7 @@ storeRows P Q =
 unfoldable pub spelledRows : List Row
 spelledRows =
     gets (projectReply basic (encode (one p1 5)) (itemBytes 1) (itemBytes 1)) bytesK6 205 ∷
-    gets (editReply base (encodeStore (store p1 (two p1 1 q1 1) (fresh 1 q1 1 6 ∷ []))) (itemBytes 1) (tagBytes 7)) bytesK10 291 ∷
+    gets (editReply base (encodeStore (store p1 (two p1 1 q1 1) (fresh 1 q1 1 6 ∷ []))) (itemBytes 1) (tagged 7)) bytesK10 291 ∷
     gets (everything (makeReply basic (encodeStore (editedOnce p1 9)) smallest)) bytesK11 412 ∷
     []
 

@@ -1,6 +1,7 @@
 -- The laws of the layout: bytes are accepted exactly where they are the encoding of a lawful knowledge.
 pub mod Chain
 pub mod Parts
+pub mod Runs
 pub mod ForwardRead
 pub mod ForwardDecode
 pub mod Forward

@@ -20,7 +20,8 @@ use Rattle.ticks.specs.Operations.{merge, covers}
 use Rattle.ticks.proofs.Operations.{known-merge}
 use Rattle.ticks.proofs.Algebra.{contains-exact}
 use Rattle.ticks.proofs.Search.{covers-exact}
-use Rattle.replication.specs.Formats.{Rec, Store, encodeStore, Batch, find}
+use Rattle.replication.specs.Formats.{Store, encodeStore, Batch, find}
+use Rattle.replication.specs.Valid.{LawfulStore}
 use Rattle.replication.specs.Reading.{both}
 use Rattle.replication.specs.OpenBatch.{inSpan, lacksChange}
 use Rattle.replication.specs.Operate.{join, applied}
@@ -31,12 +32,14 @@ use Rattle.replication.proofs.MachineGreatest.{greater, greatest-equal,
 use Rattle.replication.proofs.MachineSteps.{with-same, with-other, learns-below, learns-above, learns-inside}
 use Rattle.replication.proofs.MachineLaws.{Good}
 use Rattle.replication.proofs.Tables.{in-span, both-holds}
-use Rattle.replication.proofs.TablesJoin.{joined, joined-left, joined-right, joined-both, join-rising, find-join}
+use Rattle.replication.proofs.TablesJoin.{joined, joined-left, joined-right, joined-both, find-join}
 use Rattle.replication.proofs.TablesSelected.{kept, kept-none, kept-in, kept-out}
-use Rattle.replication.proofs.AgreeLines.{Room, ApplyMet}
-use Rattle.replication.proofs.AgreeForm.{merge-form}
+use Rattle.replication.proofs.AgreeLines.{ApplyMet}
+use Rattle.replication.proofs.ContentsApply.{applied-lawful}
 use Rattle.replication.proofs.AgreeInvariant.{StoreFollows, BatchFollows, stored, Paired, Follows}
-use Rattle.replication.proofs.AgreeEdit.{put-same, put-other, same?, store-moved}
+use Rattle.replication.proofs.AgreeEdit.{put-same, put-other, store-moved}
+use Rattle.replication.proofs.Arguments.{same?}
+use Rattle.replication.specs.Record.{Rec}
 
 -- ---- inside the span or not
 
@@ -71,10 +74,10 @@ module _ (L : Limits) (s t bs : List ℕ) (vs : List Rec) (k : Ticks) (p : ℕ) 
             rw (f .ticks i q h, g .inside i q a c)
             (sym (learns-inside b k i q (omega (arith, g .first, a)) (omega (arith, g .last, c))))
         | below a ↦
-            rw (f .ticks i q h, g .outside i q h (inl a))
+            rw (f .ticks i q h, g .valid .outside i q h (inl a))
             (omega (arith, learns-below b k i q (omega (arith, g .first, a))))
         | above a ↦
-            rw (f .ticks i q h, g .outside i q h (inr a))
+            rw (f .ticks i q h, g .valid .outside i q h (inr a))
             (omega (arith, learns-above b k i q (omega (arith, g .last, a))))
       ]
 
@@ -138,7 +141,7 @@ module _ (L : Limits) (s t bs : List ℕ) (vs : List Rec) (k : Ticks) (p : ℕ) 
 
   new-records : (i : ℕ) → find i (join (f .st .records) (g .b .records)) ≡ greatest vs (learns b k) i
   new-records i =
-      find-join 0 i (f .st .records) (g .b .records) (f .rising) (g .rising)
+      find-join 0 i (f .st .records) (g .b .records) (f .valid .rising) (g .valid .rising)
       ∙ (ap (λ (o : Option Rec). joined o (find i (g .b .records))) (f .records i)
       ∙ (ap (λ (o : Option Rec). joined (greatest vs k i) o) (g .records i)
       ∙ elim (whereIs (g .b .first) (g .b .last) i) [
@@ -147,17 +150,15 @@ module _ (L : Limits) (s t bs : List ℕ) (vs : List Rec) (k : Ticks) (p : ℕ) 
         | above a ↦ still i (λ u v. omega arith) (λ q. learns-above b k i q (omega (arith, g .last, a)))
       ]))
 
-  pub applied-follows : Room L (applied (f .st) (g .b)) → bs ≡ encodeStore (applied (f .st) (g .b)) → StoreFollows L bs vs (learns b k) p
+  pub applied-follows : LawfulStore L (applied (f .st) (g .b)) → bs ≡ encodeStore (applied (f .st) (g .b)) → StoreFollows L bs vs (learns b k) p
   unfolding applied
-  applied-follows room bytes =
+  applied-follows valid bytes =
       record {
         st = applied (f .st) (g .b);
         bytes = bytes;
+        valid = valid;
         own = f .own;
-        form = merge-form L (f .st .knowledge) (g .b .learned) (f .form) (g .learned) (room .knowledge);
-        count = room .records;
         ticks = new-ticks;
-        rising = join-rising 0 (f .st .records) (g .b .records) (f .rising) (g .rising);
         records = new-records;
       }
 
@@ -169,7 +170,7 @@ module _ (L : Limits) (w : World) (m : State) (f : Follows L w m) (who : ℕ) (s
   apply-follows good h =
       record {
         good = good;
-        proper = f .proper;
+        items = f .items;
         stores = λ q l. ⊎-elim (λ (e : q ≡ who). taker q e) (λ (n : q ≡ who → ⊥). other q l n) (same? q who);
         batches = f .batches;
       }
@@ -183,7 +184,8 @@ module _ (L : Limits) (w : World) (m : State) (f : Follows L w m) (who : ℕ) (s
           (subst (λ (s : List ℕ). StoreFollows L s (m .versions) (after who) who) (sym (put-same who who bs (w .stores) refl))
           (store-moved L bs (m .versions) (learns b (m .ticks who)) (after who) who
           (λ i p. ap (λ (k : Ticks). k i p) (sym (with-same who who (learns b (m .ticks who)) (m .ticks) refl)))
-          (applied-follows L (w .stores who) t bs (m .versions) (m .ticks who) who b (f .stores who small) g (f .good .apart) (h .covered) (h .room) (h .bytes))))
+          (applied-follows L (w .stores who) t bs (m .versions) (m .ticks who) who b (f .stores who small) g (f .good .apart) (h .covered)
+          (applied-lawful L (f .stores who small .st) (g .b) (f .stores who small .valid) (g .valid) (h .behind) (h .room)) (h .bytes))))
 
       other : (q : ℕ) → q < 256 ^ 16 → (q ≡ who → ⊥) → StoreFollows L (putAt who bs (w .stores) q) (m .versions) (after q) q
       other q l n =

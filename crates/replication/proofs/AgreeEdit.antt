@@ -14,24 +14,25 @@ use lib.ListN.{length}
 use borrow.Author.Tests.{eq-eqb, ne-eqb, eqb-true, eqb-false, ltb-true, ltb-false}
 use Rattle.layout.specs.Knowledge.{Limits, anyId, largestTick, Knowledge, Rising}
 use Rattle.layout.specs.Permitted.{Permitted}
-use Rattle.ticks.specs.Meaning.{highest, known}
+use Rattle.ticks.specs.Meaning.{highest, known, Normal}
 use Rattle.ticks.specs.Operations.{raise, largest}
 use Rattle.ticks.proofs.Unique.{normal-sound}
 use Rattle.ticks.proofs.Operations.{known-raise-own, known-raise-other}
 use Rattle.ticks.proofs.Largest.{largest-bounds, largest-attained}
 use Rattle.ticks.proofs.LawfulResults.{top-below, below-top}
-use Rattle.replication.specs.Formats.{Rec, Store, encodeStore, items, find}
+use Rattle.replication.specs.Record.{Content, Rec}
+use Rattle.replication.specs.Valid.{LawfulStore}
+use Rattle.replication.specs.Formats.{Store, encodeStore, find}
 use Rattle.replication.specs.Operate.{replace, nextTick, changedRec, changed}
 use Rattle.replication.specs.Machine.{Ticks, Remembered, State, holds, greatest, largestKnown, recordOf, withTicks, ownTick, changes}
 use Rattle.replication.specs.Lists.{World, putAt}
 use Rattle.replication.proofs.Best.{Mem, mem-added, Contained, holds-contained, contained-holds, not-holds}
 use Rattle.replication.proofs.MachineGreatest.{greatest-alike, holds-alike, greatest-equal, greatest-added-lacks, greatest-added-other, greatest-added-above}
 use Rattle.replication.proofs.Supremum.{largest-known-bounds, largest-known-is}
-use Rattle.replication.proofs.Tables.{replace-rising, find-replace-same, find-replace-other}
+use Rattle.replication.proofs.Tables.{find-replace-same, find-replace-other}
 use Rattle.replication.proofs.TablesSelected.{kept}
-use Rattle.replication.proofs.AgreeLines.{Room}
-use Rattle.replication.proofs.AgreeForm.{Form, raise-form}
-use Rattle.replication.proofs.AgreeInvariant.{Proper, StoreFollows, BatchFollows, stored, Paired, Follows}
+use Rattle.replication.proofs.Arguments.{same?}
+use Rattle.replication.proofs.AgreeInvariant.{StoreFollows, BatchFollows, stored, Paired, Follows}
 use Rattle.replication.proofs.MachineSteps.{own-same, own-other, with-same, with-other}
 use Rattle.replication.proofs.MachineLaws.{Good}
 
@@ -45,35 +46,21 @@ pub put-other : (p q : ℕ) (x : List ℕ) (f : ℕ → List ℕ) → (q ≡ p �
 unfolding putAt
 put-other p q x f n = rw (ne-eqb q p n, putAt)
 
-pub same? : (p q : ℕ) → (p ≡ q) ⊎ (p ≡ q → ⊥)
-same? p q = go (eqb p q) refl
-  where
-    go : (t : Bool) → eqb p q ≡ t → (p ≡ q) ⊎ (p ≡ q → ⊥)
-    go true e = inl (eqb-true p q e)
-    go false e = inr (eqb-false p q e)
-
 -- the store's new record is the machine's
-changed-record : (kind item who t tag : ℕ) (o : Option Rec) → changedRec kind item who t tag o ≡ recordOf kind item who t tag o
+changed-record : (content : Content) (item who t : ℕ) (o : Option Rec) → changedRec content item who t o ≡ recordOf content item who t o
 unfolding changedRec recordOf
-changed-record kind item who t tag none = refl
-changed-record kind item who t tag (some r) = refl
+changed-record content item who t none = refl
+changed-record content item who t (some r) = refl
 
 record Stamped (i who t : ℕ) (r : Rec) : Type 0 where
   pub item : r .item ≡ i
   pub replica : r .changeReplica ≡ who
   pub tick : r .changeTick ≡ t
 
-stamped : (kind item who t tag : ℕ) (o : Option Rec) → Stamped item who t (recordOf kind item who t tag o)
+stamped : (content : Content) (item who t : ℕ) (o : Option Rec) → Stamped item who t (recordOf content item who t o)
 unfolding recordOf
-stamped kind item who t tag none = record { item = refl; replica = refl; tick = refl }
-stamped kind item who t tag (some r) = record { item = refl; replica = refl; tick = refl }
-
-record-proper : (kind item who t tag : ℕ) (o : Option Rec) → (kind ≡ 1) ⊎ (kind ≡ 2) → item ≤ highest → tag < 256 ^ 16 → (kind ≡ 2 → tag ≡ 0) → t ≤ largestTick → Proper (recordOf kind item who t tag o)
-unfolding recordOf
-record-proper kind item who t tag none k i g b l =
-    record { kind = k; item = i; tag = g; bare = b; tick = l }
-record-proper kind item who t tag (some r) k i g b l =
-    record { kind = k; item = i; tag = g; bare = b; tick = l }
+stamped content item who t none = record { item = refl; replica = refl; tick = refl }
+stamped content item who t (some r) = record { item = refl; replica = refl; tick = refl }
 
 -- ---- ticks that stay while a version is made that they do not contain
 
@@ -82,11 +69,9 @@ store-later L s vs k p v h f =
     record {
       st = f .st;
       bytes = f .bytes;
+      valid = f .valid;
       own = f .own;
-      form = f .form;
-      count = f .count;
       ticks = f .ticks;
-      rising = f .rising;
       records = λ i. f .records i ∙ sym (greatest-added-lacks vs v k i h);
     }
 
@@ -96,11 +81,9 @@ store-moved L s vs k l p e f =
     record {
       st = f .st;
       bytes = f .bytes;
+      valid = f .valid;
       own = f .own;
-      form = f .form;
-      count = f .count;
       ticks = λ i q h. f .ticks i q h ∙ e i q;
-      rising = f .rising;
       records = λ i. f .records i ∙ greatest-equal vs k l i (λ q. e i q);
     }
 
@@ -109,16 +92,11 @@ batch-later L s vs m v h f =
     record {
       b = f .b;
       bytes = f .bytes;
+      valid = f .valid;
       first = f .first;
       last = f .last;
-      span = f .span;
       top = f .top;
-      needed = f .needed;
-      learned = f .learned;
       inside = f .inside;
-      outside = f .outside;
-      count = f .count;
-      rising = f .rising;
       records =
           λ i. f .records i ∙ ap (kept (f .b .first) (f .b .last) (f .b .needed)) (sym (greatest-added-lacks vs v (m .ticks) i h));
     }
@@ -132,11 +110,11 @@ paired-later L vs v (s ∷ ss) (m ∷ ms) h p =
 
 -- ---- the largest tick
 
-pub largest-same : (L : Limits) (kn : Knowledge) (k : Ticks) → Form L kn → ((i q : ℕ) → i ≤ highest → known kn i q ≡ k i q) → ((i q : ℕ) → 256 ^ 16 ≤ q → k i q ≡ 0) → largestKnown k ≡ largest kn
-largest-same L kn k f same zero-out =
+pub largest-same : (kn : Knowledge) (k : Ticks) → Normal kn → ((i q : ℕ) → i ≤ highest → known kn i q ≡ k i q) → ((i q : ℕ) → 256 ^ 16 ≤ q → k i q ≡ 0) → largestKnown k ≡ largest kn
+largest-same kn k f same zero-out =
     largest-known-is k (largest kn)
     (λ i p a b. rw (← same i p (below-top i a)) (largest-bounds kn i p))
-    (⊎-elim (λ e. inl e) (λ z. near (z .0) (z .1 .0) (z .1 .1 .0) (z .1 .1 .1)) (largest-attained kn (normal-sound kn (f .normal))))
+    (⊎-elim (λ e. inl e) (λ z. near (z .0) (z .1 .0) (z .1 .1 .0) (z .1 .1 .1)) (largest-attained kn (normal-sound kn f)))
   where
     near : (i p : ℕ) → i ≤ highest → known kn i p ≡ largest kn → (largest kn ≡ 0) ⊎ ((i : ℕ) × (p : ℕ) × (i < 256 ^ 24) × (p < 256 ^ 16) × (k i p ≡ largest kn))
     near i p h e = go (ltb p (256 ^ 16)) refl
@@ -184,28 +162,24 @@ module _ (vs : List Rec) (k : Ticks) (who t : ℕ) (h : Before vs k who t) where
 
 -- ---- the maker's store
 
-module _ (L : Limits) (s bs : List ℕ) (vs : List Rec) (k : Ticks) (kind who item tag t : ℕ) (f : StoreFollows L s vs k who) (small : who < 256 ^ 16) (h : Before vs k who t) (next : nextTick (f .st) ≡ t) (top : t ≤ largestTick) (one : 1 ≤ t) where
-  new-version : changedRec kind item (f .st .own) (nextTick (f .st)) tag (find item (f .st .records)) ≡ recordOf kind item who t tag (greatest vs k item)
+module _ (L : Limits) (s bs : List ℕ) (vs : List Rec) (k : Ticks) (content : Content) (who item t : ℕ) (f : StoreFollows L s vs k who) (h : Before vs k who t) (next : nextTick (f .st) ≡ t) (one : 1 ≤ t) where
+  new-version : changedRec content item (f .st .own) (nextTick (f .st)) (find item (f .st .records)) ≡ recordOf content item who t (greatest vs k item)
   new-version =
-      ap (λ (p : ℕ). changedRec kind item p (nextTick (f .st)) tag (find item (f .st .records))) (f .own)
-      ∙ ap (λ (n : ℕ). changedRec kind item who n tag (find item (f .st .records))) next
-      ∙ ap (λ (o : Option Rec). changedRec kind item who t tag o) (f .records item)
-      ∙ changed-record kind item who t tag (greatest vs k item)
+      ap (λ (p : ℕ). changedRec content item p (nextTick (f .st)) (find item (f .st .records))) (f .own)
+      ∙ ap (λ (n : ℕ). changedRec content item who n (find item (f .st .records))) next
+      ∙ ap (λ (o : Option Rec). changedRec content item who t o) (f .records item)
+      ∙ changed-record content item who t (greatest vs k item)
 
-  pub changed-follows : Room L (changed kind item tag (f .st)) → bs ≡ encodeStore (changed kind item tag (f .st)) → StoreFollows L bs (vs ++ (recordOf kind item who t tag (greatest vs k item) ∷ [])) (ownTick who t k) who
+  pub changed-follows : LawfulStore L (changed content item (f .st)) → bs ≡ encodeStore (changed content item (f .st)) → StoreFollows L bs (vs ++ (recordOf content item who t (greatest vs k item) ∷ [])) (ownTick who t k) who
   unfolding changed
-  changed-follows room bytes =
+  changed-follows valid bytes =
       record {
-        st = changed kind item tag (f .st);
+        st = changed content item (f .st);
         bytes = bytes;
+        valid = valid;
         own = f .own;
-        form =
-            raise-form L (f .st .own) (nextTick (f .st)) (f .st .knowledge) (f .form)
-            (record { size = rw (f .own) small; acceptable = refl }) (rw next top) (room .knowledge);
-        count = room .records;
         ticks = new-ticks;
-        rising = replace-rising (changedRec kind item (f .st .own) (nextTick (f .st)) tag (find item (f .st .records))) 0 (f .st .records) (omega arith) (f .rising);
-        records = λ i. rw new-version (new-records i (recordOf kind item who t tag (greatest vs k item)) (stamped kind item who t tag (greatest vs k item)));
+        records = λ i. rw new-version (new-records i (recordOf content item who t (greatest vs k item)) (stamped content item who t (greatest vs k item)));
       }
     where
       new-ticks : (i q : ℕ) → i ≤ highest → known (raise (f .st .own) (nextTick (f .st)) (f .st .knowledge)) i q ≡ ownTick who t k i q
@@ -223,14 +197,14 @@ module _ (L : Limits) (s bs : List ℕ) (vs : List Rec) (k : Ticks) (kind who it
           ⊎-elim
           (λ (e : v .item ≡ i).
           rw (← e)
-          (find-replace-same v 0 (f .st .records) (f .rising) ∙ sym (greatest-new vs k who t h v (v .item) refl (d .replica) (d .tick) one)))
+          (find-replace-same v 0 (f .st .records) (f .valid .rising) ∙ sym (greatest-new vs k who t h v (v .item) refl (d .replica) (d .tick) one)))
           (λ (n : v .item ≡ i → ⊥).
-          find-replace-other v i 0 (f .st .records) (f .rising) (λ e. n (sym e)) ∙ f .records i ∙ sym (greatest-old vs k who t h v i n))
+          find-replace-other v i 0 (f .st .records) (f .valid .rising) (λ e. n (sym e)) ∙ f .records i ∙ sym (greatest-old vs k who t h v i n))
           (same? (v .item) i)
 
 -- ---- the whole step
 
-module _ (m : State) (good : Good m) (proper : (r : Rec) → Mem r (m .versions) → Proper r) (who : ℕ) (small : who < 256 ^ 16) where
+module _ (m : State) (good : Good m) (items : (r : Rec) → Mem r (m .versions) → r .item ≤ highest) (who : ℕ) (small : who < 256 ^ 16) where
   own-below : (j : ℕ) → m .ticks who j who < 1 + largestKnown (m .ticks who)
   own-below j =
       omega (arith, good .replicas who who j 0, largest-known-bounds (m .ticks who) 0 who (top-below 0 (omega arith)) small)
@@ -242,7 +216,7 @@ module _ (m : State) (good : Good m) (proper : (r : Rec) → Mem r (m .versions)
             λ r l h. omega (
               arith,
               h,
-              largest-known-bounds (m .ticks who) (r .item) (r .changeReplica) (top-below (r .item) (proper r l .item)) (good .made r l .replica),
+              largest-known-bounds (m .ticks who) (r .item) (r .changeReplica) (top-below (r .item) (items r l)) (good .made r l .replica),
             );
         maker = λ r l e. (good .made r l .tick, subst (λ p. r .changeTick ≤ m .ticks p (r .item) (r .changeReplica)) (sym e) (good .made r l .within (r .item)));
       }
@@ -255,41 +229,31 @@ module _ (m : State) (good : Good m) (proper : (r : Rec) → Mem r (m .versions)
       let l : k (v .item) (v .changeReplica) ≤ m .ticks who 0 who = subst (λ p. k (v .item) (v .changeReplica) ≤ m .ticks p 0 p) a (h (v .item) (v .changeReplica) 0) in
       omega (arith, c .1, b, l, own-below 0))
 
-module _ (L : Limits) (w : World) (m : State) (f : Follows L w m) (kind who item tag : ℕ) (small : who < 256 ^ 16) where
+module _ (L : Limits) (w : World) (m : State) (f : Follows L w m) (content : Content) (who item : ℕ) (small : who < 256 ^ 16) where
   next-tick : nextTick (f .stores who small .st) ≡ 1 + largestKnown (m .ticks who)
   unfolding nextTick
   next-tick =
       let s = f .stores who small in
-      ap (λ (n : ℕ). 1 + n) (sym (largest-same L (s .st .knowledge) (m .ticks who) (s .form) (s .ticks) (λ i q h. f .good .strangers who i q h)))
+      ap (λ (n : ℕ). 1 + n) (sym (largest-same (s .st .knowledge) (m .ticks who) (s .valid .normal) (s .ticks) (λ i q h. f .good .strangers who i q h)))
 
-  pub change-follows : (bs : List ℕ) → Good (changes kind who item tag m) → (kind ≡ 1) ⊎ (kind ≡ 2) → item ≤ highest → tag < 256 ^ 16 → (kind ≡ 2 → tag ≡ 0) → largest (f .stores who small .st .knowledge) < largestTick → Room L (changed kind item tag (f .stores who small .st)) → bs ≡ encodeStore (changed kind item tag (f .stores who small .st)) → Follows L (stored who bs w) (changes kind who item tag m)
+  pub change-follows : (bs : List ℕ) → Good (changes content who item m) → item ≤ highest → LawfulStore L (changed content item (f .stores who small .st)) → bs ≡ encodeStore (changed content item (f .stores who small .st)) → Follows L (stored who bs w) (changes content who item m)
   unfolding stored changes
-  change-follows bs good kinds top16 tag16 bare below room bytes =
+  change-follows bs good top valid bytes =
       record {
         good = good;
-        proper = λ r l. ⊎-elim (λ (o : Mem r (m .versions)). f .proper r o) (λ (e : r ≡ new). rw e new-proper) (mem-added r new (m .versions) l);
+        items = λ r l. ⊎-elim (λ (o : Mem r (m .versions)). f .items r o) (λ (e : r ≡ new). subst (λ (x : Rec). x .item ≤ highest) (sym e) (omega (arith, stamp .item, top))) (mem-added r new (m .versions) l);
         stores = λ q l. ⊎-elim (λ (e : q ≡ who). maker q e) (λ (n : q ≡ who → ⊥). other q l n) (same? q who);
         batches =
             paired-later L (m .versions) new (w .batches) (m .batches)
-            (λ b l. new-lacked m (f .good) (f .proper) who small new (b .ticks) (stamp .replica) (stamp .tick) (λ i p j. f .good .remembered b l p i j))
+            (λ b l. new-lacked m (f .good) (f .items) who small new (b .ticks) (stamp .replica) (stamp .tick) (λ i p j. f .good .remembered b l p i j))
             (f .batches);
       }
     where
-      next-is : largestKnown (m .ticks who) ≡ largest (f .stores who small .st .knowledge)
-      next-is =
-          let s = f .stores who small in
-          largest-same L (s .st .knowledge) (m .ticks who) (s .form) (s .ticks) (λ i q h. f .good .strangers who i q h)
-
       new : Rec
-      new = recordOf kind item who (1 + largestKnown (m .ticks who)) tag (greatest (m .versions) (m .ticks who) item)
+      new = recordOf content item who (1 + largestKnown (m .ticks who)) (greatest (m .versions) (m .ticks who) item)
 
       stamp : Stamped item who (1 + largestKnown (m .ticks who)) new
-      stamp = stamped kind item who (1 + largestKnown (m .ticks who)) tag (greatest (m .versions) (m .ticks who) item)
-
-      new-proper : Proper new
-      new-proper =
-          record-proper kind item who (1 + largestKnown (m .ticks who)) tag (greatest (m .versions) (m .ticks who) item) kinds top16 tag16 bare
-          (omega (arith, next-is, below))
+      stamp = stamped content item who (1 + largestKnown (m .ticks who)) (greatest (m .versions) (m .ticks who) item)
 
       after : ℕ → Ticks
       after q = withTicks who (ownTick who (1 + largestKnown (m .ticks who)) (m .ticks who)) (m .ticks) q
@@ -300,8 +264,8 @@ module _ (L : Limits) (w : World) (m : State) (f : Follows L w m) (kind who item
           (subst (λ (s : List ℕ). StoreFollows L s (m .versions ++ (new ∷ [])) (after who) who) (sym (put-same who who bs (w .stores) refl))
           (store-moved L bs (m .versions ++ (new ∷ [])) (ownTick who (1 + largestKnown (m .ticks who)) (m .ticks who)) (after who) who
           (λ i p. ap (λ (k : Ticks). k i p) (sym (with-same who who (ownTick who (1 + largestKnown (m .ticks who)) (m .ticks who)) (m .ticks) refl)))
-          (changed-follows L (w .stores who) bs (m .versions) (m .ticks who) kind who item tag (1 + largestKnown (m .ticks who)) (f .stores who small) small
-          (before m (f .good) (f .proper) who small) next-tick (omega (arith, next-is, below)) (omega arith) room bytes)))
+          (changed-follows L (w .stores who) bs (m .versions) (m .ticks who) content who item (1 + largestKnown (m .ticks who)) (f .stores who small)
+          (before m (f .good) (f .items) who small) next-tick (omega arith) valid bytes)))
 
       other : (q : ℕ) → q < 256 ^ 16 → (q ≡ who → ⊥) → StoreFollows L (putAt who bs (w .stores) q) (m .versions ++ (new ∷ [])) (after q) q
       other q l n =
@@ -309,5 +273,5 @@ module _ (L : Limits) (w : World) (m : State) (f : Follows L w m) (kind who item
           (store-moved L (w .stores q) (m .versions ++ (new ∷ [])) (m .ticks q) (after q) q
           (λ i p. ap (λ (k : Ticks). k i p) (sym (with-other who q (ownTick who (1 + largestKnown (m .ticks who)) (m .ticks who)) (m .ticks) (λ e. n (sym e)))))
           (store-later L (w .stores q) (m .versions) (m .ticks q) q new
-          (new-lacked m (f .good) (f .proper) who small new (m .ticks q) (stamp .replica) (stamp .tick) (λ i p j. f .good .replicas q p i j))
+          (new-lacked m (f .good) (f .items) who small new (m .ticks q) (stamp .replica) (stamp .tick) (λ i p j. f .good .replicas q p i j))
           (f .stores q l)))

@@ -9,7 +9,7 @@ use mathlib.Core.Option.{Option, none, some}
 use native.Mathlib.Omega.{arith}
 use lib.Dec.{leb, ltb, eqb}
 use lib.ListN.{length}
-use borrow.Author.Tests.{leb-true, leb-false, ltb-true, ltb-false, eqb-true, not-false}
+use borrow.Author.Tests.{leb-true, leb-false, ltb-true, ltb-false, eqb-true, not-false, le-leb}
 use Rattle.codec.specs.Reply.{Reply, gives, refuses, Line, firstFault}
 use Rattle.codec.proofs.Replies.{None, fault-gives}
 use Rattle.layout.specs.Knowledge.{Limits, Rules, largestTick, Knowledge, anyId}
@@ -19,13 +19,15 @@ use Rattle.ticks.specs.Operations.{covers, coversFor, largest, tooManyReplicas,
 use Rattle.ticks.specs.Calls.{line, idOf, readAs, ownFault, wrongLength, wrongSpan, resultLines, readOr}
 use Rattle.ticks.proofs.ForCalls.{or-false, length-right, span-right, Within, within-lines}
 use Rattle.codec.proofs.Replies.{read-accepted, fault-refused}
-use Rattle.replication.specs.Formats.{Rec, Store, encodeStore, Batch, encodeBatch, find}
-use Rattle.replication.specs.Reading.{live, tombstone}
+use Rattle.replication.specs.Formats.{Store, encodeStore, Batch, encodeBatch, find}
 use Rattle.replication.specs.Operate.{changed, made, applied}
 use Rattle.replication.specs.OpenStore.{openStore}
 use Rattle.replication.specs.OpenBatch.{openBatch}
-use Rattle.replication.specs.Calls.{then, storeOr, batchOr, uncovered, ownAhead, gone, exhausted, tooManyRecords, storeLines, editLines, edited, editReply, deleteLines, deleted, deleteReply, makeLines, makes, makeReply, applyLines, applyReply}
+use Rattle.replication.specs.Calls.{then, storeOr, batchOr, uncovered, ownAhead, gone, exhausted, tooManyRecords, storeLines, editLines, edited, editReply, deleteLines, deleted, deleteReply, makeLines, makes, makeReply, applyLines, applyReply, tombstone, wrongBrought, liveContent}
 use Rattle.replication.specs.Lists.{outcome}
+use Rattle.replication.specs.Record.{Rec}
+use Rattle.replication.specs.Call.{Brought}
+use Rattle.replication.specs.Valid.{RightBrought}
 
 -- ---- the buffer
 
@@ -44,6 +46,11 @@ outcome-gives (gives cs) room bs e = by-case (leb (length cs) room) refl
         let f : outcome (gives cs) room ≡ none = rw (h, outcome) in
         let z : _≡_ {A = ℕ} 0 1 = cc in
         absurd (omega arith)
+
+-- a reply that gives bytes writes them where there is room
+pub gives-outcome : (r : Reply) (bs : List ℕ) → r ≡ gives bs → outcome r (length bs) ≡ some bs
+unfolding outcome
+gives-outcome r bs e = rw e (rw (le-leb (length bs) (length bs) (omega arith), outcome))
 
 -- bytes that come out of a table: no line holds, and they are the bytes behind it
 pub outcome-lines : (ls : List Line) (cs bs : List ℕ) (room : ℕ) → outcome (firstFault refuses ls (gives cs)) room ≡ some bs → None ls × (cs ≡ bs)
@@ -77,30 +84,30 @@ exhausted-below st h = leb-false largestTick (largest (st .knowledge)) h
 
 -- ---- edit
 
-pub record EditMet (L : Limits) (st : Store) (item tag bs : List ℕ) : Type 0 where
+pub record EditMet (L : Limits) (st : Store) (item : List ℕ) (b : Brought) (bs : List ℕ) : Type 0 where
   pub item24 : length item ≡ 24
-  pub tag16 : length tag ≡ 16
+  pub brought : RightBrought b
   pub below : largest (st .knowledge) < largestTick
-  pub room : Room L (changed live (idOf 24 item) (idOf 16 tag) st)
-  pub bytes : bs ≡ encodeStore (changed live (idOf 24 item) (idOf 16 tag) st)
+  pub room : Room L (changed (liveContent b) (idOf 24 item) st)
+  pub bytes : bs ≡ encodeStore (changed (liveContent b) (idOf 24 item) st)
 
-pub edit-reply : (L : Limits) (s item tag : List ℕ) (st : Store) → openStore L s ≡ accepted st → editReply L s item tag ≡ firstFault refuses (editLines L (accepted st) item tag (changed live (idOf 24 item) (idOf 16 tag) st)) (gives (encodeStore (changed live (idOf 24 item) (idOf 16 tag) st)))
+pub edit-reply : (L : Limits) (s item : List ℕ) (b : Brought) (st : Store) → openStore L s ≡ accepted st → editReply L s item b ≡ firstFault refuses (editLines L (accepted st) item b (changed (liveContent b) (idOf 24 item) st)) (gives (encodeStore (changed (liveContent b) (idOf 24 item) st)))
 unfolding editReply edited readOr ownFault
-edit-reply L s item tag st e =
-    ap (λ (o : Parsed Store). firstFault refuses (editLines L o item tag (edited o item tag)) (gives (encodeStore (edited o item tag)))) e
+edit-reply L s item b st e =
+    ap (λ (o : Parsed Store). firstFault refuses (editLines L o item b (edited o item b)) (gives (encodeStore (edited o item b)))) e
 
-edit-lines : (L : Limits) (st : Store) (item tag bs : List ℕ) (result : Store) → None (editLines L (accepted st) item tag result) → (length item ≡ 24) × ((length tag ≡ 16) × ((largest (st .knowledge) < largestTick) × Room L result))
-unfolding editLines readOr ownFault
-edit-lines L st item tag bs result h =
-    let w = or-false (wrongLength 24 item) (wrongLength 16 tag) (h .1 .0) in
-    (length-right 24 item (w .0), (length-right 16 tag (w .1), (exhausted-below st (h .1 .1 .0), room-lines L result (h .1 .1 .1))))
+edit-lines : (L : Limits) (st : Store) (item : List ℕ) (b : Brought) (bs : List ℕ) (result : Store) → None (editLines L (accepted st) item b result) → (length item ≡ 24) × (RightBrought b × ((largest (st .knowledge) < largestTick) × Room L result))
+unfolding editLines wrongBrought readOr ownFault
+edit-lines L st item b bs result h =
+    let w = or-false (wrongLength 24 item) (wrongBrought b) (h .1 .0) in
+    (length-right 24 item (w .0), (record { tag = length-right 16 (b .tag) (w .1) }, (exhausted-below st (h .1 .1 .0), room-lines L result (h .1 .1 .1))))
 
-pub edit-met : (L : Limits) (s item tag : List ℕ) (st : Store) (room : ℕ) (bs : List ℕ) → openStore L s ≡ accepted st → outcome (editReply L s item tag) room ≡ some bs → EditMet L st item tag bs
-edit-met L s item tag st room bs o e =
-    let result = changed live (idOf 24 item) (idOf 16 tag) st in
-    let m = outcome-lines (editLines L (accepted st) item tag result) (encodeStore result) bs room (ap (λ (r : Reply). outcome r room) (sym (edit-reply L s item tag st o)) ∙ e) in
-    let l = edit-lines L st item tag bs result (m .0) in
-    record { item24 = l .0; tag16 = l .1 .0; below = l .1 .1 .0; room = l .1 .1 .1; bytes = sym (m .1) }
+pub edit-met : (L : Limits) (s item : List ℕ) (b : Brought) (st : Store) (room : ℕ) (bs : List ℕ) → openStore L s ≡ accepted st → outcome (editReply L s item b) room ≡ some bs → EditMet L st item b bs
+edit-met L s item b st room bs o e =
+    let result = changed (liveContent b) (idOf 24 item) st in
+    let m = outcome-lines (editLines L (accepted st) item b result) (encodeStore result) bs room (ap (λ (r : Reply). outcome r room) (sym (edit-reply L s item b st o)) ∙ e) in
+    let l = edit-lines L st item b bs result (m .0) in
+    record { item24 = l .0; brought = l .1 .0; below = l .1 .1 .0; room = l .1 .1 .1; bytes = sym (m .1) }
 
 -- ---- delete
 
@@ -108,10 +115,10 @@ pub record DeleteMet (L : Limits) (st : Store) (item bs : List ℕ) : Type 0 whe
   pub item24 : length item ≡ 24
   pub there : gone (find (idOf 24 item) (st .records)) ≡ false
   pub below : largest (st .knowledge) < largestTick
-  pub room : Room L (changed tombstone (idOf 24 item) 0 st)
-  pub bytes : bs ≡ encodeStore (changed tombstone (idOf 24 item) 0 st)
+  pub room : Room L (changed tombstone (idOf 24 item) st)
+  pub bytes : bs ≡ encodeStore (changed tombstone (idOf 24 item) st)
 
-pub delete-reply : (L : Limits) (s item : List ℕ) (st : Store) → openStore L s ≡ accepted st → deleteReply L s item ≡ firstFault refuses (deleteLines L (accepted st) item (changed tombstone (idOf 24 item) 0 st)) (gives (encodeStore (changed tombstone (idOf 24 item) 0 st)))
+pub delete-reply : (L : Limits) (s item : List ℕ) (st : Store) → openStore L s ≡ accepted st → deleteReply L s item ≡ firstFault refuses (deleteLines L (accepted st) item (changed tombstone (idOf 24 item) st)) (gives (encodeStore (changed tombstone (idOf 24 item) st)))
 unfolding deleteReply deleted readOr ownFault
 delete-reply L s item st e =
     ap (λ (o : Parsed Store). firstFault refuses (deleteLines L o item (deleted o item)) (gives (encodeStore (deleted o item)))) e
@@ -123,7 +130,7 @@ delete-lines L st item result h =
 
 pub delete-met : (L : Limits) (s item : List ℕ) (st : Store) (room : ℕ) (bs : List ℕ) → openStore L s ≡ accepted st → outcome (deleteReply L s item) room ≡ some bs → DeleteMet L st item bs
 delete-met L s item st room bs o e =
-    let result = changed tombstone (idOf 24 item) 0 st in
+    let result = changed tombstone (idOf 24 item) st in
     let m = outcome-lines (deleteLines L (accepted st) item result) (encodeStore result) bs room (ap (λ (r : Reply). outcome r room) (sym (delete-reply L s item st o)) ∙ e) in
     let l = delete-lines L st item result (m .0) in
     record { item24 = l .0; there = l .1 .0; below = l .1 .1 .0; room = l .1 .1 .1; bytes = sym (m .1) }

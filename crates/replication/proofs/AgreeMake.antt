@@ -20,23 +20,18 @@ use Rattle.ticks.specs.Calls.{idOf}
 use Rattle.ticks.proofs.Operations.{known-project-inside, known-project-below, known-project-above}
 use Rattle.ticks.proofs.LawfulResults.{below-top}
 use Rattle.ticks.proofs.ForCalls.{id-is, Within}
-use Rattle.replication.specs.Formats.{Rec, Store, Batch, encodeBatch, find}
+use Rattle.replication.specs.Formats.{Store, Batch, encodeBatch, find}
 use Rattle.replication.specs.Operate.{selected, made}
 use Rattle.replication.specs.Machine.{Ticks, Remembered, State, value, greatest, acts}
-use Rattle.replication.specs.Lists.{Call, make, World, keep}
-use Rattle.replication.proofs.Supremum.{value-be}
-use Rattle.replication.proofs.TablesSelected.{kept, selected-rising, find-selected}
+use Rattle.replication.specs.Lists.{World, keep}
+use Rattle.replication.proofs.Arguments.{id-value, id-below}
+use Rattle.replication.proofs.TablesSelected.{kept, find-selected}
 use Rattle.replication.proofs.AgreeLines.{MakeMet}
-use Rattle.replication.proofs.AgreeForm.{lawful-any, project-form, normalise-form}
+use Rattle.replication.proofs.ContentsMake.{made-lawful}
 use Rattle.replication.proofs.AgreeInvariant.{StoreFollows, BatchFollows, Paired, Follows}
 use Rattle.replication.proofs.MachineLaws.{Good}
-
--- an id as a number, in the calls and in the machine
-pub id-value : (n : ℕ) (s : List ℕ) → length s ≡ n → idOf n s ≡ value 0 s
-id-value n s e = id-is n s ∙ (ap (λ (l : ℕ). beAt s l 0) (sym e) ∙ sym (value-be s))
-
-pub id-below : (n : ℕ) (s : List ℕ) → Bytes s → idOf n s < 256 ^ n
-id-below n s b = rw (id-is n s) (be-below s n 0 b)
+use Rattle.replication.specs.Record.{Rec}
+use Rattle.replication.specs.Call.{make}
 
 paired-add : (R : Rules) (vs : List Rec) (s : List ℕ) (b : Remembered) (ss : List (List ℕ)) (ms : List Remembered) → BatchFollows (R .limits) s vs b → Paired (R .limits) vs ss ms → Paired (R .limits) vs (ss ++ (s ∷ [])) (ms ++ (b ∷ []))
 paired-add R vs s b [] [] f p = (f, tt)
@@ -51,19 +46,14 @@ module _ (R : Rules) (s bs : List ℕ) (vs : List Rec) (k : Ticks) (who : ℕ) (
       record {
         b = made (f .st) given first last;
         bytes = bytes;
+        valid = made-lawful R (f .st) given first last (f .valid) lawful span top needed learned count;
         first = refl;
         last = refl;
-        span = span;
         top = top;
-        needed = normalise-form (R .limits) given (lawful-any R given lawful) needed;
-        learned = project-form (R .limits) first last (f .st .knowledge) (f .form) learned;
         inside =
             λ i q a b. known-project-inside first last (f .st .knowledge) i q (omega (arith, b, top)) a b ∙ f .ticks i q (omega (arith, b, top));
-        outside = λ i q h. ⊎-elim (known-project-below first last (f .st .knowledge) i q h) (known-project-above first last (f .st .knowledge) i q h);
-        count = count;
-        rising = selected-rising first last (normalise given) 0 (f .st .records) (f .rising);
         records =
-            λ i. find-selected first last (normalise given) 0 i (f .st .records) (f .rising)
+            λ i. find-selected first last (normalise given) 0 i (f .st .records) (f .valid .rising)
             ∙ ap (kept first last (normalise given)) (f .records i);
       }
 
@@ -73,7 +63,7 @@ module _ (R : Rules) (permitted : Permitted (R .limits)) (w : World) (m : State)
   make-follows bs good h =
       record {
         good = good;
-        proper = f .proper;
+        items = f .items;
         stores = f .stores;
         batches = paired-add R (m .versions) bs (record { first = value 0 first; last = value 0 last; ticks = m .ticks who }) (w .batches) (m .batches) moved (f .batches);
       }

@@ -12,23 +12,25 @@ use native.Mathlib.Omega.{arith}
 use lib.Dec.{leb, eqb}
 use lib.ListN.{length, take, drop}
 use borrow.Author.Tests.{le-leb, eq-eqb, leb-true, eqb-true}
-use Rattle.codec.specs.Number.{Bytes, beAt, put}
-use Rattle.codec.proofs.Numbers.{be-below, put-bytes}
-use Rattle.layout.specs.Knowledge.{Limits, anyId, Knowledge, encode, All, Lawful}
+use Rattle.codec.specs.Number.{Bytes, beAt}
+use Rattle.codec.proofs.Numbers.{be-below}
+use Rattle.layout.specs.Knowledge.{putFields, Limits, anyId, Knowledge, encode, All, Lawful}
 use Rattle.layout.specs.Permitted.{Permitted}
 use Rattle.layout.specs.Parse.{Parsed, accepted, refused, parse}
-use Rattle.layout.proofs.Chain.{Stands, stands-whole, over, reads}
+use Rattle.layout.proofs.Chain.{Stands, stands-whole, fields-over, Fit}
+use Rattle.layout.proofs.Runs.{ReadAs, run-bytes, run-reads, run-back}
 use Rattle.layout.proofs.Forward.{encode-bytes}
 use Rattle.layout.proofs.Exact.{exact, read-back}
 use Rattle.ticks.specs.Written.{isNormal, eqKnowledge}
 use Rattle.ticks.specs.Operations.{project}
-use Rattle.replication.specs.Formats.{Rec, putRecs, Batch, encodeBatch}
+use Rattle.replication.specs.Formats.{putRecs, Batch, encodeBatch, batchFields}
 use Rattle.replication.specs.Reading.{recsAt, validRecs}
-use Rattle.replication.specs.OpenBatch.{batchWith, batchAfter, batchFrom, decodeBatch, carried, validBatch, ifValidBatch, openBatch}
+use Rattle.replication.specs.OpenBatch.{firstId, lastId, neededLength, learnedLength, batchCount, batchNeeded, batchLearned, batchTable, batchWith, batchAfter, batchFrom, decodeBatch, carried, validBatch, ifValidBatch, openBatch}
 use Rattle.replication.proofs.PartBytes.{part-over, part-reads, part-length, part-back, no-bytes, append-bytes, part-bytes, test-back, valid-back, both-left, both-right}
 use Rattle.replication.proofs.Tables.{both-holds}
-use Rattle.replication.proofs.RecordBytes.{FitsRec, put-upto, recs-bytes, recs-read, Read, recs-back}
+use Rattle.replication.proofs.RecordBytes.{FitsRec, recs-bytes, recs-read, Read, recs-back}
 use Rattle.replication.proofs.StoreBytes.{length-fits}
+use Rattle.replication.specs.Record.{Rec}
 
 -- a batch whose values have room in their fields
 pub record FitsBatch (L : Limits) (b : Batch) : Type 0 where
@@ -39,81 +41,72 @@ pub record FitsBatch (L : Limits) (b : Batch) : Type 0 where
   pub count : length (b .records) < 256 ^ 4
   pub records : All FitsRec (b .records)
 
-pub batch-bytes : (b : Batch) → Bytes (encodeBatch b)
-unfolding encodeBatch
-batch-bytes b =
-    put-bytes 1 _ _ (put-bytes 24 _ _ (put-bytes 24 _ _ (put-bytes 4 _ _ (put-bytes 4 _ _ (put-bytes 4 _ _
-    (append-bytes (encode (b .needed)) (encode (b .learned) ++ putRecs (b .records) []) (encode-bytes (b .needed))
-    (append-bytes (encode (b .learned)) (putRecs (b .records) []) (encode-bytes (b .learned)) (recs-bytes (b .records) [] no-bytes))))))))
-
--- ---- writing and reading back
-
 -- the parts after the fields
 abbrev bodies : Batch → List ℕ
 bodies b = encode (b .needed) ++ (encode (b .learned) ++ putRecs (b .records) [])
 
+pub batch-bytes : (b : Batch) → Bytes (encodeBatch b)
+unfolding encodeBatch
+batch-bytes b =
+    run-bytes (batchFields b) (bodies b)
+    (append-bytes (encode (b .needed)) (encode (b .learned) ++ putRecs (b .records) []) (encode-bytes (b .needed))
+    (append-bytes (encode (b .learned)) (putRecs (b .records) []) (encode-bytes (b .learned)) (recs-bytes (b .records) [] no-bytes)))
+
+-- ---- writing and reading back
+
+fits-fields : (L : Limits) (b : Batch) → Permitted L → FitsBatch L b → All Fit (batchFields b)
+unfolding batchFields
+fits-fields L b p f = (
+  record { below = omega arith },
+  (record { below = f .first }, (record { below = f .last }, (record { below = length-fits L (b .needed) p (f .needed) }, (record { below = length-fits L (b .learned) p (f .learned) }, (record { below = f .count }, tt))))),
+)
+
 module _ (b : Batch) where
-  at-first : Stands (encodeBatch b) 1 (put 24 (b .first) (put 24 (b .last) (put 4 (length (encode (b .needed))) (put 4 (length (encode (b .learned))) (put 4 (length (b .records)) (bodies b))))))
+  at-needed : Stands (encodeBatch b) batchNeeded (encode (b .needed) ++ (encode (b .learned) ++ putRecs (b .records) []))
+  unfolding encodeBatch batchFields
+  at-needed = fields-over (encodeBatch b) 0 (batchFields b) (bodies b) (stands-whole (encodeBatch b))
+
+  at-learned : Stands (encodeBatch b) (batchNeeded + length (encode (b .needed))) (encode (b .learned) ++ putRecs (b .records) [])
+  at-learned = part-over (encodeBatch b) batchNeeded (encode (b .needed)) _ at-needed
+
+  at-records : Stands (encodeBatch b) (batchNeeded + length (encode (b .needed)) + length (encode (b .learned))) (putRecs (b .records) [])
+  at-records = part-over (encodeBatch b) (batchNeeded + length (encode (b .needed))) (encode (b .learned)) _ at-learned
+
+  header : All Fit (batchFields b) → ReadAs (encodeBatch b) 0 0 (batchFields b)
   unfolding encodeBatch
-  at-first = over (encodeBatch b) 0 1 4 _ (stands-whole (encodeBatch b))
-
-  at-last : Stands (encodeBatch b) 25 (put 24 (b .last) (put 4 (length (encode (b .needed))) (put 4 (length (encode (b .learned))) (put 4 (length (b .records)) (bodies b)))))
-  at-last = over (encodeBatch b) 1 24 _ _ at-first
-
-  at-needed-length : Stands (encodeBatch b) 49 (put 4 (length (encode (b .needed))) (put 4 (length (encode (b .learned))) (put 4 (length (b .records)) (bodies b))))
-  at-needed-length = over (encodeBatch b) 25 24 _ _ at-last
-
-  at-learned-length : Stands (encodeBatch b) 53 (put 4 (length (encode (b .learned))) (put 4 (length (b .records)) (bodies b)))
-  at-learned-length = over (encodeBatch b) 49 4 _ _ at-needed-length
-
-  at-count : Stands (encodeBatch b) 57 (put 4 (length (b .records)) (bodies b))
-  at-count = over (encodeBatch b) 53 4 _ _ at-learned-length
-
-  at-needed : Stands (encodeBatch b) 61 (encode (b .needed) ++ (encode (b .learned) ++ putRecs (b .records) []))
-  at-needed = over (encodeBatch b) 57 4 _ _ at-count
-
-  at-learned : Stands (encodeBatch b) (61 + length (encode (b .needed))) (encode (b .learned) ++ putRecs (b .records) [])
-  at-learned = part-over (encodeBatch b) 61 (encode (b .needed)) _ at-needed
-
-  at-records : Stands (encodeBatch b) (61 + length (encode (b .needed)) + length (encode (b .learned))) (putRecs (b .records) [])
-  at-records = part-over (encodeBatch b) (61 + length (encode (b .needed))) (encode (b .learned)) _ at-learned
-
-  kind-read : beAt (encodeBatch b) 1 0 ≡ 4
-  unfolding encodeBatch
-  kind-read = reads (encodeBatch b) 0 1 4 _ (stands-whole (encodeBatch b)) (omega arith)
+  header f = run-reads (encodeBatch b) 0 0 (batchFields b) (bodies b) (stands-whole (encodeBatch b)) f
 
 -- the tests in front hold
-tests-hold : (L : Limits) (s : List ℕ) → beAt s 1 0 ≡ 4 → 61 + beAt s 4 49 + beAt s 4 53 ≤ length s →
-    decodeBatch L s ≡ batchFrom L s (parse (anyId L) (take (beAt s 4 49) (drop 61 s)))
+tests-hold : (L : Limits) (s : List ℕ) → beAt s 1 0 ≡ 4 → batchTable s ≤ length s →
+    decodeBatch L s ≡ batchFrom L s (parse (anyId L) (take (neededLength s) (drop batchNeeded s)))
 unfolding decodeBatch
-tests-hold L s e l = rw (eq-eqb (beAt s 1 0) 4 e, le-leb (61 + beAt s 4 49 + beAt s 4 53) (length s) l, decodeBatch)
+tests-hold L s e l = rw (eq-eqb (beAt s 1 0) 4 e, le-leb (batchTable s) (length s) l, decodeBatch)
 
 -- bytes whose parts are known are read as a batch
-decode-of : (L : Limits) (s : List ℕ) (n m c : ℕ) (k l : Knowledge) (rs : List Rec) → beAt s 1 0 ≡ 4 → beAt s 4 49 ≡ n → beAt s 4 53 ≡ m →
-    beAt s 4 57 ≡ c → 61 + n + m ≤ length s → parse (anyId L) (take n (drop 61 s)) ≡ accepted k →
-    parse (anyId L) (take m (drop (61 + n) s)) ≡ accepted l → recsAt s c (61 + n + m) ≡ some rs →
-    decodeBatch L s ≡ some (record { first = beAt s 24 1; last = beAt s 24 25; needed = k; learned = l; records = rs })
+decode-of : (L : Limits) (s : List ℕ) (n m c : ℕ) (k l : Knowledge) (rs : List Rec) → beAt s 1 0 ≡ 4 → neededLength s ≡ n → learnedLength s ≡ m →
+    batchCount s ≡ c → batchNeeded + n + m ≤ length s → parse (anyId L) (take n (drop batchNeeded s)) ≡ accepted k →
+    parse (anyId L) (take m (drop (batchNeeded + n) s)) ≡ accepted l → recsAt s c (batchNeeded + n + m) ≡ some rs →
+    decodeBatch L s ≡ some (record { first = firstId s; last = lastId s; needed = k; learned = l; records = rs })
 unfolding batchFrom batchAfter batchWith
 decode-of L s n m c k l rs e f g h i j q u =
     tests-hold L s e (omega arith)
-    ∙ ap (batchFrom L s) (ap (λ x. parse (anyId L) (take x (drop 61 s))) f ∙ j)
-    ∙ ap (batchAfter s k) (ap₂ (λ x y. parse (anyId L) (take x (drop (61 + y) s))) g f ∙ q)
-    ∙ ap (batchWith s k l) (ap₂ (λ x y. recsAt s x (61 + y + beAt s 4 53)) h f ∙ ap (λ x. recsAt s c (61 + n + x)) g ∙ u)
+    ∙ ap (batchFrom L s) (ap (λ (x : ℕ). parse (anyId L) (take x (drop batchNeeded s))) f ∙ j)
+    ∙ ap (batchAfter s k) (ap₂ (λ (x y : ℕ). parse (anyId L) (take x (drop (batchNeeded + y) s))) g f ∙ q)
+    ∙ ap (batchWith s k l) (ap₂ (λ (x y : ℕ). recsAt s x (batchNeeded + y + learnedLength s)) h f ∙ ap (λ (x : ℕ). recsAt s c (batchNeeded + n + x)) g ∙ u)
 
 pub batch-decode : (L : Limits) (b : Batch) → Permitted L → FitsBatch L b → decodeBatch L (encodeBatch b) ≡ some b
+unfolding batchFields
 batch-decode L b p f =
     let s = encodeBatch b in
     let n = length (encode (b .needed)) in
     let m = length (encode (b .learned)) in
-    decode-of L s n m (length (b .records)) (b .needed) (b .learned) (b .records) (kind-read b)
-    (reads s 49 4 _ _ (at-needed-length b) (length-fits L (b .needed) p (f .needed)))
-    (reads s 53 4 _ _ (at-learned-length b) (length-fits L (b .learned) p (f .learned)))
-    (reads s 57 4 _ _ (at-count b) (f .count))
+    let w = header b (fits-fields L b p f) in
+    decode-of L s n m (length (b .records)) (b .needed) (b .learned) (b .records) (w .0) (w .1 .1 .1 .0) (w .1 .1 .1 .1 .0) (w .1 .1 .1 .1 .1 .0)
     (at-records b .inside)
-    (ap (parse (anyId L)) (part-reads s 61 (encode (b .needed)) _ (at-needed b)) ∙ read-back (anyId L) p (b .needed) (f .needed))
-    (ap (parse (anyId L)) (part-reads s (61 + n) (encode (b .learned)) _ (at-learned b)) ∙ read-back (anyId L) p (b .learned) (f .learned))
-    (recs-read s (61 + n + m) (b .records) (f .records) (at-records b))
-    ∙ rw (reads s 1 24 _ _ (at-first b) (f .first), reads s 25 24 _ _ (at-last b) (f .last))
+    (ap (parse (anyId L)) (part-reads s batchNeeded (encode (b .needed)) _ (at-needed b)) ∙ read-back (anyId L) p (b .needed) (f .needed))
+    (ap (parse (anyId L)) (part-reads s (batchNeeded + n) (encode (b .learned)) _ (at-learned b)) ∙ read-back (anyId L) p (b .learned) (f .learned))
+    (recs-read s (batchNeeded + n + m) (b .records) (f .records) (at-records b))
+    ∙ ap₂ (λ (x y : ℕ). some (record { first = x; last = y; needed = b .needed; learned = b .learned; records = b .records })) (w .1 .0) (w .1 .1 .0)
 
 if-valid : (L : Limits) (b : Batch) → validBatch L b ≡ true → ifValidBatch L (some b) ≡ accepted b
 unfolding ifValidBatch
@@ -127,19 +120,19 @@ batch-open L b p f v = ap (ifValidBatch L) (batch-decode L b p f) ∙ if-valid L
 -- ---- reading and writing again
 
 -- what bytes that are read as a batch hold
-record Holds (L : Limits) (s : List ℕ) (b : Batch) : Type 0 where
-  kind : beAt s 1 0 ≡ 4
-  inside : 61 + beAt s 4 49 + beAt s 4 53 ≤ length s
-  first : beAt s 24 1 ≡ b .first
-  last : beAt s 24 25 ≡ b .last
-  needed : parse (anyId L) (take (beAt s 4 49) (drop 61 s)) ≡ accepted (b .needed)
-  learned : parse (anyId L) (take (beAt s 4 53) (drop (61 + beAt s 4 49) s)) ≡ accepted (b .learned)
-  records : recsAt s (beAt s 4 57) (61 + beAt s 4 49 + beAt s 4 53) ≡ some (b .records)
+pub record ReadBatch (L : Limits) (s : List ℕ) (b : Batch) : Type 0 where
+  pub kind : beAt s 1 0 ≡ 4
+  pub inside : batchTable s ≤ length s
+  pub first : firstId s ≡ b .first
+  pub last : lastId s ≡ b .last
+  pub needed : parse (anyId L) (take (neededLength s) (drop batchNeeded s)) ≡ accepted (b .needed)
+  pub learned : parse (anyId L) (take (learnedLength s) (drop (batchLearned s) s)) ≡ accepted (b .learned)
+  pub records : recsAt s (batchCount s) (batchTable s) ≡ some (b .records)
 
 -- the parts of a batch that was put together
 record Parts (s : List ℕ) (k l : Knowledge) (o : Option (List Rec)) (b : Batch) : Type 0 where
-  first : beAt s 24 1 ≡ b .first
-  last : beAt s 24 25 ≡ b .last
+  first : firstId s ≡ b .first
+  last : lastId s ≡ b .last
   needed : k ≡ b .needed
   learned : l ≡ b .learned
   records : o ≡ some (b .records)
@@ -150,27 +143,27 @@ with-back s k l none b e = absurd (let z : _≡_ {A = ℕ} 0 1 = cc in omega ari
 with-back s k l (some rs) b e = record { first = cc; last = cc; needed = cc; learned = cc; records = cc }
 
 after-back : (s : List ℕ) (k : Knowledge) (q : Parsed Knowledge) (b : Batch) (C : Type 0) → batchAfter s k q ≡ some b →
-    ((l : Knowledge) → q ≡ accepted l → Parts s k l (recsAt s (beAt s 4 57) (61 + beAt s 4 49 + beAt s 4 53)) b → C) → C
+    ((l : Knowledge) → q ≡ accepted l → Parts s k l (recsAt s (batchCount s) (batchTable s)) b → C) → C
 unfolding batchAfter
 after-back s k (refused n) b C e c = absurd (let z : _≡_ {A = ℕ} 0 1 = cc in omega arith)
-after-back s k (accepted l) b C e c = c l refl (with-back s k l (recsAt s (beAt s 4 57) (61 + beAt s 4 49 + beAt s 4 53)) b e)
+after-back s k (accepted l) b C e c = c l refl (with-back s k l (recsAt s (batchCount s) (batchTable s)) b e)
 
 from-back : (L : Limits) (s : List ℕ) (q : Parsed Knowledge) (b : Batch) (C : Type 0) → batchFrom L s q ≡ some b →
-    ((k : Knowledge) → q ≡ accepted k → batchAfter s k (parse (anyId L) (take (beAt s 4 53) (drop (61 + beAt s 4 49) s))) ≡ some b → C) → C
+    ((k : Knowledge) → q ≡ accepted k → batchAfter s k (parse (anyId L) (take (learnedLength s) (drop (batchLearned s) s))) ≡ some b → C) → C
 unfolding batchFrom
 from-back L s (refused n) b C e c = absurd (let z : _≡_ {A = ℕ} 0 1 = cc in omega arith)
 from-back L s (accepted k) b C e c = c k refl e
 
-decode-back : (L : Limits) (s : List ℕ) (b : Batch) → decodeBatch L s ≡ some b → Holds L s b
+decode-back : (L : Limits) (s : List ℕ) (b : Batch) → decodeBatch L s ≡ some b → ReadBatch L s b
 unfolding decodeBatch
 decode-back L s b e =
-    test-back (eqb (beAt s 1 0) 4) _ b (Holds L s b) e (λ t e.
-    test-back (leb (61 + beAt s 4 49 + beAt s 4 53) (length s)) _ b (Holds L s b) e (λ u e.
-    from-back L s (parse (anyId L) (take (beAt s 4 49) (drop 61 s))) b (Holds L s b) e (λ k v e.
-    after-back s k (parse (anyId L) (take (beAt s 4 53) (drop (61 + beAt s 4 49) s))) b (Holds L s b) e (λ l w h.
+    test-back (eqb (beAt s 1 0) 4) _ b (ReadBatch L s b) e (λ t e.
+    test-back (leb (batchTable s) (length s)) _ b (ReadBatch L s b) e (λ u e.
+    from-back L s (parse (anyId L) (take (neededLength s) (drop batchNeeded s))) b (ReadBatch L s b) e (λ k v e.
+    after-back s k (parse (anyId L) (take (learnedLength s) (drop (batchLearned s) s))) b (ReadBatch L s b) e (λ l w h.
     record {
       kind = eqb-true (beAt s 1 0) 4 t;
-      inside = leb-true (61 + beAt s 4 49 + beAt s 4 53) (length s) u;
+      inside = leb-true (batchTable s) (length s) u;
       first = h .first;
       last = h .last;
       needed = v ∙ ap accepted (h .needed);
@@ -185,22 +178,22 @@ open-back L (some x) b e =
     let h = valid-back (validBatch L x) x b 16 e in
     (ap some (h .1), ap (validBatch L) (sym (h .1)) ∙ h .0)
 
-module _ (L : Limits) (s : List ℕ) (b : Batch) (p : Permitted L) (y : Bytes s) (h : Holds L s b) where
-  held-needed : (take (beAt s 4 49) (drop 61 s) ≡ encode (b .needed)) × Lawful (anyId L) (b .needed)
-  held-needed = exact (anyId L) p (take (beAt s 4 49) (drop 61 s)) (b .needed) (part-bytes s (beAt s 4 49) 61 y) .0 (h .needed)
+module _ (L : Limits) (s : List ℕ) (b : Batch) (p : Permitted L) (y : Bytes s) (h : ReadBatch L s b) where
+  held-needed : (take (neededLength s) (drop batchNeeded s) ≡ encode (b .needed)) × Lawful (anyId L) (b .needed)
+  held-needed = exact (anyId L) p (take (neededLength s) (drop batchNeeded s)) (b .needed) (part-bytes s (neededLength s) batchNeeded y) .0 (h .needed)
 
-  held-learned : (take (beAt s 4 53) (drop (61 + beAt s 4 49) s) ≡ encode (b .learned)) × Lawful (anyId L) (b .learned)
+  held-learned : (take (learnedLength s) (drop (batchLearned s) s) ≡ encode (b .learned)) × Lawful (anyId L) (b .learned)
   held-learned =
-      exact (anyId L) p (take (beAt s 4 53) (drop (61 + beAt s 4 49) s)) (b .learned) (part-bytes s (beAt s 4 53) (61 + beAt s 4 49) y) .0 (h .learned)
+      exact (anyId L) p (take (learnedLength s) (drop (batchLearned s) s)) (b .learned) (part-bytes s (learnedLength s) (batchLearned s) y) .0 (h .learned)
 
-  needed-length : beAt s 4 49 ≡ length (encode (b .needed))
-  needed-length = sym (part-length s (beAt s 4 49) 61 (omega (arith, h .inside))) ∙ ap length (held-needed .0)
+  needed-length : neededLength s ≡ length (encode (b .needed))
+  needed-length = sym (part-length s (neededLength s) batchNeeded (omega (arith, h .inside))) ∙ ap length (held-needed .0)
 
-  learned-length : beAt s 4 53 ≡ length (encode (b .learned))
-  learned-length = sym (part-length s (beAt s 4 53) (61 + beAt s 4 49) (h .inside)) ∙ ap length (held-learned .0)
+  learned-length : learnedLength s ≡ length (encode (b .learned))
+  learned-length = sym (part-length s (learnedLength s) (batchLearned s) (h .inside)) ∙ ap length (held-learned .0)
 
-  held-records : Read s (beAt s 4 57) (61 + beAt s 4 49 + beAt s 4 53) (b .records)
-  held-records = recs-back s (beAt s 4 57) (61 + beAt s 4 49 + beAt s 4 53) (b .records) y (h .records)
+  held-records : Read s (batchCount s) (batchTable s) (b .records)
+  held-records = recs-back s (batchCount s) (batchTable s) (b .records) y (h .records)
 
   held-fits : FitsBatch L b
   held-fits = record {
@@ -212,33 +205,30 @@ module _ (L : Limits) (s : List ℕ) (b : Batch) (p : Permitted L) (y : Bytes s)
     records = held-records .fits;
   }
 
-  held-bodies : drop 61 s ≡ bodies b
+  held-bodies : drop batchNeeded s ≡ bodies b
   held-bodies =
-      part-back s (beAt s 4 49) 61
+      part-back s (neededLength s) batchNeeded
       ∙ ap₂ (λ x t. x ++ t) (held-needed .0)
-      (part-back s (beAt s 4 53) (61 + beAt s 4 49) ∙ ap₂ (λ x t. x ++ t) (held-learned .0) (held-records .bytes))
+      (part-back s (learnedLength s) (batchLearned s) ∙ ap₂ (λ x t. x ++ t) (held-learned .0) (held-records .bytes))
 
   held-bytes : s ≡ encodeBatch b
-  unfolding encodeBatch
+  unfolding encodeBatch batchFields
   held-bytes =
-      put-upto s 1 0 1 y refl (omega arith)
-      ∙ ap₂ (put 1) (h .kind)
-      (put-upto s 24 1 25 y refl (omega arith)
-      ∙ ap₂ (put 24) (h .first)
-      (put-upto s 24 25 49 y refl (omega arith)
-      ∙ ap₂ (put 24) (h .last)
-      (put-upto s 4 49 53 y refl (omega arith)
-      ∙ ap₂ (put 4) needed-length
-      (put-upto s 4 53 57 y refl (omega arith)
-      ∙ ap₂ (put 4) learned-length (put-upto s 4 57 61 y refl (omega arith) ∙ ap₂ (put 4) (sym (held-records .count)) held-bodies)))))
+      run-back s 0 0 (batchFields b) y (h .kind, (h .first, (h .last, (needed-length, (learned-length, (sym (held-records .count), tt)))))) (omega (arith, h .inside))
+      ∙ ap (putFields (batchFields b)) held-bodies
+
+-- bytes that open: they were read so, and the value is valid
+pub batch-read : (L : Limits) (s : List ℕ) (b : Batch) → openBatch L s ≡ accepted b → ReadBatch L s b × (validBatch L b ≡ true)
+unfolding openBatch
+batch-read L s b e =
+    let o = open-back L (decodeBatch L s) b e in
+    (decode-back L s b (o .0), o .1)
 
 pub batch-opened : (L : Limits) (s : List ℕ) (b : Batch) → Permitted L → Bytes s → openBatch L s ≡ accepted b →
     (s ≡ encodeBatch b) × (FitsBatch L b × (validBatch L b ≡ true))
-unfolding openBatch
 batch-opened L s b p y e =
-    let o = open-back L (decodeBatch L s) b e in
-    let h = decode-back L s b (o .0) in
-    (held-bytes L s b p y h, (held-fits L s b p y h, o .1))
+    let o = batch-read L s b e in
+    (held-bytes L s b p y (o .0), (held-fits L s b p y (o .0), o .1))
 
 -- ---- a valid batch, part by part
 

@@ -12,8 +12,8 @@ use mathlib.Core.Option.{Option, none, some}
 use native.Mathlib.Omega.{arith}
 use lib.Dec.{leb, ltb, eqb}
 use borrow.Author.Tests.{lt-ltb, le-leb, eq-eqb, ne-eqb, ltb-true, ltb-false, leb-true, eqb-true, eqb-false}
-use Rattle.replication.specs.Formats.{Rec}
 use Rattle.replication.specs.Machine.{Ticks, holds, later, better, greatest}
+use Rattle.replication.specs.Record.{Rec}
 
 -- ---- members of a list
 

@@ -21,7 +21,7 @@ use Rattle.ticks.specs.Operations.{merge, coversFor}
 use Rattle.ticks.proofs.Operations.{known-merge, normal-merge}
 use Rattle.ticks.proofs.LawfulResults.{below-top, lawful-merge}
 use Rattle.ticks.proofs.ForCover.{covers-for-exact}
-use Rattle.replication.specs.Formats.{Rec, Store, encodeStore, Batch, find}
+use Rattle.replication.specs.Formats.{Store, encodeStore, Batch, find}
 use Rattle.replication.specs.Valid.{LawfulRec, ContainedIn, LawfulStore, LawfulBatch}
 use Rattle.replication.specs.OpenStore.{openStore}
 use Rattle.replication.specs.OpenBatch.{openBatch}
@@ -29,10 +29,10 @@ use Rattle.replication.specs.Operate.{winnerOf, join, applied}
 use Rattle.replication.specs.Calls.{ownAhead, applyReply}
 use Rattle.replication.proofs.Tables.{find-all, all-find}
 use Rattle.replication.proofs.TablesJoin.{winner-tick, winner-kept, winner-replica, winner-replica-kept, join-rising, all-join, joined, joined-right, joined-left, joined-both, find-join}
-use Rattle.replication.proofs.AgreeLines.{Room, apply-met}
-use Rattle.replication.proofs.ContentsValid.{lawful-opens, store-exact, batch-exact}
-use Rattle.replication.proofs.ContentsMake.{gives-outcome}
+use Rattle.replication.proofs.AgreeLines.{gives-outcome, Room, apply-met}
+use Rattle.replication.proofs.ContentsValid.{store-exact, batch-exact}
 use Rattle.codec.specs.Parsed.{accepted}
+use Rattle.replication.specs.Record.{Rec}
 
 -- the second record wins: "the greater change tick, then the greater change replica"
 abbrev pub Greater : Rec → Rec → Type 0
@@ -44,8 +44,8 @@ NotLess x y = (y .changeTick < x .changeTick) ⊎ ((x .changeTick ≡ y .changeT
 
 pub record Applies (L : Limits) (st : Store) (b : Batch) (bs : List ℕ) : Type 0 where
   pub store : Store
-  pub opens : openStore L bs ≡ accepted store
   pub bytes : bs ≡ encodeStore store
+  pub valid : LawfulStore L store
   pub own : store .own ≡ st .own
   -- "Knowledge is merged with learned"
   pub ticks : (i p : ℕ) → i ≤ highest → known (store .knowledge) i p ≡ max (known (st .knowledge) i p) (known (b .learned) i p)
@@ -76,7 +76,7 @@ behind-known st b e i h =
 
 -- ---- the store
 
-module _ (L : Limits) (permitted : Permitted L) (st : Store) (b : Batch) (v : LawfulStore L st) (w : LawfulBatch L b) where
+module _ (L : Limits) (st : Store) (b : Batch) (v : LawfulStore L st) (w : LawfulBatch L b) where
   store-contained : (r : Rec) → LawfulRec r → ContainedIn (st .knowledge) r → ContainedIn (merge (st .knowledge) (b .learned)) r
   store-contained r a c =
       let h = below-top (r .item) (a .item) in
@@ -135,8 +135,8 @@ module _ (L : Limits) (permitted : Permitted L) (st : Store) (b : Batch) (v : La
   applied-applies bs behind room bytes =
       record {
         store = applied st b;
-        opens = ap (openStore L) bytes ∙ lawful-opens L permitted (applied st b) (applied-lawful behind room);
         bytes = bytes;
+        valid = applied-lawful behind room;
         own = refl;
         ticks = λ i p h. known-merge (st .knowledge) (b .learned) i p h;
         outside = λ i p h out. omega (arith, known-merge (st .knowledge) (b .learned) i p h, w .outside i p h out);
@@ -152,4 +152,4 @@ module _ (L : Limits) (permitted : Permitted L) (st : Store) (b : Batch) (v : La
 pub apply-writes : (L : Limits) (s t bs : List ℕ) (st : Store) (b : Batch) → Permitted L → Bytes s → Bytes t → openStore L s ≡ accepted st → openBatch L t ≡ accepted b → applyReply L s t ≡ gives bs → Applies L st b bs
 apply-writes L s t bs st b permitted bytesS bytesT o p g =
     let m = apply-met L s t st b (length bs) bs o p (gives-outcome (applyReply L s t) bs g) in
-    applied-applies L permitted st b (store-exact L s st permitted bytesS .0 o .1) (batch-exact L t b permitted bytesT .0 p .1) bs (m .behind) (m .room) (m .bytes)
+    applied-applies L st b (store-exact L s st permitted bytesS .0 o .1) (batch-exact L t b permitted bytesT .0 p .1) bs (m .behind) (m .room) (m .bytes)

@@ -22,34 +22,34 @@ use Rattle.ticks.proofs.Operations.{known-raise-own, known-raise-other, normal-
 use Rattle.ticks.proofs.Largest.{largest-bounds, largest-attained}
 use Rattle.ticks.proofs.LawfulResults.{below-top, lawful-raise}
 use Rattle.ticks.proofs.ForCalls.{id-is}
-use Rattle.replication.specs.Formats.{Rec, Store, encodeStore, find}
-use Rattle.replication.specs.Valid.{LawfulRec, ContainedIn, LawfulStore}
+use Rattle.replication.specs.Formats.{Store, encodeStore, find}
+use Rattle.replication.specs.Valid.{LawfulRec, ContainedIn, LawfulStore, LawfulContent}
 use Rattle.replication.specs.OpenStore.{openStore}
 use Rattle.replication.specs.Operate.{replace, nextTick, changedRec, changed}
-use Rattle.replication.specs.Calls.{editReply, deleteReply}
+use Rattle.replication.specs.Calls.{editReply, deleteReply, liveContent, tombstone}
 use Rattle.replication.proofs.Tables.{find-item, find-all, all-find, all-replace, replace-rising, find-replace-same, find-replace-other}
-use Rattle.replication.proofs.AgreeLines.{Room, edit-met, delete-met}
-use Rattle.replication.proofs.AgreeEdit.{same?}
-use Rattle.replication.proofs.AgreeMake.{id-below}
-use Rattle.replication.proofs.ContentsValid.{lawful-opens, store-exact}
-use Rattle.replication.proofs.ContentsMake.{gives-outcome}
+use Rattle.replication.proofs.AgreeLines.{gives-outcome, Room, edit-met, delete-met}
+use Rattle.replication.proofs.Arguments.{same?, id-below}
+use Rattle.replication.proofs.ContentsValid.{store-exact}
 use Rattle.codec.specs.Parsed.{accepted}
+use Rattle.replication.specs.Record.{Content, Rec}
+use Rattle.replication.specs.Call.{Brought, BytesBrought}
+use mathlib.Core.Bool.{false, true}
 
 -- the record of an edit or a delete at a tick, spelled out, with the item's record before it
-pub record NewRec (newKind newItem who newTick newTag : ℕ) (before : Option Rec) (r : Rec) : Type 0 where
-  pub kind : r .kind ≡ newKind
+pub record NewRec (newContent : Content) (newItem who newTick : ℕ) (before : Option Rec) (r : Rec) : Type 0 where
   pub item : r .item ≡ newItem
   pub changeReplica : r .changeReplica ≡ who
   pub changeTick : r .changeTick ≡ newTick
-  pub tag : r .tag ≡ newTag
+  pub content : r .content ≡ newContent
   -- "An absent item gets its create version from the edit; an item already there, tombstones too, keeps its own"
   pub absent : before ≡ none → (r .createReplica ≡ who) × (r .createTick ≡ newTick)
   pub there : (old : Rec) → before ≡ some old → (r .createReplica ≡ old .createReplica) × (r .createTick ≡ old .createTick)
 
-pub record Changes (L : Limits) (st : Store) (kind item tag : ℕ) (bs : List ℕ) : Type 0 where
+pub record Changes (L : Limits) (st : Store) (content : Content) (item : ℕ) (bs : List ℕ) : Type 0 where
   pub store : Store
-  pub opens : openStore L bs ≡ accepted store
   pub bytes : bs ≡ encodeStore store
+  pub valid : LawfulStore L store
   pub own : store .own ≡ st .own
   -- "tick = 1 + the largest tick in the store's knowledge"
   pub tick : ℕ
@@ -60,30 +60,28 @@ pub record Changes (L : Limits) (st : Store) (kind item tag : ℕ) (bs : List �
   pub otherTicks : (i q : ℕ) → i ≤ highest → (q ≡ st .own → ⊥) → known (store .knowledge) i q ≡ known (st .knowledge) i q
   pub new : Rec
   pub newFound : find item (store .records) ≡ some new
-  pub newIs : NewRec kind item (st .own) tick tag (find item (st .records)) new
+  pub newIs : NewRec content item (st .own) tick (find item (st .records)) new
   pub otherRecords : (i : ℕ) → (i ≡ item → ⊥) → find i (store .records) ≡ find i (st .records)
 
 -- ---- the new record
 
-pub changed-is : (kind item own t tag : ℕ) (o : Option Rec) → NewRec kind item own t tag o (changedRec kind item own t tag o)
+pub changed-is : (content : Content) (item own t : ℕ) (o : Option Rec) → NewRec content item own t o (changedRec content item own t o)
 unfolding changedRec
-changed-is kind item own t tag none =
+changed-is content item own t none =
     record {
-      kind = refl;
       item = refl;
       changeReplica = refl;
       changeTick = refl;
-      tag = refl;
+      content = refl;
       absent = λ e. (refl, refl);
       there = λ old e. let z : _≡_ {A = ℕ} 0 1 = cc in absurd (omega arith);
     }
-changed-is kind item own t tag (some r) =
+changed-is content item own t (some r) =
     record {
-      kind = refl;
       item = refl;
       changeReplica = refl;
       changeTick = refl;
-      tag = refl;
+      content = refl;
       absent = λ e. let z : _≡_ {A = ℕ} 0 1 = cc in absurd (omega arith);
       there = λ old e. (ap (λ (x : Option Rec). replica x) e, ap (λ (x : Option Rec). tickOf x) e);
     }
@@ -115,7 +113,7 @@ module _ (L : Limits) (st : Store) (v : LawfulStore L st) (t : ℕ) (above : (i 
         create = omega (arith, c .create, raised (r .item) (r .createReplica) h);
       }
 
-  module _ (kind item tag : ℕ) (kinds : (kind ≡ 1) ⊎ (kind ≡ 2)) (small : item < 256 ^ 24) (tag16 : tag < 256 ^ 16) (bare : kind ≡ 2 → tag ≡ 0) (top : t ≤ largestTick) where
+  module _ (content : Content) (item : ℕ) (small : item < 256 ^ 24) (lawful16 : LawfulContent content) (top : t ≤ largestTick) where
     -- of the new record's create version: as the edit made it, or kept
     record Created (r : Rec) : Type 0 where
       pub replica : r .createReplica < 256 ^ 16
@@ -123,7 +121,7 @@ module _ (L : Limits) (st : Store) (v : LawfulStore L st) (t : ℕ) (above : (i 
       pub order : r .createTick ≤ t
       pub contained : r .createTick ≤ known (raise (st .own) t (st .knowledge)) item (r .createReplica)
 
-    new-created : (r : Rec) (o : Option Rec) → find item (st .records) ≡ o → NewRec kind item (st .own) t tag o r → Created r
+    new-created : (r : Rec) (o : Option Rec) → find item (st .records) ≡ o → NewRec content item (st .own) t o r → Created r
     new-created r none e n =
         let a = n .absent refl in
         record {
@@ -148,17 +146,15 @@ module _ (L : Limits) (st : Store) (v : LawfulStore L st) (t : ℕ) (above : (i 
           contained = rw (a .0, a .1) d;
         }
 
-    module _ (r : Rec) (n : NewRec kind item (st .own) t tag (find item (st .records)) r) where
+    module _ (r : Rec) (n : NewRec content item (st .own) t (find item (st .records)) r) where
       new-lawful : LawfulRec r
       new-lawful =
           let c = new-created r (find item (st .records)) refl n in
           record {
-            kind = rw (n .kind) kinds;
             item = rw (n .item) small;
             changeReplica = rw (n .changeReplica) (v .own);
             createReplica = c .replica;
-            tag = rw (n .tag) tag16;
-            bare = λ e. n .tag ∙ bare (sym (n .kind) ∙ e);
+            content = subst LawfulContent (sym (n .content)) lawful16;
             createTick = c .one;
             order = omega (arith, c .order, n .changeTick);
             changeTick = omega (arith, n .changeTick, top);
@@ -172,7 +168,7 @@ module _ (L : Limits) (st : Store) (v : LawfulStore L st) (t : ℕ) (above : (i 
             create = rw (n .item) (c .contained);
           }
 
-module _ (L : Limits) (permitted : Permitted L) (st : Store) (v : LawfulStore L st) (kind item tag : ℕ) (kinds : (kind ≡ 1) ⊎ (kind ≡ 2)) (small : item < 256 ^ 24) (tag16 : tag < 256 ^ 16) (bare : kind ≡ 2 → tag ≡ 0) (below : largest (st .knowledge) < largestTick) where
+module _ (L : Limits) (st : Store) (v : LawfulStore L st) (content : Content) (item : ℕ) (small : item < 256 ^ 24) (lawful16 : LawfulContent content) (below : largest (st .knowledge) < largestTick) where
   next-above : (i p : ℕ) → known (st .knowledge) i p < nextTick st
   unfolding nextTick
   next-above i p = omega (arith, largest-bounds (st .knowledge) i p)
@@ -188,12 +184,12 @@ module _ (L : Limits) (permitted : Permitted L) (st : Store) (v : LawfulStore L 
       (largest-attained (st .knowledge) (normal-sound (st .knowledge) (v .normal)))
 
   abbrev next : Rec
-  next = changedRec kind item (st .own) (nextTick st) tag (find item (st .records))
+  next = changedRec content item (st .own) (nextTick st) (find item (st .records))
 
-  next-is : NewRec kind item (st .own) (nextTick st) tag (find item (st .records)) next
-  next-is = changed-is kind item (st .own) (nextTick st) tag (find item (st .records))
+  next-is : NewRec content item (st .own) (nextTick st) (find item (st .records)) next
+  next-is = changed-is content item (st .own) (nextTick st) (find item (st .records))
 
-  changed-lawful : Room L (changed kind item tag st) → LawfulStore L (changed kind item tag st)
+  pub changed-lawful : Room L (changed content item st) → LawfulStore L (changed content item st)
   unfolding changed
   changed-lawful room =
       record {
@@ -206,10 +202,10 @@ module _ (L : Limits) (permitted : Permitted L) (st : Store) (v : LawfulStore L 
         count = room .records;
         rising = replace-rising next 0 (st .records) (omega arith) (v .rising);
         records =
-            all-replace LawfulRec next (st .records) (new-lawful L st v (nextTick st) next-above kind item tag kinds small tag16 bare next-top next next-is) (v .records);
+            all-replace LawfulRec next (st .records) (new-lawful L st v (nextTick st) next-above content item small lawful16 next-top next next-is) (v .records);
         versions =
             all-replace (ContainedIn (raise (st .own) (nextTick st) (st .knowledge))) next (st .records)
-            (new-contained L st v (nextTick st) next-above kind item tag kinds small tag16 bare next-top next next-is) kept-versions;
+            (new-contained L st v (nextTick st) next-above content item small lawful16 next-top next next-is) kept-versions;
       }
     where
       kept-versions : All (ContainedIn (raise (st .own) (nextTick st) (st .knowledge))) (st .records)
@@ -218,13 +214,13 @@ module _ (L : Limits) (permitted : Permitted L) (st : Store) (v : LawfulStore L 
           (λ i r e.
           old-contained L st v (nextTick st) next-above r (find-all LawfulRec i (st .records) r (v .records) e) (find-all (ContainedIn (st .knowledge)) i (st .records) r (v .versions) e))
 
-  pub changed-changes : (bs : List ℕ) → Room L (changed kind item tag st) → bs ≡ encodeStore (changed kind item tag st) → Changes L st kind item tag bs
+  pub changed-changes : (bs : List ℕ) → Room L (changed content item st) → bs ≡ encodeStore (changed content item st) → Changes L st content item bs
   unfolding changed
   changed-changes bs room bytes =
       record {
-        store = changed kind item tag st;
-        opens = ap (openStore L) bytes ∙ lawful-opens L permitted (changed kind item tag st) (changed-lawful room);
+        store = changed content item st;
         bytes = bytes;
+        valid = changed-lawful room;
         own = refl;
         tick = nextTick st;
         above = next-above;
@@ -239,17 +235,28 @@ module _ (L : Limits) (permitted : Permitted L) (st : Store) (v : LawfulStore L 
 
 -- ---- edit and delete
 
+-- what they bring is lawful where it has its length
+pub live-lawful : (b : Brought) → BytesBrought b → LawfulContent (liveContent b)
+unfolding liveContent
+live-lawful b y = record { tag = id-below 16 (b .tag) (y .tag); bare = λ e. let z : _≡_ {A = ℕ} 0 1 = cc in absurd (omega arith) }
+
+pub tombstone-lawful : LawfulContent tombstone
+unfolding tombstone
+tombstone-lawful = record { tag = power-positive 16; bare = λ e. refl }
+
 -- "An edit writes kind 1 with the given tag"
-pub edit-writes : (L : Limits) (s item tag bs : List ℕ) (st : Store) → Permitted L → Bytes s → Bytes item → Bytes tag → openStore L s ≡ accepted st → editReply L s item tag ≡ gives bs → Changes L st 1 (beAt item 24 0) (beAt tag 16 0) bs
-edit-writes L s item tag bs st permitted bytesS bytesI bytesT o g =
-    let m = edit-met L s item tag st (length bs) bs o (gives-outcome (editReply L s item tag) bs g) in
-    subst (λ (x : ℕ). Changes L st 1 x (beAt tag 16 0) bs) (id-is 24 item)
-    (subst (λ (x : ℕ). Changes L st 1 (idOf 24 item) x bs) (id-is 16 tag)
-    (changed-changes L permitted st (store-exact L s st permitted bytesS .0 o .1) 1 (idOf 24 item) (idOf 16 tag) (inl refl) (id-below 24 item bytesI) (id-below 16 tag bytesT) (λ e. absurd (omega arith)) (m .below) bs (m .room) (m .bytes)))
+pub edit-writes : (L : Limits) (s item : List ℕ) (b : Brought) (bs : List ℕ) (st : Store) → Permitted L → Bytes s → Bytes item → BytesBrought b → openStore L s ≡ accepted st → editReply L s item b ≡ gives bs → Changes L st (record { deleted = false; tag = beAt (b .tag) 16 0 }) (beAt item 24 0) bs
+unfolding liveContent
+edit-writes L s item b bs st permitted bytesS bytesI bytesB o g =
+    let m = edit-met L s item b st (length bs) bs o (gives-outcome (editReply L s item b) bs g) in
+    subst (λ (x : ℕ). Changes L st (record { deleted = false; tag = beAt (b .tag) 16 0 }) x bs) (id-is 24 item)
+    (subst (λ (x : ℕ). Changes L st (record { deleted = false; tag = x }) (idOf 24 item) bs) (id-is 16 (b .tag))
+    (changed-changes L st (store-exact L s st permitted bytesS .0 o .1) (liveContent b) (idOf 24 item) (id-below 24 item bytesI) (live-lawful b bytesB) (m .below) bs (m .room) (m .bytes)))
 
 -- "a delete kind 2", with a tag of zeros
-pub delete-writes : (L : Limits) (s item bs : List ℕ) (st : Store) → Permitted L → Bytes s → Bytes item → openStore L s ≡ accepted st → deleteReply L s item ≡ gives bs → Changes L st 2 (beAt item 24 0) 0 bs
+pub delete-writes : (L : Limits) (s item bs : List ℕ) (st : Store) → Permitted L → Bytes s → Bytes item → openStore L s ≡ accepted st → deleteReply L s item ≡ gives bs → Changes L st (record { deleted = true; tag = 0 }) (beAt item 24 0) bs
+unfolding tombstone
 delete-writes L s item bs st permitted bytesS bytesI o g =
     let m = delete-met L s item st (length bs) bs o (gives-outcome (deleteReply L s item) bs g) in
-    subst (λ (x : ℕ). Changes L st 2 x 0 bs) (id-is 24 item)
-    (changed-changes L permitted st (store-exact L s st permitted bytesS .0 o .1) 2 (idOf 24 item) 0 (inr refl) (id-below 24 item bytesI) (power-positive 16) (λ e. refl) (m .below) bs (m .room) (m .bytes))
+    subst (λ (x : ℕ). Changes L st (record { deleted = true; tag = 0 }) x bs) (id-is 24 item)
+    (changed-changes L st (store-exact L s st permitted bytesS .0 o .1) tombstone (idOf 24 item) (id-below 24 item bytesI) tombstone-lawful (m .below) bs (m .room) (m .bytes))

@@ -2,7 +2,7 @@
 -- knows, whose learned knowledge knows what the store knows inside the span and nothing outside, and whose records are
 -- exactly the store's records in the span with a change version that the given knowledge lacks. The batch is valid
 -- since the store is: a record's versions stay contained, as projecting keeps the ticks inside the span.
-use Prim.Native.Nat.{ℕ, _≤_, _<_}
+use Prim.Native.Nat.{ℕ, _≤_, _<_, _^_}
 use mathlib.Core.Path.{_≡_, refl, sym, ap, _∙_, subst}
 use mathlib.Core.Logic.{_⊎_, ⊎-elim, _↔_}
 use mathlib.Core.Bool.{true}
@@ -24,7 +24,7 @@ use Rattle.ticks.specs.Calls.{idOf}
 use Rattle.ticks.proofs.Operations.{known-normalise, normal-normalise, normal-project, known-project-inside, known-project-below, known-project-above}
 use Rattle.ticks.proofs.LawfulResults.{below-top, top-below, lawful-normalise, lawful-project}
 use Rattle.ticks.proofs.ForCalls.{id-is, Within}
-use Rattle.replication.specs.Formats.{Rec, Store, Batch, encodeBatch, find}
+use Rattle.replication.specs.Formats.{Store, Batch, encodeBatch, find}
 use Rattle.replication.specs.Valid.{LawfulRec, ContainedIn, LawfulStore, LawfulBatch}
 use Rattle.replication.specs.Reading.{both}
 use Rattle.replication.specs.OpenStore.{openStore}
@@ -32,25 +32,19 @@ use Rattle.replication.specs.OpenBatch.{inSpan, lacksChange, openBatch}
 use Rattle.replication.specs.Operate.{selected, made}
 use Rattle.replication.specs.Calls.{makeReply}
 use Rattle.replication.specs.Lists.{outcome}
-use Rattle.replication.proofs.AgreeForm.{lawful-any}
 use Rattle.replication.proofs.Tables.{find-item, find-all, both-parts, both-holds, in-span}
-use Rattle.replication.proofs.TablesSelected.{kept, kept-in, selected-rising, find-selected, all-selected, selected-meets}
-use Rattle.replication.proofs.AgreeInvariant.{kept-some}
-use Rattle.replication.proofs.AgreeLines.{make-met}
-use Rattle.replication.proofs.AgreeMake.{id-below}
-use Rattle.replication.proofs.ContentsValid.{lacks-exact, all-two, store-exact, lawful-opens-batch}
-
--- a reply that gives bytes writes them where there is room
-pub gives-outcome : (r : Reply) (bs : List ℕ) → r ≡ gives bs → outcome r (length bs) ≡ some bs
-unfolding outcome
-gives-outcome r bs e = rw e (rw (le-leb (length bs) (length bs) (omega arith), outcome))
+use Rattle.replication.proofs.TablesSelected.{kept, kept-some, kept-in, selected-rising, find-selected, all-selected, selected-meets}
+use Rattle.replication.proofs.AgreeLines.{gives-outcome, make-met}
+use Rattle.replication.proofs.Arguments.{id-below}
+use Rattle.replication.proofs.ContentsValid.{lacks-exact, all-two, store-exact}
+use Rattle.replication.specs.Record.{Rec}
 
 -- ---- the batch written, compared with the store and the given knowledge
 
 pub record Makes (R : Rules) (st : Store) (k : Knowledge) (f l : ℕ) (bs : List ℕ) : Type 0 where
   pub batch : Batch
-  pub opens : openBatch (R .limits) bs ≡ accepted batch
   pub bytes : bs ≡ encodeBatch batch
+  pub valid : LawfulBatch (R .limits) batch
   pub first : batch .first ≡ f
   pub last : batch .last ≡ l
   -- "needed = normal form of the given knowledge"
@@ -117,6 +111,28 @@ module _ (st : Store) (k : Knowledge) (f l : ℕ) (R : Rules) (v : LawfulStore (
 
 -- ---- the batch
 
+-- what is lawful under rules is lawful under their limits
+pub lawful-any : (R : Rules) (k : Knowledge) → Lawful R k → Lawful (anyId (R .limits)) k
+lawful-any R k l =
+    record {
+      replicas = l .replicas;
+      ids = l .ids;
+      acceptable = all-map (λ id. id < 256 ^ 16) (λ id. _≡_ {A = ℕ} 0 0) (λ id h. refl) (k .replicas) (l .ids);
+      distinct = l .distinct;
+      someVector = l .someVector;
+      vectors = l .vectors;
+      first = l .first;
+      counts = l .counts;
+      keysBelow = l .keysBelow;
+      keysOnce = l .keysOnce;
+      ticks = l .ticks;
+      someRange = l .someRange;
+      ranges = l .ranges;
+      items = l .items;
+      indices = l .indices;
+      rising = l .rising;
+    }
+
 module _ (R : Rules) (st : Store) (k : Knowledge) (f l : ℕ) (v : LawfulStore (R .limits) st) (lawful : Lawful R k) (span : f ≤ l) (top : l ≤ highest) where
   pub made-lawful : Within (R .limits) (made st k f l .needed) → Within (R .limits) (made st k f l .learned) → length (made st k f l .records) ≤ R .limits .records → LawfulBatch (R .limits) (made st k f l)
   unfolding made
@@ -148,13 +164,13 @@ module _ (R : Rules) (st : Store) (k : Knowledge) (f l : ℕ) (v : LawfulStore (
       taken : (P : Rec → Type 0) → All P (st .records) → All P chosen
       taken P a = all-selected P f l (normalise k) (st .records) a
 
-  pub made-makes : Permitted (R .limits) → (bs : List ℕ) → Within (R .limits) (made st k f l .needed) → Within (R .limits) (made st k f l .learned) → length (made st k f l .records) ≤ R .limits .records → bs ≡ encodeBatch (made st k f l) → Makes R st k f l bs
+  pub made-makes : (bs : List ℕ) → Within (R .limits) (made st k f l .needed) → Within (R .limits) (made st k f l .learned) → length (made st k f l .records) ≤ R .limits .records → bs ≡ encodeBatch (made st k f l) → Makes R st k f l bs
   unfolding made
-  made-makes permitted bs needed learned count bytes =
+  made-makes bs needed learned count bytes =
       record {
         batch = made st k f l;
-        opens = ap (openBatch (R .limits)) bytes ∙ lawful-opens-batch (R .limits) permitted (made st k f l) (made-lawful needed learned count);
         bytes = bytes;
+        valid = made-lawful needed learned count;
         first = refl;
         last = refl;
         needed = λ i p h. known-normalise k i p h;
@@ -176,4 +192,4 @@ make-writes R s knowledge first last bs st k permitted bytesS bytesK bytesL o p 
     (subst (λ (x : Knowledge). Makes R st x (idOf 24 first) (idOf 24 last) bs) (accepted-same (m .given) k (sym (m .reads) ∙ p))
     (made-makes R st (m .given) (idOf 24 first) (idOf 24 last) (store-exact (R .limits) s st permitted bytesS .0 o .1)
     (exact R permitted knowledge (m .given) bytesK .0 (m .reads) .1) (m .span) (below-top (idOf 24 last) (id-below 24 last bytesL))
-    permitted bs (m .needed) (m .learned) (m .records) (m .bytes))))
+    bs (m .needed) (m .learned) (m .records) (m .bytes))))

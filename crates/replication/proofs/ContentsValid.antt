@@ -16,13 +16,14 @@ use Rattle.layout.specs.Permitted.{Permitted}
 use Rattle.layout.proofs.Parts.{all-map}
 use Rattle.ticks.specs.Meaning.{highest, known, contains}
 use Rattle.ticks.specs.Operations.{project}
-use Rattle.ticks.proofs.Equality.{eqKnowledge-sound}
+use Rattle.ticks.specs.Written.{eqKnowledge}
+use Rattle.ticks.proofs.Equality.{eqKnowledge-sound, eqKnowledge-self}
 use Rattle.ticks.proofs.Unique.{normal-sound}
 use Rattle.ticks.proofs.Operations.{normal-test}
-use Rattle.ticks.proofs.Algebra.{contains-yes, contains-more, contains-exact, project-outside}
+use Rattle.ticks.proofs.Algebra.{contains-yes, contains-more, contains-exact, project-outside, project-same}
 use Rattle.ticks.proofs.Largest.{alike-exact}
 use Rattle.ticks.proofs.LawfulResults.{top-below, below-top}
-use Rattle.replication.specs.Formats.{Rec, Store, encodeStore, Batch, encodeBatch}
+use Rattle.replication.specs.Formats.{Store, encodeStore, Batch, encodeBatch}
 use Rattle.replication.specs.Valid.{LawfulRec, ContainedIn, LawfulStore, LawfulBatch}
 use Rattle.replication.specs.Reading.{both}
 use Rattle.replication.specs.OpenStore.{decodeStore, versionsIn, validStore, ifValid, openStore}
@@ -31,8 +32,8 @@ use Rattle.replication.proofs.Tables.{ValidRec, valid-recs, both-parts,
 use Rattle.replication.proofs.RecordBytes.{FitsRec}
 use Rattle.replication.proofs.StoreBytes.{store-open, store-opened, valid-store}
 use Rattle.replication.proofs.BatchBytes.{batch-open, batch-opened, valid-batch}
-use Rattle.replication.proofs.AgreeForm.{form-projected}
 use Rattle.codec.specs.Parsed.{accepted, Parsed, refused}
+use Rattle.replication.specs.Record.{Rec}
 
 -- ---- versions
 
@@ -103,12 +104,10 @@ all-two P Q C f (r ∷ rs) p q = (f r (p .0) (q .0), all-two P Q C f rs (p .1) (
 rec-of : (r : Rec) → FitsRec r → ValidRec r → LawfulRec r
 rec-of r f v =
     record {
-      kind = f .kind;
       item = f .item;
       changeReplica = f .changeReplica;
       createReplica = f .createReplica;
-      tag = f .tag;
-      bare = v .tag;
+      content = record { tag = f .tag; bare = v .bare };
       createTick = v .created;
       order = v .order;
       changeTick = v .changed;
@@ -119,17 +118,16 @@ rec-fits r l =
     let a : r .changeTick < 256 ^ 8 = omega (arith, l .changeTick) in
     let b : r .createTick < 256 ^ 8 = omega (arith, l .changeTick, l .order) in
     record {
-      kind = l .kind;
       item = l .item;
       changeReplica = l .changeReplica;
       changeTick = a;
       createReplica = l .createReplica;
       createTick = b;
-      tag = l .tag;
+      tag = l .content .tag;
     }
 
 rec-valid : (r : Rec) → LawfulRec r → ValidRec r
-rec-valid r l = record { created = l .createTick; order = l .order; changed = l .changeTick; tag = l .bare }
+rec-valid r l = record { created = l .createTick; order = l .order; changed = l .changeTick; bare = l .content .bare }
 
 -- ---- stores
 
@@ -267,7 +265,8 @@ module _ (L : Limits) (permitted : Permitted L) (b : Batch) where
         span = l .span;
         needed = normal-test (b .needed) .1 (l .neededNormal);
         learned = normal-test (b .learned) .1 (l .learnedNormal);
-        projected = form-projected L (b .first) (b .last) (b .learned) (record { lawful = l .learnedLawful; normal = l .learnedNormal }) (l .outside);
+        projected =
+            ap (λ (x : Knowledge). eqKnowledge x (b .learned)) (project-same (b .first) (b .last) (b .learned) (l .learnedNormal) (l .outside)) ∙ eqKnowledge-self (b .learned);
         records =
             valid-recs (carried b) 0 (b .records) .1 (
               l .rising,

@@ -9,10 +9,10 @@ use mathlib.Core.Path.{_≡_, refl, sym, ap, _∙_, subst}
 use mathlib.Core.Logic.{_⊎_, inl, inr, ⊎-elim, _↔_}
 use mathlib.Core.Bool.{Bool, true, false, not}
 use mathlib.Core.List.{List, [], _∷_}
-use mathlib.Core.Option.{some}
+use mathlib.Core.Option.{Option, none, some}
 use native.Mathlib.Omega.{arith}
-use lib.Dec.{leb}
-use borrow.Author.Tests.{leb-true, leb-false}
+use lib.Dec.{leb, ltb}
+use borrow.Author.Tests.{leb-true, leb-false, ltb-true, ltb-false}
 use Rattle.layout.specs.Knowledge.{Rules, basic, Knowledge, All, Limits}
 use Rattle.layout.specs.Permitted.{Permitted}
 use Rattle.layout.proofs.Exact.{base-permitted}
@@ -21,29 +21,35 @@ use Rattle.ticks.specs.Calls.{line, idOf, wrongLength}
 use Rattle.ticks.proofs.Answers.{length-exact}
 use Rattle.ticks.proofs.ForCalls.{id-is}
 use Rattle.ticks.proofs.ForCover.{covers-for-exact}
-use Rattle.replication.specs.Formats.{Rec, Store, newStore, encodeStore, Batch, find}
-use Rattle.codec.specs.Number.{put}
+use Rattle.replication.specs.Formats.{Store, newStore, encodeStore, Batch, find}
+use Rattle.codec.specs.Number.{Bytes, put}
 use Rattle.codec.specs.Reply.{gives, refuses}
 use Rattle.codec.proofs.Numbers.{put-length, put-be}
 use Rattle.codec.proofs.Replies.{fault-later, fault-none}
 use Rattle.replication.specs.OpenStore.{openStore}
 use Rattle.replication.specs.OpenBatch.{inSpan, lacksChange, openBatch}
 use Rattle.replication.specs.Calls.{newReply, applyReply, ownAhead}
-use Rattle.replication.specs.Lists.{Call, Given, World, start, outcome, batchNumber}
+use Rattle.replication.specs.Lists.{World, start, outcome, batchNumber}
 use Rattle.replication.specs.Machine.{Ticks, Remembered, State, initial, greatest, applies}
-use Rattle.replication.specs.Promise.{ends, machine, Agrees, Opens, Twofold, Promise}
-use Rattle.replication.specs.Batches.{BatchAgrees, Batches}
+use Rattle.replication.specs.Promise.{ends, machine, IsStore, IsBatch, Agrees, SameKnown, Twofold, Promise}
+use Rattle.replication.specs.Batches.{Carries, BatchAgrees, Batches}
 use Rattle.replication.proofs.Best.{holds-contained, greatest-top}
 use Rattle.replication.proofs.MachineGreatest.{greatest-equal}
 use Rattle.replication.proofs.MachineSteps.{numbered-mem, applies-commute, applies-twice}
-use Rattle.replication.proofs.Tables.{tables-equal, both-holds, in-span}
-use Rattle.replication.proofs.TablesSelected.{kept, kept-in}
-use Rattle.replication.proofs.ContentsValid.{lacks-exact}
-use Rattle.replication.proofs.AgreeForm.{form-unique}
-use Rattle.replication.proofs.AgreeInvariant.{StoreFollows, store-bounded, BatchFollows, kept-some, stored, Follows, grounds-store, own-alike, opens}
+use Rattle.replication.proofs.Tables.{find-item, find-all, tables-equal, both-holds, in-span}
+use Rattle.replication.proofs.TablesSelected.{kept, kept-in, kept-some}
+use Rattle.replication.proofs.ContentsValid.{store-exact, batch-exact, lacks-exact}
+use Rattle.replication.proofs.StoreBytes.{store-bytes}
+use Rattle.replication.proofs.BatchBytes.{batch-bytes}
+use Rattle.ticks.proofs.LawfulResults.{below-top}
+use Rattle.replication.specs.Valid.{LawfulRec, LawfulStore}
+use Rattle.ticks.proofs.Unique.{normal-unique}
+use Rattle.replication.proofs.AgreeInvariant.{StoreFollows, BatchFollows, stored, Follows}
 use Rattle.replication.proofs.AgreeEdit.{put-same, store-moved}
 use Rattle.replication.proofs.AgreeRun.{start-follows, Numbered, paired-number, batch-open-at, apply-step, run-follows}
 use Rattle.codec.specs.Parsed.{accepted}
+use Rattle.replication.specs.Record.{Rec}
+use Rattle.replication.specs.Call.{Call, Given}
 
 -- ---- a store is decided by ticks and versions
 
@@ -51,9 +57,9 @@ pub same-bytes : (L : Limits) (x y : List ℕ) (vs : List Rec) (k : Ticks) (p : 
 same-bytes L x y vs k p f g =
     let a : f .st .own ≡ g .st .own = f .own ∙ sym (g .own) in
     let b : f .st .knowledge ≡ g .st .knowledge =
-    form-unique L (f .st .knowledge) (g .st .knowledge) (f .form) (g .form) (λ i q h. f .ticks i q h ∙ sym (g .ticks i q h)) in
+    normal-unique (f .st .knowledge) (g .st .knowledge) (f .valid .normal) (g .valid .normal) (λ i q h. f .ticks i q h ∙ sym (g .ticks i q h)) in
     let c : f .st .records ≡ g .st .records =
-    tables-equal 0 (f .st .records) (g .st .records) (f .rising) (g .rising) (λ i. f .records i ∙ sym (g .records i)) in
+    tables-equal 0 (f .st .records) (g .st .records) (f .valid .rising) (g .valid .rising) (λ i. f .records i ∙ sym (g .records i)) in
     f .bytes ∙ (ap encodeStore (same-store (f .st) (g .st) a b c) ∙ sym (g .bytes))
   where
     same-store : (s t : Store) → s .own ≡ t .own → s .knowledge ≡ t .knowledge → s .records ≡ t .records → s ≡ t
@@ -78,102 +84,132 @@ begin p small =
 -- ---- the records of a batch
 
 module _ (L : Limits) (s : List ℕ) (vs : List Rec) (m : Remembered) (f : BatchFollows L s vs m) (i : ℕ) (r : Rec) where
-  batch-record : find i (f .b .records) ≡ some r → (greatest vs (m .ticks) i ≡ some r) × ((f .b .first ≤ i) × ((i ≤ f .b .last) × (known (f .b .needed) i (r .changeReplica) < r .changeTick)))
+  batch-record : find i (f .b .records) ≡ some r → Carries vs m (f .b) i r
   batch-record e =
       let h = kept-some (f .b .first) (f .b .last) (f .b .needed) (greatest vs (m .ticks) i) r (sym (f .records i) ∙ e) in
       let t = greatest-top vs (m .ticks) i r (h .0) in
       let d = in-span (f .b .first) (f .b .last) (r .item) .0 (h .1 .0) in
       let l : known (f .b .needed) (r .item) (r .changeReplica) < r .changeTick =
-      lacks-exact (f .b .needed) r (holds-contained (m .ticks) r (t .has) .0) .0 (h .1 .1) in (
-        h .0,
-        (omega (arith, d .0, t .item), (omega (arith, d .1, t .item), subst (λ (j : ℕ). known (f .b .needed) j (r .changeReplica) < r .changeTick) (t .item) l)),
-      )
+      lacks-exact (f .b .needed) r (holds-contained (m .ticks) r (t .has) .0) .0 (h .1 .1) in
+      record {
+        greatest = h .0;
+        above = omega (arith, d .0, t .item, f .first);
+        below = omega (arith, d .1, t .item, f .last);
+        lacked = subst (λ (j : ℕ). known (f .b .needed) j (r .changeReplica) < r .changeTick) (t .item) l;
+      }
 
-  record-batch : (greatest vs (m .ticks) i ≡ some r) × ((f .b .first ≤ i) × ((i ≤ f .b .last) × (known (f .b .needed) i (r .changeReplica) < r .changeTick))) → find i (f .b .records) ≡ some r
+  record-batch : Carries vs m (f .b) i r → find i (f .b .records) ≡ some r
   record-batch h =
-      let t = greatest-top vs (m .ticks) i r (h .0) in
+      let t = greatest-top vs (m .ticks) i r (h .greatest) in
       let l : known (f .b .needed) (r .item) (r .changeReplica) < r .changeTick =
-      subst (λ (j : ℕ). known (f .b .needed) j (r .changeReplica) < r .changeTick) (sym (t .item)) (h .1 .1 .1) in
+      subst (λ (j : ℕ). known (f .b .needed) j (r .changeReplica) < r .changeTick) (sym (t .item)) (h .lacked) in
       f .records i
-      ∙ (ap (kept (f .b .first) (f .b .last) (f .b .needed)) (h .0)
+      ∙ (ap (kept (f .b .first) (f .b .last) (f .b .needed)) (h .greatest)
       ∙ kept-in (f .b .first) (f .b .last) (f .b .needed) r
       (both-holds (inSpan (f .b .first) (f .b .last) (r .item)) (lacksChange (f .b .needed) r)
-      (in-span (f .b .first) (f .b .last) (r .item) .1 (omega (arith, h .1 .0, t .item), omega (arith, h .1 .1 .0, t .item)))
+      (in-span (f .b .first) (f .b .last) (r .item) .1 (omega (arith, h .above, t .item, f .first), omega (arith, h .below, t .item, f .last)))
       (lacks-exact (f .b .needed) r (holds-contained (m .ticks) r (t .has) .0) .1 l)))
 
-  carried-exact : (find i (f .b .records) ≡ some r) ↔ ((greatest vs (m .ticks) i ≡ some r) × ((f .b .first ≤ i) × ((i ≤ f .b .last) × (known (f .b .needed) i (r .changeReplica) < r .changeTick))))
-  carried-exact = (batch-record, record-batch)
+  carries-exact : (find i (f .b .records) ≡ some r) ↔ Carries vs m (f .b) i r
+  carries-exact = (batch-record, record-batch)
 
 -- ---- what bytes and machine that follow each other promise
 
+-- the bytes of a valid store or batch are those of no other
+pub store-one : (L : Limits) (s : List ℕ) (a b : Store) → Permitted L → IsStore L s a → IsStore L s b → a ≡ b
+store-one L s a b permitted x y =
+    let octets : Bytes s = subst Bytes (sym (x .bytes)) (store-bytes a) in
+    accepted-same a b
+    (sym (store-exact L s a permitted octets .1 (x .bytes, x .valid)) ∙ store-exact L s b permitted octets .1 (y .bytes, y .valid))
+
+pub batch-one : (L : Limits) (s : List ℕ) (a b : Batch) → Permitted L → IsBatch L s a → IsBatch L s b → a ≡ b
+batch-one L s a b permitted x y =
+    let octets : Bytes s = subst Bytes (sym (x .bytes)) (batch-bytes a) in
+    accepted-same a b
+    (sym (batch-exact L s a permitted octets .1 (x .bytes, x .valid)) ∙ batch-exact L s b permitted octets .1 (y .bytes, y .valid))
+
+-- valid tables with the same records up to the top id are the same
+pub records-equal : (L : Limits) (a b : Store) → LawfulStore L a → LawfulStore L b → ((i : ℕ) → i ≤ highest → find i (a .records) ≡ find i (b .records)) → a .records ≡ b .records
+records-equal L a b v w same = tables-equal 0 (a .records) (b .records) (v .rising) (w .rising) (λ i. go i (leb i highest) refl)
+  where
+    beyond : (st : Store) → LawfulStore L st → (i : ℕ) → highest < i → find i (st .records) ≡ none
+    beyond st v i h = by-case (find i (st .records)) refl
+      where
+        by-case : (o : Option Rec) → find i (st .records) ≡ o → find i (st .records) ≡ none
+        by-case none e = e
+        by-case (some r) e =
+            let l = find-all LawfulRec i (st .records) r (v .records) e in
+            absurd (omega (arith, h, find-item i (st .records) r e, below-top (r .item) (l .item)))
+
+    go : (i : ℕ) (t : Bool) → leb i highest ≡ t → find i (a .records) ≡ find i (b .records)
+    go i true e = same i (leb-true i highest e)
+    go i false e = beyond a v i (leb-false i highest e) ∙ sym (beyond b w i (leb-false i highest e))
+
 module _ (R : Rules) (permitted : Permitted (R .limits)) (w : World) (m : State) (f : Follows (R .limits) w m) where
-  pub agree : (p : ℕ) → p < 256 ^ 16 → Agrees (R .limits) w m p
+  pub agree : (p : ℕ) → p < 256 ^ 16 → Agrees (R .limits) (w .stores p) m p
   agree p small =
       let s = f .stores p small in
       record {
         store = s .st;
-        bytes = s .bytes;
-        opens = opens (R .limits) permitted w m f p small;
-        lawful = s .form .lawful;
-        normal = s .form .normal;
+        is = record { bytes = s .bytes; valid = s .valid };
         own = s .own;
         ticks = λ i q h l. s .ticks i q h;
-        rising = s .rising;
         records = λ i h. s .records i;
-        bounded =
-            store-bounded (R .limits) permitted (w .stores p) (m .versions) (m .ticks p) p s small (grounds-store m (f .good) (f .proper) p) (own-alike m (f .good) (f .proper) p);
       }
 
-  number : (n : ℕ) (s : List ℕ) → batchNumber n (w .batches) ≡ some s → Numbered R (m .versions) n s (m .batches)
-  number n s e = paired-number R (m .versions) n s (w .batches) (m .batches) (f .batches) e
+  number : (n : ℕ) (s : List ℕ) → batchNumber n (w .batches) ≡ some s → Numbered (R .limits) (m .versions) n s (m .batches)
+  number n s e = paired-number (R .limits) (m .versions) n s (w .batches) (m .batches) (f .batches) e
 
-  batches-open : (n : ℕ) (s : List ℕ) → batchNumber n (w .batches) ≡ some s → Opens (R .limits) s
-  batches-open n s e =
+  batches-valid : (n : ℕ) (s : List ℕ) → batchNumber n (w .batches) ≡ some s → (b : Batch) × IsBatch (R .limits) s b
+  batches-valid n s e =
       let x = number n s e in
-      record { batch = x .follows .b; bytes = x .follows .bytes; opens = batch-open-at R permitted w m f n s e x; lawful = (x .follows .needed .lawful, x .follows .learned .lawful) }
+      (x .follows .b, record { bytes = x .follows .bytes; valid = x .follows .valid })
 
   pub batches-agree : (n : ℕ) (s : List ℕ) → batchNumber n (w .batches) ≡ some s → BatchAgrees (R .limits) m n s
   batches-agree n s e =
       let x = number n s e in
       record {
         batch = x .follows .b;
-        opens = batch-open-at R permitted w m f n s e x;
+        is = record { bytes = x .follows .bytes; valid = x .follows .valid };
         remembered = x .b;
         remembers = x .is;
         first = x .follows .first;
         last = x .follows .last;
-        top = x .follows .top;
-        inside = x .follows .inside;
-        outside = x .follows .outside;
-        rising = x .follows .rising;
-        records = λ i r. carried-exact (R .limits) s (m .versions) (x .b) (x .follows) i r;
+        inside = λ i q a b l. x .follows .inside i q a b;
+        records = λ i r. carries-exact (R .limits) s (m .versions) (x .b) (x .follows) i r;
       }
 
-  pub equal-tables : (p q : ℕ) (a b : Store) → p < 256 ^ 16 → q < 256 ^ 16 → openStore (R .limits) (w .stores p) ≡ accepted a → openStore (R .limits) (w .stores q) ≡ accepted b → a .knowledge ≡ b .knowledge → a .records ≡ b .records
-  unfolding agree
-  equal-tables p q a b sp sq oa ob same =
-      let s = agree p sp in
-      let t = agree q sq in
-      let ea : s .store ≡ a = accepted-same (s .store) a (sym (s .opens) ∙ oa) in
-      let eb : t .store ≡ b = accepted-same (t .store) b (sym (t .opens) ∙ ob) in
-      let k : s .store .knowledge ≡ t .store .knowledge = ap (λ (x : Store). x .knowledge) ea ∙ (same ∙ ap (λ (x : Store). x .knowledge) (sym eb)) in
-      sym (ap (λ (x : Store). x .records) ea)
-      ∙ (tables-equal 0 (s .store .records) (t .store .records) (s .rising) (t .rising) (λ i. each k i (leb i highest) refl)
-      ∙ ap (λ (x : Store). x .records) eb)
+  -- the store that the bytes are of is the one that follows the machine
+  follows-one : (p : ℕ) (small : p < 256 ^ 16) (st : Store) → IsStore (R .limits) (w .stores p) st → f .stores p small .st ≡ st
+  follows-one p small st x =
+      store-one (R .limits) (w .stores p) (f .stores p small .st) st permitted
+      (record { bytes = f .stores p small .bytes; valid = f .stores p small .valid }) x
+
+  pub equal-tables : (p q : ℕ) (a b : Store) → p < 256 ^ 16 → q < 256 ^ 16 → IsStore (R .limits) (w .stores p) a → IsStore (R .limits) (w .stores q) b → SameKnown a b → a .records ≡ b .records
+  equal-tables p q a b sp sq xa xb same =
+      let ea : f .stores p sp .st ≡ a = follows-one p sp a xa in
+      let eb : f .stores q sq .st ≡ b = follows-one q sq b xb in
+      records-equal (R .limits) a b (xa .valid) (xb .valid)
+      (λ i h.
+      ap (λ (x : Store). find i (x .records)) (sym ea)
+      ∙ (f .stores p sp .records i
+      ∙ (greatest-equal (m .versions) (m .ticks p) (m .ticks q) i (λ r. ticks-equal ea eb i r h)
+      ∙ (sym (f .stores q sq .records i) ∙ ap (λ (x : Store). find i (x .records)) eb))))
     where
-      each : f .stores p sp .st .knowledge ≡ f .stores q sq .st .knowledge → (i : ℕ) → (t : Bool) → leb i highest ≡ t → find i (f .stores p sp .st .records) ≡ find i (f .stores q sq .st .records)
-      each k i true e =
-          let h : i ≤ highest = leb-true i highest e in
-          f .stores p sp .records i
-          ∙ (greatest-equal (m .versions) (m .ticks p) (m .ticks q) i
-          (λ r. sym (f .stores p sp .ticks i r h) ∙ (ap (λ (x : Knowledge). known x i r) k ∙ f .stores q sq .ticks i r h))
-          ∙ sym (f .stores q sq .records i))
-      each k i false e =
-          let h : highest < i = leb-false i highest e in
-          agree p sp .bounded i h ∙ sym (agree q sq .bounded i h)
+      -- an id of more than 16 bytes is known to neither
+      ticks-equal : f .stores p sp .st ≡ a → f .stores q sq .st ≡ b → (i r : ℕ) → i ≤ highest → m .ticks p i r ≡ m .ticks q i r
+      ticks-equal ea eb i r h = go (ltb r (256 ^ 16)) refl
+        where
+          go : (t : Bool) → ltb r (256 ^ 16) ≡ t → m .ticks p i r ≡ m .ticks q i r
+          go true e =
+              sym (f .stores p sp .ticks i r h)
+              ∙ (ap (λ (x : Store). known (x .knowledge) i r) ea
+              ∙ (same .same i r h (ltb-true r (256 ^ 16) e)
+              ∙ (ap (λ (x : Store). known (x .knowledge) i r) (sym eb) ∙ f .stores q sq .ticks i r h)))
+          go false e = f .good .strangers p i r (ltb-false r (256 ^ 16) e) ∙ sym (f .good .strangers q i r (ltb-false r (256 ^ 16) e))
 
   -- no batch knows more of a replica than the replica itself
-  own-behind : (p : ℕ) (small : p < 256 ^ 16) (n : ℕ) (s : List ℕ) (x : Numbered R (m .versions) n s (m .batches)) (i q : ℕ) → i ≤ highest → q ≡ p → known (x .follows .b .learned) i q ≤ known (f .stores p small .st .knowledge) i q
+  own-behind : (p : ℕ) (small : p < 256 ^ 16) (n : ℕ) (s : List ℕ) (x : Numbered (R .limits) (m .versions) n s (m .batches)) (i q : ℕ) → i ≤ highest → q ≡ p → known (x .follows .b .learned) i q ≤ known (f .stores p small .st .knowledge) i q
   own-behind p small n s x i q h e = go (leb (x .follows .b .first) i) refl (leb i (x .follows .b .last)) refl
     where
       go : (a : Bool) → leb (x .follows .b .first) i ≡ a → (b : Bool) → leb i (x .follows .b .last) ≡ b → known (x .follows .b .learned) i q ≤ known (f .stores p small .st .knowledge) i q
@@ -186,24 +222,24 @@ module _ (R : Rules) (permitted : Permitted (R .limits)) (w : World) (m : State)
             o,
             f .stores p small .ticks i q h,
           )
-      go true a false b = omega (arith, x .follows .outside i q h (inr (leb-false i (x .follows .b .last) b)))
-      go false a t b = omega (arith, x .follows .outside i q h (inl (leb-false (x .follows .b .first) i a)))
+      go true a false b = omega (arith, x .follows .valid .outside i q h (inr (leb-false i (x .follows .b .last) b)))
+      go false a t b = omega (arith, x .follows .valid .outside i q h (inl (leb-false (x .follows .b .first) i a)))
 
-  never-above : (p n i : ℕ) (s : List ℕ) (st : Store) (b : Batch) → p < 256 ^ 16 → i ≤ highest → batchNumber n (w .batches) ≡ some s → openStore (R .limits) (w .stores p) ≡ accepted st → openBatch (R .limits) s ≡ accepted b → known (b .learned) i (st .own) ≤ known (st .knowledge) i (st .own)
-  never-above p n i s st b small h e os ob =
+  never-above : (p n i : ℕ) (s : List ℕ) (st : Store) (b : Batch) → p < 256 ^ 16 → i ≤ highest → batchNumber n (w .batches) ≡ some s → IsStore (R .limits) (w .stores p) st → IsBatch (R .limits) s b → known (b .learned) i (st .own) ≤ known (st .knowledge) i (st .own)
+  never-above p n i s st b small h e xs xb =
       let x = number n s e in
       let f1 = f .stores p small in
-      let es : f1 .st ≡ st = accepted-same (f1 .st) st (sym (opens (R .limits) permitted w m f p small) ∙ os) in
-      let eb : x .follows .b ≡ b = accepted-same (x .follows .b) b (sym (batch-open-at R permitted w m f n s e x) ∙ ob) in
+      let es : f1 .st ≡ st = follows-one p small st xs in
+      let eb : x .follows .b ≡ b = batch-one (R .limits) s (x .follows .b) b permitted (record { bytes = x .follows .bytes; valid = x .follows .valid }) xb in
       subst (λ (y : Store). known (b .learned) i (y .own) ≤ known (y .knowledge) i (y .own)) es
       (subst (λ (y : Batch). known (y .learned) i (f1 .st .own) ≤ known (f1 .st .knowledge) i (f1 .st .own)) eb
       (own-behind p small n s x i (f1 .st .own) h (f1 .own)))
 
   -- so the test of 18's second half fails
-  pub ahead-fails : (p n : ℕ) (s : List ℕ) (st : Store) (b : Batch) → p < 256 ^ 16 → batchNumber n (w .batches) ≡ some s → openStore (R .limits) (w .stores p) ≡ accepted st → openBatch (R .limits) s ≡ accepted b → ownAhead st b ≡ false
+  pub ahead-fails : (p n : ℕ) (s : List ℕ) (st : Store) (b : Batch) → p < 256 ^ 16 → batchNumber n (w .batches) ≡ some s → IsStore (R .limits) (w .stores p) st → IsBatch (R .limits) s b → ownAhead st b ≡ false
   unfolding ownAhead
-  ahead-fails p n s st b small e os ob =
-      ap not (covers-for-exact (st .own ∷ []) (st .knowledge) (b .learned) 0 highest .1 (record { known = λ i q l h a. ⊎-elim (λ (d : q ≡ st .own). subst (λ (y : ℕ). known (b .learned) i y ≤ known (st .knowledge) i y) (sym d) (never-above p n i s st b small h e os ob)) (λ z. absurd z) a }))
+  ahead-fails p n s st b small e xs xb =
+      ap not (covers-for-exact (st .own ∷ []) (st .knowledge) (b .learned) 0 highest .1 (record { known = λ i q l h a. ⊎-elim (λ (d : q ≡ st .own). subst (λ (y : ℕ). known (b .learned) i y ≤ known (st .knowledge) i y) (sym d) (never-above p n i s st b small h e xs xb)) (λ z. absurd z) a }))
 
 -- ---- two applies
 
@@ -215,7 +251,7 @@ module _ (R : Rules) (permitted : Permitted (R .limits)) where
 
   module _ (w : World) (m : State) (f : Follows (R .limits) w m) (p : ℕ) (small : p < 256 ^ 16) where
     -- the same batch, seen from the world after an apply
-    number-after : (n : ℕ) (s : List ℕ) (b : Remembered) (bs : List ℕ) (x : Numbered R (m .versions) n s (m .batches)) → Numbered R (applies p (some b) m .versions) n s (applies p (some b) m .batches)
+    number-after : (n : ℕ) (s : List ℕ) (b : Remembered) (bs : List ℕ) (x : Numbered (R .limits) (m .versions) n s (m .batches)) → Numbered (R .limits) (applies p (some b) m .versions) n s (applies p (some b) m .batches)
     unfolding applies
     number-after n s b bs x = x
 
@@ -228,7 +264,7 @@ module _ (R : Rules) (permitted : Permitted (R .limits)) where
     kept-store bs = put-same p p bs (w .stores) refl
 
     -- after two applies the bytes are of a store that follows the machine after both
-    after-two : (n1 n2 room1 room2 : ℕ) (a b middle x : List ℕ) (u : Numbered R (m .versions) n1 a (m .batches)) (v : Numbered R (m .versions) n2 b (m .batches)) → batchNumber n1 (w .batches) ≡ some a → batchNumber n2 (w .batches) ≡ some b → outcome (applyReply (R .limits) (w .stores p) a) room1 ≡ some middle → outcome (applyReply (R .limits) middle b) room2 ≡ some x → StoreFollows (R .limits) x (applies p (some (v .b)) (applies p (some (u .b)) m) .versions) (applies p (some (v .b)) (applies p (some (u .b)) m) .ticks p) p
+    after-two : (n1 n2 room1 room2 : ℕ) (a b middle x : List ℕ) (u : Numbered (R .limits) (m .versions) n1 a (m .batches)) (v : Numbered (R .limits) (m .versions) n2 b (m .batches)) → batchNumber n1 (w .batches) ≡ some a → batchNumber n2 (w .batches) ≡ some b → outcome (applyReply (R .limits) (w .stores p) a) room1 ≡ some middle → outcome (applyReply (R .limits) middle b) room2 ≡ some x → StoreFollows (R .limits) x (applies p (some (v .b)) (applies p (some (u .b)) m) .versions) (applies p (some (v .b)) (applies p (some (u .b)) m) .ticks p) p
     unfolding applies
     after-two n1 n2 room1 room2 a b middle x u v ea eb first second =
         let g = apply-step R permitted w m f p n1 room1 a middle small ea u first in
@@ -240,8 +276,8 @@ module _ (R : Rules) (permitted : Permitted (R .limits)) where
     pub either-order : (n1 n2 : ℕ) (a b x y : List ℕ) → batchNumber n1 (w .batches) ≡ some a → batchNumber n2 (w .batches) ≡ some b → Twofold (R .limits) (w .stores p) a b x → Twofold (R .limits) (w .stores p) b a y → x ≡ y
     unfolding applies
     either-order n1 n2 a b x y ea eb t1 t2 =
-        let u = paired-number R (m .versions) n1 a (w .batches) (m .batches) (f .batches) ea in
-        let v = paired-number R (m .versions) n2 b (w .batches) (m .batches) (f .batches) eb in
+        let u = paired-number (R .limits) (m .versions) n1 a (w .batches) (m .batches) (f .batches) ea in
+        let v = paired-number (R .limits) (m .versions) n2 b (w .batches) (m .batches) (f .batches) eb in
         same-bytes (R .limits) x y (m .versions) (applies p (some (u .b)) (applies p (some (v .b)) m) .ticks p) p
         (store-moved (R .limits) x (m .versions) (applies p (some (v .b)) (applies p (some (u .b)) m) .ticks p) (applies p (some (u .b)) (applies p (some (v .b)) m) .ticks p) p
         (λ i q. applies-commute p (u .b) (v .b) m p i q)
@@ -251,7 +287,7 @@ module _ (R : Rules) (permitted : Permitted (R .limits)) where
     pub twice-once : (n room1 room2 : ℕ) (a x y : List ℕ) → batchNumber n (w .batches) ≡ some a → outcome (applyReply (R .limits) (w .stores p) a) room1 ≡ some x → outcome (applyReply (R .limits) x a) room2 ≡ some y → x ≡ y
     unfolding applies
     twice-once n room1 room2 a x y ea first second =
-        let u = paired-number R (m .versions) n a (w .batches) (m .batches) (f .batches) ea in
+        let u = paired-number (R .limits) (m .versions) n a (w .batches) (m .batches) (f .batches) ea in
         same-bytes (R .limits) x y (m .versions) (applies p (some (u .b)) m .ticks p) p
         (store-after w (applies p (some (u .b)) m) p x small (apply-step R permitted w m f p n room1 a x small ea u first))
         (store-moved (R .limits) y (m .versions) (applies p (some (u .b)) (applies p (some (u .b)) m) .ticks p) (applies p (some (u .b)) m .ticks p) p
@@ -263,7 +299,7 @@ module _ (R : Rules) (permitted : Permitted (R .limits)) where
 pub ends-follow : (R : Rules) → Permitted (R .limits) → (calls : List Call) → All Given calls → Follows (R .limits) (ends R calls) (machine R calls)
 unfolding ends machine
 ends-follow R permitted calls given =
-    run-follows R permitted start initial calls (start-follows R (permitted .someRange)) given
+    run-follows R permitted start initial calls (start-follows (R .limits) permitted) given
 
 pub demand3 : (R : Rules) → Permitted (R .limits) → (calls : List Call) → All Given calls → Promise R calls
 demand3 R permitted calls given =
@@ -273,9 +309,9 @@ demand3 R permitted calls given =
     record {
       begins = begin;
       agrees = agree R permitted w m f;
-      batches = batches-open R permitted w m f;
+      batches = batches-valid R permitted w m f;
       eitherOrder = λ p n1 n2 a b x y small ea eb t1 t2. either-order R permitted w m f p small n1 n2 a b x y ea eb t1 t2;
-      twice = λ p n room1 room2 a x y small ea first second. twice-once R permitted w m f p small n room1 room2 a x y ea first second;
+      twice = λ p n a x y room1 room2 small ea first second. twice-once R permitted w m f p small n room1 room2 a x y ea first second;
       equalTables = equal-tables R permitted w m f;
       never18 = never-above R permitted w m f;
     }
@@ -283,11 +319,6 @@ demand3 R permitted calls given =
 -- document 01's limits
 pub demand3-basic : (calls : List Call) → All Given calls → Promise basic calls
 demand3-basic calls given = demand3 basic base-permitted calls given
-
--- the second half of 18, as apply tests it, never holds
-pub never-ahead : (R : Rules) → Permitted (R .limits) → (calls : List Call) → All Given calls → (p n : ℕ) (s : List ℕ) (st : Store) (b : Batch) → p < 256 ^ 16 → batchNumber n (ends R calls .batches) ≡ some s → openStore (R .limits) (ends R calls .stores p) ≡ accepted st → openBatch (R .limits) s ≡ accepted b → ownAhead st b ≡ false
-never-ahead R permitted calls given =
-    ahead-fails R permitted (ends R calls) (machine R calls) (ends-follow R permitted calls given)
 
 -- every batch is what the machine remembers of it
 pub demand3-batches : (R : Rules) → Permitted (R .limits) → (calls : List Call) → All Given calls → Batches R calls

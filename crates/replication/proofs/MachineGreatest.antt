@@ -11,10 +11,10 @@ use mathlib.Core.Option.{Option, none, some}
 use native.Mathlib.Omega.{arith}
 use lib.Dec.{leb, ltb, eqb}
 use borrow.Author.Tests.{le-ltb, eqb-true}
-use Rattle.replication.specs.Formats.{Rec}
 use Rattle.replication.specs.Operate.{wins, winnerOf}
 use Rattle.replication.specs.Machine.{Ticks, holds, later, better, greatest}
 use Rattle.replication.proofs.Best.{Mem, contained-holds, holds-contained, not-contained, not-holds-above, at-most-trans, later-true, later-false, later-below, Top, Greatest, Apart, greatest-unique, greatest-same, skips, lacks, takes, considered, greatest-nil, greatest-skips, greatest-takes, greatest-lacks, better-none, better-later, greatest-is, greatest-top, greatest-mem, greatest-item, greatest-none}
+use Rattle.replication.specs.Record.{Rec}
 
 -- ---- other ticks
 

@@ -12,12 +12,13 @@ use native.Mathlib.Omega.{arith}
 use lib.Dec.{leb}
 use borrow.Author.Tests.{leb-true, leb-false}
 use Rattle.layout.specs.Knowledge.{Rules, All}
-use Rattle.replication.specs.Formats.{Rec}
-use Rattle.replication.specs.Lists.{Call, Given, edit, delete, make, apply, World, writes, keep, Fed, trace}
-use Rattle.replication.specs.Machine.{Ticks, Remembered, State, initial, value, numbered, applies, acts, history}
+use Rattle.replication.specs.Lists.{World, writes, keep, trace}
+use Rattle.replication.specs.Machine.{Ticks, Remembered, State, initial, value, applies, acts, history, live, dead, rememberedAt}
 use Rattle.replication.proofs.Best.{Mem, mem-added, Contained}
 use Rattle.replication.proofs.MachineSteps.{numbered-mem, takenBy, unchanged, raised, learned, applies-versions, applies-batches}
 use Rattle.replication.proofs.MachineLaws.{Good, good-initial, good-changes}
+use Rattle.replication.specs.Record.{Rec}
+use Rattle.replication.specs.Call.{edit, delete, make, apply, Call, Fed, Given}
 
 -- ---- a make
 
@@ -110,12 +111,12 @@ module _ (who : ℕ) (b : Remembered) (m : State) (here : Mem b (m .batches)) (g
 
 pub good-acts : (m : State) (c : Call) → Given c → Good m → Good (acts m c)
 unfolding acts
-good-acts m (edit who item tag room) h g = good-changes 1 who (value 0 item) (value 0 tag) m (h .0) g
-good-acts m (delete who item room) h g = good-changes 2 who (value 0 item) 0 m (h .0) g
+good-acts m (edit who item b room) h g = good-changes (live b) who (value 0 item) m (h .0) g
+good-acts m (delete who item room) h g = good-changes dead who (value 0 item) m (h .0) g
 good-acts m (make who knowledge first last room) h g = good-make who (value 0 first) (value 0 last) m g
-good-acts m (apply who which room) h g = go (numbered which (m .batches)) refl
+good-acts m (apply who which room) h g = go (rememberedAt which (m .batches)) refl
   where
-    go : (o : Option Remembered) → numbered which (m .batches) ≡ o → Good (applies who o m)
+    go : (o : Option Remembered) → rememberedAt which (m .batches) ≡ o → Good (applies who o m)
     go none e = unfold applies in g
     go (some b) e = good-apply who b m (numbered-mem which (m .batches) b e) g
 

@@ -13,11 +13,11 @@ use mathlib.Core.Option.{Option, none, some}
 use native.Mathlib.Nat.{le-trans, lt-irrefl}
 use native.Mathlib.Omega.{arith}
 use Rattle.codec.proofs.Numbers.{power-positive}
-use Rattle.replication.specs.Formats.{Rec}
 use Rattle.replication.specs.Machine.{Remembered, State, initial, greatest, changes}
 use Rattle.replication.proofs.Best.{Mem, mem-added, Contained, holds-contained, Apart, greatest-mem, greatest-item, greatest-holds}
 use Rattle.replication.proofs.Supremum.{largest-known-bounds}
 use Rattle.replication.proofs.MachineSteps.{nextOf, newVersion, new-item, new-replica, new-tick, new-created, new-inherits, changes-versions, changes-batches, changes-own, changes-same, own, other, whose}
+use Rattle.replication.specs.Record.{Rec, Content}
 
 -- a version made
 pub record Made (m : State) (r : Rec) : Type 0 where
@@ -58,7 +58,7 @@ good-initial =
 
 -- ---- an edit or delete
 
-module _ (kind who item tag : ℕ) (m : State) (id : who < 256 ^ 16) (g : Good m) where
+module _ (content : Content) (who item : ℕ) (m : State) (id : who < 256 ^ 16) (g : Good m) where
   -- its tick is above what anybody knows of the maker
   pub next-above : (q i p : ℕ) → who ≡ p → m .ticks q i p < nextOf who m
   next-above q i p e =
@@ -72,42 +72,42 @@ module _ (kind who item tag : ℕ) (m : State) (id : who < 256 ^ 16) (g : Good m
 
   -- so the new version is contained in nothing that is known before, at its maker, at any other replica or in any
   -- batch
-  pub fresh : (q : ℕ) → Contained (m .ticks q) (newVersion kind who item tag m) → ⊥
+  pub fresh : (q : ℕ) → Contained (m .ticks q) (newVersion content who item m) → ⊥
   fresh q c =
-      omega (arith, next-above q (newVersion kind who item tag m .item) (newVersion kind who item tag m .changeReplica) (sym (new-replica kind who item tag m)), new-tick kind who item tag m)
+      omega (arith, next-above q (newVersion content who item m .item) (newVersion content who item m .changeReplica) (sym (new-replica content who item m)), new-tick content who item m)
 
-  pub fresh-batch : (b : Remembered) → Mem b (m .batches) → Contained (b .ticks) (newVersion kind who item tag m) → ⊥
+  pub fresh-batch : (b : Remembered) → Mem b (m .batches) → Contained (b .ticks) (newVersion content who item m) → ⊥
   fresh-batch b n c =
-      omega (arith, next-above-batch b n (newVersion kind who item tag m .item) (newVersion kind who item tag m .changeReplica) (sym (new-replica kind who item tag m)), new-tick kind who item tag m)
+      omega (arith, next-above-batch b n (newVersion content who item m .item) (newVersion content who item m .changeReplica) (sym (new-replica content who item m)), new-tick content who item m)
 
   -- ticks only grow
-  pub changes-grows : (q i p : ℕ) → m .ticks q i p ≤ changes kind who item tag m .ticks q i p
+  pub changes-grows : (q i p : ℕ) → m .ticks q i p ≤ changes content who item m .ticks q i p
   changes-grows q i p =
       elim (whose who q p) [
-        | own e d ↦ omega (arith, changes-own kind who item tag m q i p e d, next-above q i p d)
-        | other n ↦ omega (arith, changes-same kind who item tag m q i p n)
+        | own e d ↦ omega (arith, changes-own content who item m q i p e d, next-above q i p d)
+        | other n ↦ omega (arith, changes-same content who item m q i p n)
       ]
 
   -- a version of before that the new ticks contain was contained before
-  pub contained-before : (r : Rec) → Mem r (m .versions) → (q : ℕ) → Contained (changes kind who item tag m .ticks q) r → Contained (m .ticks q) r
+  pub contained-before : (r : Rec) → Mem r (m .versions) → (q : ℕ) → Contained (changes content who item m .ticks q) r → Contained (m .ticks q) r
   contained-before r n q c =
       elim (whose who q (r .changeReplica)) [
         | own e d ↦ (c .0, rw (sym e ∙ d) (g .made r n .within (r .item)))
-        | other o ↦ (c .0, omega (arith, changes-same kind who item tag m q (r .item) (r .changeReplica) o))
+        | other o ↦ (c .0, omega (arith, changes-same content who item m q (r .item) (r .changeReplica) o))
       ]
 
-  changes-replicas : (q p i j : ℕ) → changes kind who item tag m .ticks q i p ≤ changes kind who item tag m .ticks p j p
+  changes-replicas : (q p i j : ℕ) → changes content who item m .ticks q i p ≤ changes content who item m .ticks p j p
   changes-replicas q p i j =
       elim (whose who p p) [
         | own e d ↦
             elim (whose who q p) [
-              | own f h ↦ omega (arith, changes-own kind who item tag m q i p f h, changes-own kind who item tag m p j p d d)
-              | other n ↦ omega (arith, changes-same kind who item tag m q i p n, changes-own kind who item tag m p j p d d, next-above q i p d)
+              | own f h ↦ omega (arith, changes-own content who item m q i p f h, changes-own content who item m p j p d d)
+              | other n ↦ omega (arith, changes-same content who item m q i p n, changes-own content who item m p j p d d, next-above q i p d)
             ]
-        | other n ↦ omega (arith, changes-same kind who item tag m q i p (λ e d. n d d), changes-same kind who item tag m p j p n, g .replicas q p i j)
+        | other n ↦ omega (arith, changes-same content who item m q i p (λ e d. n d d), changes-same content who item m p j p n, g .replicas q p i j)
       ]
 
-  old-made : (r : Rec) → Mem r (m .versions) → Made (changes kind who item tag m) r
+  old-made : (r : Rec) → Mem r (m .versions) → Made (changes content who item m) r
   old-made r n =
       let a = g .made r n in
       record {
@@ -124,22 +124,22 @@ module _ (kind who item tag : ℕ) (m : State) (id : who < 256 ^ 16) (g : Good m
     createTick : 1 ≤ r .createTick
     createReplica : r .createReplica < 256 ^ 16
     order : item < 256 ^ 24 → r .createTick ≤ nextOf who m
-    within : (q : ℕ) → who ≡ q → r .createTick ≤ changes kind who item tag m .ticks q item (r .createReplica)
+    within : (q : ℕ) → who ≡ q → r .createTick ≤ changes content who item m .ticks q item (r .createReplica)
 
-  new-create : NewCreate (newVersion kind who item tag m)
+  new-create : NewCreate (newVersion content who item m)
   new-create = go (greatest (m .versions) (m .ticks who) item) refl
     where
-      go : (o : Option Rec) → greatest (m .versions) (m .ticks who) item ≡ o → NewCreate (newVersion kind who item tag m)
+      go : (o : Option Rec) → greatest (m .versions) (m .ticks who) item ≡ o → NewCreate (newVersion content who item m)
       go none e =
-          let c = new-created kind who item tag m e in
+          let c = new-created content who item m e in
           record {
             createTick = omega arith;
             createReplica = rw (c .0) id;
             order = λ h. omega arith;
-            within = λ q d. omega (arith, changes-own kind who item tag m q item (newVersion kind who item tag m .createReplica) d (sym (c .0)));
+            within = λ q d. omega (arith, changes-own content who item m q item (newVersion content who item m .createReplica) d (sym (c .0)));
           }
       go (some v) e =
-          let c = new-inherits kind who item tag m v e in
+          let c = new-inherits content who item m v e in
           let n = greatest-mem (m .versions) (m .ticks who) item v e in
           let a = g .made v n in
           let h = holds-contained (m .ticks who) v (greatest-holds (m .versions) (m .ticks who) item v e) in
@@ -151,64 +151,64 @@ module _ (kind who item tag : ℕ) (m : State) (id : who < 256 ^ 16) (g : Good m
                 let k : v .item < 256 ^ 24 = rw i l in
                 omega (arith, a .order k, largest-known-bounds (m .ticks who) (v .item) (v .changeReplica) k (a .replica));
             within = λ q d.
-                le-trans (rw (c .1, c .0, ← d) (rw i at (g .creates v n who h))) (changes-grows q item (newVersion kind who item tag m .createReplica));
+                le-trans (rw (c .1, c .0, ← d) (rw i at (g .creates v n who h))) (changes-grows q item (newVersion content who item m .createReplica));
           }
 
-  new-made : Made (changes kind who item tag m) (newVersion kind who item tag m)
+  new-made : Made (changes content who item m) (newVersion content who item m)
   new-made =
       record {
-        tick = omega (arith, new-tick kind who item tag m);
-        within = λ j. omega (arith, new-tick kind who item tag m, changes-own kind who item tag m (newVersion kind who item tag m .changeReplica) j (newVersion kind who item tag m .changeReplica) (sym (new-replica kind who item tag m)) (sym (new-replica kind who item tag m)));
-        replica = rw (new-replica kind who item tag m) id;
+        tick = omega (arith, new-tick content who item m);
+        within = λ j. omega (arith, new-tick content who item m, changes-own content who item m (newVersion content who item m .changeReplica) j (newVersion content who item m .changeReplica) (sym (new-replica content who item m)) (sym (new-replica content who item m)));
+        replica = rw (new-replica content who item m) id;
         createTick = new-create .createTick;
         createReplica = new-create .createReplica;
-        order = λ h. omega (arith, new-tick kind who item tag m, new-create .order (rw (new-item kind who item tag m) at h));
+        order = λ h. omega (arith, new-tick content who item m, new-create .order (rw (new-item content who item m) at h));
       }
 
   -- a version of before has another tick than the new one, or another replica
-  old-new : (v : Rec) → Mem v (m .versions) → v .changeReplica ≡ newVersion kind who item tag m .changeReplica → v .changeTick ≡ newVersion kind who item tag m .changeTick → ⊥
+  old-new : (v : Rec) → Mem v (m .versions) → v .changeReplica ≡ newVersion content who item m .changeReplica → v .changeTick ≡ newVersion content who item m .changeTick → ⊥
   old-new v n e d =
-      omega (arith, g .made v n .within 0, next-above (v .changeReplica) 0 (v .changeReplica) (sym (e ∙ new-replica kind who item tag m)), new-tick kind who item tag m)
+      omega (arith, g .made v n .within 0, next-above (v .changeReplica) 0 (v .changeReplica) (sym (e ∙ new-replica content who item m)), new-tick content who item m)
 
-  changes-apart : Apart (m .versions ++ (newVersion kind who item tag m ∷ []))
-  changes-apart v w n o e d = go (mem-added v (newVersion kind who item tag m) (m .versions) n) (mem-added w (newVersion kind who item tag m) (m .versions) o)
+  changes-apart : Apart (m .versions ++ (newVersion content who item m ∷ []))
+  changes-apart v w n o e d = go (mem-added v (newVersion content who item m) (m .versions) n) (mem-added w (newVersion content who item m) (m .versions) o)
     where
-      go : Mem v (m .versions) ⊎ (v ≡ newVersion kind who item tag m) → Mem w (m .versions) ⊎ (w ≡ newVersion kind who item tag m) → v ≡ w
+      go : Mem v (m .versions) ⊎ (v ≡ newVersion content who item m) → Mem w (m .versions) ⊎ (w ≡ newVersion content who item m) → v ≡ w
       go (inl a) (inl b) = g .apart v w a b e d
       go (inl a) (inr b) = absurd (old-new v a (e ∙ ap (λ (x : Rec). x .changeReplica) b) (d ∙ ap (λ (x : Rec). x .changeTick) b))
       go (inr a) (inl b) = absurd (old-new w b (sym e ∙ ap (λ (x : Rec). x .changeReplica) a) (sym d ∙ ap (λ (x : Rec). x .changeTick) a))
       go (inr a) (inr b) = a ∙ sym b
 
-  changes-strangers : (q i p : ℕ) → 256 ^ 16 ≤ p → changes kind who item tag m .ticks q i p ≡ 0
+  changes-strangers : (q i p : ℕ) → 256 ^ 16 ≤ p → changes content who item m .ticks q i p ≡ 0
   changes-strangers q i p h =
       elim (whose who q p) [
         | own e d ↦ absurd (lt-irrefl p (le-trans (rw d at id) h))
-        | other n ↦ changes-same kind who item tag m q i p n ∙ g .strangers q i p h
+        | other n ↦ changes-same content who item m q i p n ∙ g .strangers q i p h
       ]
 
-  changes-creates : (r : Rec) → Mem r (m .versions ++ (newVersion kind who item tag m ∷ [])) → (q : ℕ) → Contained (changes kind who item tag m .ticks q) r → r .createTick ≤ changes kind who item tag m .ticks q (r .item) (r .createReplica)
-  changes-creates r n q c = go (mem-added r (newVersion kind who item tag m) (m .versions) n)
+  changes-creates : (r : Rec) → Mem r (m .versions ++ (newVersion content who item m ∷ [])) → (q : ℕ) → Contained (changes content who item m .ticks q) r → r .createTick ≤ changes content who item m .ticks q (r .item) (r .createReplica)
+  changes-creates r n q c = go (mem-added r (newVersion content who item m) (m .versions) n)
     where
-      new : Contained (changes kind who item tag m .ticks q) (newVersion kind who item tag m) → newVersion kind who item tag m .createTick ≤ changes kind who item tag m .ticks q (newVersion kind who item tag m .item) (newVersion kind who item tag m .createReplica)
+      new : Contained (changes content who item m .ticks q) (newVersion content who item m) → newVersion content who item m .createTick ≤ changes content who item m .ticks q (newVersion content who item m .item) (newVersion content who item m .createReplica)
       new h =
-          elim (whose who q (newVersion kind who item tag m .changeReplica)) [
-            | own e d ↦ rw (new-item kind who item tag m) (new-create .within q e)
-            | other o ↦ absurd (fresh q (h .0, omega (arith, changes-same kind who item tag m q (newVersion kind who item tag m .item) (newVersion kind who item tag m .changeReplica) o)))
+          elim (whose who q (newVersion content who item m .changeReplica)) [
+            | own e d ↦ rw (new-item content who item m) (new-create .within q e)
+            | other o ↦ absurd (fresh q (h .0, omega (arith, changes-same content who item m q (newVersion content who item m .item) (newVersion content who item m .changeReplica) o)))
           ]
 
-      go : Mem r (m .versions) ⊎ (r ≡ newVersion kind who item tag m) → r .createTick ≤ changes kind who item tag m .ticks q (r .item) (r .createReplica)
+      go : Mem r (m .versions) ⊎ (r ≡ newVersion content who item m) → r .createTick ≤ changes content who item m .ticks q (r .item) (r .createReplica)
       go (inl a) = le-trans (g .creates r a q (contained-before r a q c)) (changes-grows q (r .item) (r .createReplica))
       go (inr e) = rw e (new (rw e at c))
 
-  changes-carries : (r : Rec) → Mem r (m .versions ++ (newVersion kind who item tag m ∷ [])) → (b : Remembered) → Mem b (m .batches) → Contained (b .ticks) r → r .createTick ≤ b .ticks (r .item) (r .createReplica)
+  changes-carries : (r : Rec) → Mem r (m .versions ++ (newVersion content who item m ∷ [])) → (b : Remembered) → Mem b (m .batches) → Contained (b .ticks) r → r .createTick ≤ b .ticks (r .item) (r .createReplica)
   changes-carries r n b o c =
-      ⊎-elim (λ (a : Mem r (m .versions)). g .carries r a b o c) (λ (e : r ≡ newVersion kind who item tag m). absurd (fresh-batch b o (rw e at c))) (mem-added r (newVersion kind who item tag m) (m .versions) n)
+      ⊎-elim (λ (a : Mem r (m .versions)). g .carries r a b o c) (λ (e : r ≡ newVersion content who item m). absurd (fresh-batch b o (rw e at c))) (mem-added r (newVersion content who item m) (m .versions) n)
 
-  changes-made : (r : Rec) → Mem r (m .versions ++ (newVersion kind who item tag m ∷ [])) → Made (changes kind who item tag m) r
+  changes-made : (r : Rec) → Mem r (m .versions ++ (newVersion content who item m ∷ [])) → Made (changes content who item m) r
   changes-made r n =
-      ⊎-elim (λ (a : Mem r (m .versions)). old-made r a) (λ (e : r ≡ newVersion kind who item tag m). rw e new-made) (mem-added r (newVersion kind who item tag m) (m .versions) n)
+      ⊎-elim (λ (a : Mem r (m .versions)). old-made r a) (λ (e : r ≡ newVersion content who item m). rw e new-made) (mem-added r (newVersion content who item m) (m .versions) n)
 
-  pub good-changes : Good (changes kind who item tag m)
+  pub good-changes : Good (changes content who item m)
   good-changes =
       record {
         replicas = changes-replicas;

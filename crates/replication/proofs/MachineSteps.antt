@@ -10,9 +10,9 @@ use mathlib.Core.Option.{Option, none, some}
 use native.Mathlib.Omega.{arith}
 use lib.Dec.{ltb, eqb}
 use borrow.Author.Tests.{lt-ltb, le-ltb, eq-eqb, ne-eqb, ltb-true, ltb-false, eqb-true, eqb-false}
-use Rattle.replication.specs.Formats.{Rec}
-use Rattle.replication.specs.Machine.{Ticks, Remembered, State, largestKnown, greatest, recordOf, withTicks, ownTick, changes, learns, numbered, applies}
+use Rattle.replication.specs.Machine.{Ticks, Remembered, State, largestKnown, greatest, recordOf, withTicks, ownTick, changes, learns, applies, rememberedAt}
 use Rattle.replication.proofs.Best.{Mem}
+use Rattle.replication.specs.Record.{Content, Rec}
 
 -- ---- the pieces
 
@@ -48,8 +48,8 @@ pub learns-inside : (b : Remembered) (k : Ticks) (i p : ℕ) → b .first ≤ i 
 unfolding learns
 learns-inside b k i p h l = rw (le-ltb i (b .first) h, le-ltb (b .last) i l, learns)
 
-pub numbered-mem : (n : ℕ) (bs : List Remembered) (b : Remembered) → numbered n bs ≡ some b → Mem b bs
-unfolding numbered
+pub numbered-mem : (n : ℕ) (bs : List Remembered) (b : Remembered) → rememberedAt n bs ≡ some b → Mem b bs
+unfolding rememberedAt
 numbered-mem zero [] b e = let z : _≡_ {A = ℕ} 0 1 = cc in absurd (omega arith)
 numbered-mem (suc n) [] b e = let z : _≡_ {A = ℕ} 0 1 = cc in absurd (omega arith)
 numbered-mem zero (x ∷ xs) b e = inl (cc)
@@ -61,72 +61,72 @@ numbered-mem (suc n) (x ∷ xs) b e = inr (numbered-mem n xs b e)
 abbrev pub nextOf : ℕ → State → ℕ
 nextOf who m = 1 + largestKnown (m .ticks who)
 
-unfoldable pub newVersion : ℕ → ℕ → ℕ → ℕ → State → Rec
-newVersion kind who item tag m = recordOf kind item who (nextOf who m) tag (greatest (m .versions) (m .ticks who) item)
+unfoldable pub newVersion : Content → ℕ → ℕ → State → Rec
+newVersion content who item m = recordOf content item who (nextOf who m) (greatest (m .versions) (m .ticks who) item)
 
-record-item : (kind item who t tag : ℕ) (o : Option Rec) → recordOf kind item who t tag o .item ≡ item
+record-item : (content : Content) (item who t : ℕ) (o : Option Rec) → recordOf content item who t o .item ≡ item
 unfolding recordOf
-record-item kind item who t tag none = refl
-record-item kind item who t tag (some g) = refl
+record-item content item who t none = refl
+record-item content item who t (some g) = refl
 
-record-replica : (kind item who t tag : ℕ) (o : Option Rec) → recordOf kind item who t tag o .changeReplica ≡ who
+record-replica : (content : Content) (item who t : ℕ) (o : Option Rec) → recordOf content item who t o .changeReplica ≡ who
 unfolding recordOf
-record-replica kind item who t tag none = refl
-record-replica kind item who t tag (some g) = refl
+record-replica content item who t none = refl
+record-replica content item who t (some g) = refl
 
-record-tick : (kind item who t tag : ℕ) (o : Option Rec) → recordOf kind item who t tag o .changeTick ≡ t
+record-tick : (content : Content) (item who t : ℕ) (o : Option Rec) → recordOf content item who t o .changeTick ≡ t
 unfolding recordOf
-record-tick kind item who t tag none = refl
-record-tick kind item who t tag (some g) = refl
+record-tick content item who t none = refl
+record-tick content item who t (some g) = refl
 
-module _ (kind who item tag : ℕ) (m : State) where
-  pub new-item : newVersion kind who item tag m .item ≡ item
+module _ (content : Content) (who item : ℕ) (m : State) where
+  pub new-item : newVersion content who item m .item ≡ item
   unfolding newVersion
-  new-item = record-item kind item who (nextOf who m) tag (greatest (m .versions) (m .ticks who) item)
+  new-item = record-item content item who (nextOf who m) (greatest (m .versions) (m .ticks who) item)
 
-  pub new-replica : newVersion kind who item tag m .changeReplica ≡ who
+  pub new-replica : newVersion content who item m .changeReplica ≡ who
   unfolding newVersion
-  new-replica = record-replica kind item who (nextOf who m) tag (greatest (m .versions) (m .ticks who) item)
+  new-replica = record-replica content item who (nextOf who m) (greatest (m .versions) (m .ticks who) item)
 
-  pub new-tick : newVersion kind who item tag m .changeTick ≡ nextOf who m
+  pub new-tick : newVersion content who item m .changeTick ≡ nextOf who m
   unfolding newVersion
-  new-tick = record-tick kind item who (nextOf who m) tag (greatest (m .versions) (m .ticks who) item)
+  new-tick = record-tick content item who (nextOf who m) (greatest (m .versions) (m .ticks who) item)
 
   -- its create version is the version itself where the maker contains no version of the item, and else that of the
   -- greatest one
-  pub new-created : greatest (m .versions) (m .ticks who) item ≡ none → (newVersion kind who item tag m .createReplica ≡ who) × (newVersion kind who item tag m .createTick ≡ nextOf who m)
+  pub new-created : greatest (m .versions) (m .ticks who) item ≡ none → (newVersion content who item m .createReplica ≡ who) × (newVersion content who item m .createTick ≡ nextOf who m)
   unfolding newVersion recordOf
   new-created e = rw e (refl, refl)
 
-  pub new-inherits : (g : Rec) → greatest (m .versions) (m .ticks who) item ≡ some g → (newVersion kind who item tag m .createReplica ≡ g .createReplica) × (newVersion kind who item tag m .createTick ≡ g .createTick)
+  pub new-inherits : (g : Rec) → greatest (m .versions) (m .ticks who) item ≡ some g → (newVersion content who item m .createReplica ≡ g .createReplica) × (newVersion content who item m .createTick ≡ g .createTick)
   unfolding newVersion recordOf
   new-inherits g e = rw e (refl, refl)
 
-  pub changes-versions : changes kind who item tag m .versions ≡ m .versions ++ (newVersion kind who item tag m ∷ [])
+  pub changes-versions : changes content who item m .versions ≡ m .versions ++ (newVersion content who item m ∷ [])
   unfolding changes newVersion
   changes-versions = refl
 
-  pub changes-batches : changes kind who item tag m .batches ≡ m .batches
+  pub changes-batches : changes content who item m .batches ≡ m .batches
   unfolding changes
   changes-batches = refl
 
-  pub changes-ticks : changes kind who item tag m .ticks ≡ withTicks who (ownTick who (nextOf who m) (m .ticks who)) (m .ticks)
+  pub changes-ticks : changes content who item m .ticks ≡ withTicks who (ownTick who (nextOf who m) (m .ticks who)) (m .ticks)
   unfolding changes
   changes-ticks = refl
 
   -- the one tick of a replica that an edit or delete changes: its own, for every item
-  pub changes-own : (q i p : ℕ) → who ≡ q → who ≡ p → changes kind who item tag m .ticks q i p ≡ nextOf who m
+  pub changes-own : (q i p : ℕ) → who ≡ q → who ≡ p → changes content who item m .ticks q i p ≡ nextOf who m
   changes-own q i p e d =
       ap (λ (f : ℕ → Ticks). f q i p) changes-ticks ∙ ap (λ (k : Ticks). k i p) (with-same who q (ownTick who (nextOf who m) (m .ticks who)) (m .ticks) e) ∙ own-same who (nextOf who m) (m .ticks who) i p d
 
-  pub changes-elsewhere : (q : ℕ) → (who ≡ q → ⊥) → changes kind who item tag m .ticks q ≡ m .ticks q
+  pub changes-elsewhere : (q : ℕ) → (who ≡ q → ⊥) → changes content who item m .ticks q ≡ m .ticks q
   changes-elsewhere q n =
       ap (λ (f : ℕ → Ticks). f q) changes-ticks ∙ with-other who q (ownTick who (nextOf who m) (m .ticks who)) (m .ticks) n
 
-  pub changes-same : (q i p : ℕ) → (who ≡ q → who ≡ p → ⊥) → changes kind who item tag m .ticks q i p ≡ m .ticks q i p
+  pub changes-same : (q i p : ℕ) → (who ≡ q → who ≡ p → ⊥) → changes content who item m .ticks q i p ≡ m .ticks q i p
   changes-same q i p n = go (eqb who q) refl
     where
-      go : (t : Bool) → eqb who q ≡ t → changes kind who item tag m .ticks q i p ≡ m .ticks q i p
+      go : (t : Bool) → eqb who q ≡ t → changes content who item m .ticks q i p ≡ m .ticks q i p
       go true e =
           let d : who ≡ q = eqb-true who q e in
           ap (λ (f : ℕ → Ticks). f q i p) changes-ticks ∙ ap (λ (k : Ticks). k i p) (with-same who q (ownTick who (nextOf who m) (m .ticks who)) (m .ticks) d) ∙ own-other who (nextOf who m) (m .ticks who) i p (n d) ∙ ap (λ (x : ℕ). m .ticks x i p) d

@@ -22,12 +22,13 @@ use Rattle.ticks.specs.Calls.{line, readAs, ownFault, readOr}
 use Rattle.ticks.proofs.Algebra.{contains-yes, contains-exact}
 use Rattle.codec.proofs.Replies.{read-accepted}
 use Rattle.codec.proofs.Replies.{read-fault, read-fine}
-use Rattle.replication.specs.Formats.{Rec, Store}
+use Rattle.replication.specs.Formats.{Store}
 use Rattle.replication.specs.OpenStore.{openStore}
 use Rattle.replication.specs.Calls.{storeOr}
 use Rattle.replication.specs.Queries.{coverageNumber, coverageContained, coverageAll, coverageThousandths, countIn, thousandths, coverageAnswer}
 use Rattle.replication.specs.declared.Coverage.{Coverage}
 use Rattle.replication.specs.declared.Coverage.the-variants as G
+use Rattle.replication.specs.Record.{Rec}
 
 -- ---- counting
 

@@ -26,71 +26,73 @@ use Rattle.ticks.specs.Calls.{line, idOf, wrongLength}
 use Rattle.ticks.proofs.Lists.{less, same, more, order}
 use Rattle.ticks.proofs.ForCalls.{id-is}
 use Rattle.ticks.proofs.Answers.{length-exact}
-use Rattle.replication.specs.Formats.{Rec, putRec, putRecs, Store, Batch, find}
-use Rattle.replication.specs.Reading.{recAt, recLength}
-use Rattle.replication.specs.OpenStore.{openStore}
-use Rattle.replication.specs.OpenBatch.{openBatch}
+use Rattle.replication.specs.Formats.{putRec, putRecs, Store, Batch, find}
+use Rattle.replication.specs.Reading.{recLength, behind, recAt, whole}
+use Rattle.replication.proofs.QueriesPlaces.{places-whole, store-table, batch-table}
+use Rattle.replication.specs.OpenStore.{storeTable, openStore}
+use Rattle.replication.specs.OpenBatch.{learnedLength, batchLearned, batchTable, openBatch}
 use Rattle.replication.specs.Operate.{wins}
-use Rattle.replication.specs.Calls.{storeOr, batchOr}
-use Rattle.replication.specs.Queries.{partBytes, partNumber, partSide, partAtPlace, partLength, placeOf, storeTable, batchTable, partAt, sideOf, winnerPart, learnedPart}
-use Rattle.replication.proofs.PartBytes.{part-reads}
-use Rattle.replication.proofs.RecordBytes.{FitsRec, rec-length, rec-reads, rec-step, rec-over}
-use Rattle.replication.proofs.Tables.{find-nil, here, there, finds, not-found}
-use Rattle.replication.proofs.QueriesPlaces.{store-places, batch-places}
+use Rattle.replication.specs.Queries.{partBytes, partNumber, partSide, partAtPlace, partLength, places, placeOf, ofStore, ofBatch, winnerAt, winnerPart, learnedPart}
+use Rattle.replication.specs.MethodTable.{recsOf, tableAt}
+use Rattle.replication.proofs.PartBytes.{part-bytes}
+use Rattle.replication.proofs.RecordBytes.{Whole, whole-back, rec-part}
+use Rattle.replication.proofs.BatchBytes.{batch-read}
 use Rattle.codec.specs.Parsed.{accepted, refused, Parsed, readOr, ownFault}
 use Rattle.replication.specs.declared.Part.{Part}
 use Rattle.replication.specs.declared.Part.the-variants as P
+use Rattle.replication.specs.Record.{Rec}
+use Rattle.layout.specs.Parse.{parse}
+use lib.Dec.{eqb}
+use Rattle.layout.proofs.Exact.{exact}
 
--- ---- a record's bytes
+-- ---- where the record of an item stands
 
-put-before : (n x : ℕ) (a t u : List ℕ) → a ≡ t ++ u → put n x a ≡ put n x t ++ u
-put-before n x a t u e =
-    ap (put n x) e ∙ put-append n x (t ++ u) ∙ sym (append-assoc (put n x []) t u) ∙ ap (λ (l : List ℕ). l ++ u) (sym (put-append n x t))
+-- the item's record among the places, and in the table there: it is in both or in neither
+data Placed (s : List ℕ) (i : ℕ) (ats : List ℕ) : Type 0 where
+  absent : placeOf s i ats ≡ none → find i (recsOf s ats) ≡ none → Placed s i ats
+  present : (a : ℕ) → placeOf s i ats ≡ some a → find i (recsOf s ats) ≡ some (recAt s a) → whole s a ≡ true → Placed s i ats
 
-pub rec-append : (r : Rec) (t : List ℕ) → putRec r t ≡ putRec r [] ++ t
-unfolding putRec
-rec-append r t =
-    put-before 1 _ _ _ t (put-before 24 _ _ _ t (put-before 16 _ _ _ t (put-before 8 _ _ _ t (put-before 16 _ _ _ t (put-before 8 _ _ _ t (put-append 16 (r .tag) t))))))
+placed : (s : List ℕ) (i : ℕ) (ats : List ℕ) → All (λ a. whole s a ≡ true) ats → Placed s i ats
+unfolding placeOf recsOf find
+placed s i [] h = absent refl refl
+placed s i (a ∷ ats) h = go (eqb (recAt s a .item) i) refl (placed s i ats (h .1))
+  where
+    go : (t : Bool) → eqb (recAt s a .item) i ≡ t → Placed s i ats → Placed s i (a ∷ ats)
+    go true e rest = present a (rw (e, placeOf)) (rw (e, find)) (h .0)
+    go false e (absent x y) = absent (rw (e, placeOf) x) (rw (e, find) y)
+    go false e (present b x y z) = present b (rw (e, placeOf) x) (rw (e, find) y) z
 
--- ---- where a record stands
+-- the record of an item in a table, and where it stands
+record Stood (s : List ℕ) (i at : ℕ) (x : Rec) : Type 0 where
+  place : ℕ
+  is : placeOf s i (places s at) ≡ some place
+  reads : recAt s place ≡ x
+  whole : Whole s place
 
--- a record stands at the place, with anything behind it
-record Placed (s : List ℕ) (at : ℕ) (r : Rec) : Type 0 where
-  fits : FitsRec r
-  rest : List ℕ
-  stands : Stands s at (putRec r rest)
+module _ (s : List ℕ) (i at : ℕ) where
+  not-placed : find i (tableAt s at) ≡ none → placeOf s i (places s at) ≡ none
+  unfolding tableAt
+  not-placed e = go (placed s i (places s at) (places-whole s at))
+    where
+      go : Placed s i (places s at) → placeOf s i (places s at) ≡ none
+      go (absent x y) = x
+      go (present a x y z) =
+          let n : none ≡ some (recAt s a) = sym e ∙ y in
+          let o : _≡_ {A = ℕ} 0 1 = cc in
+          absurd (omega arith)
 
-place-here : (s : List ℕ) (i n at : ℕ) → recAt s at .item ≡ i → placeOf s i (suc n) at ≡ at
-unfolding placeOf
-place-here s i n at e = rw (eq-eqb (recAt s at .item) i e, placeOf)
-
-place-later : (s : List ℕ) (i n at : ℕ) → (recAt s at .item ≡ i → ⊥) → recLength (beAt s 1 at) ≡ 89 → placeOf s i (suc n) at ≡ placeOf s i n (at + 89)
-unfolding placeOf
-place-later s i n at h l = rw (ne-eqb (recAt s at .item) i h, l, placeOf)
-
--- the search over the bytes of a table comes to the record that the table has
-placed : (s : List ℕ) (i at : ℕ) (rs : List Rec) (t : List ℕ) (r : Rec) → All FitsRec rs → Stands s at (putRecs rs t) → find i rs ≡ some r → Placed s (placeOf s i (length rs) at) r
-unfolding putRecs
-placed s i at [] t r f h e = not-found r (sym (find-nil i) ∙ e)
-placed s i at (x ∷ xs) t r f h e =
-    let u = putRecs xs t in
-    let reading = rec-reads s at x u h (f .0) in
-    elim (finds i x xs) [
-      | here k g ↦
-          let q : x ≡ r = cc in
-          subst (λ (a : ℕ). Placed s a r) (sym (place-here s i (length xs) at (ap (λ (y : Rec). y .item) reading ∙ k)))
-          (subst (Placed s at) q (record { fits = f .0; rest = u; stands = h }))
-      | there k g ↦
-          subst (λ (a : ℕ). Placed s a r)
-          (sym (place-later s i (length xs) at (λ y. k (sym (ap (λ (y : Rec). y .item) reading) ∙ y)) (rec-step s at x u h (f .0))))
-          (placed s i (at + 89) xs t r (f .1) (rec-over s at x u h) (sym g ∙ e))
-    ]
-
-placed-bytes : (s : List ℕ) (at : ℕ) (r : Rec) → Placed s at r → take 89 (drop at s) ≡ putRec r []
-placed-bytes s at r p =
-    ap (take 89) (p .stands .rest ∙ rec-append r (p .rest))
-    ∙ ap (λ (n : ℕ). take n (putRec r [] ++ p .rest)) (sym (rec-length r []))
-    ∙ take-append-seam (putRec r []) (p .rest)
+  stood : (x : Rec) → find i (tableAt s at) ≡ some x → Stood s i at x
+  unfolding tableAt
+  stood x e = go (placed s i (places s at) (places-whole s at))
+    where
+      go : Placed s i (places s at) → Stood s i at x
+      go (absent y z) =
+          let n : none ≡ some x = sym z ∙ e in
+          let o : _≡_ {A = ℕ} 0 1 = cc in
+          absurd (omega arith)
+      go (present a y z w) =
+          let n : some (recAt s a) ≡ some x = sym z ∙ e in
+          record { place = a; is = y; reads = cc; whole = whole-back s a w }
 
 -- ---- what a call that returns a part says: the part, document 01's number beside it, and the values that tell its place
 
@@ -103,31 +105,38 @@ pub record NoPart (p : Part) : Type 0 where
   pub place : (old : ℕ) → partAtPlace p old ≡ 0
   pub size : (old : ℕ) → partLength p old ≡ 0
 
--- a part of the store's bytes s, which is just the bytes w
-pub record StorePart (s w : List ℕ) (p : Part) : Type 0 where
-  pub at : ℕ
-  pub count : ℕ
+-- a part of the store's bytes s
+pub record StorePart (s : List ℕ) (at count : ℕ) (p : Part) : Type 0 where
   pub is : p ≡ P.OfStore at count
   pub inside : at + count ≤ length s
-  pub bytes : take count (drop at s) ≡ w
-  pub part : (batch : List ℕ) → partBytes p s batch ≡ w
+  pub part : (batch : List ℕ) → partBytes p s batch ≡ take count (drop at s)
   pub number : partNumber p ≡ 0
   pub side : (old : ℕ) → partSide p old ≡ 1
   pub place : (old : ℕ) → partAtPlace p old ≡ at
   pub size : (old : ℕ) → partLength p old ≡ count
 
--- a part of the batch's bytes t, which is just the bytes w
-pub record BatchPart (t w : List ℕ) (p : Part) : Type 0 where
-  pub at : ℕ
-  pub count : ℕ
+-- a part of the batch's bytes t
+pub record BatchPart (t : List ℕ) (at count : ℕ) (p : Part) : Type 0 where
   pub is : p ≡ P.OfBatch at count
   pub inside : at + count ≤ length t
-  pub bytes : take count (drop at t) ≡ w
-  pub part : (s : List ℕ) → partBytes p s t ≡ w
+  pub part : (s : List ℕ) → partBytes p s t ≡ take count (drop at t)
   pub number : partNumber p ≡ 0
   pub side : (old : ℕ) → partSide p old ≡ 2
   pub place : (old : ℕ) → partAtPlace p old ≡ at
   pub size : (old : ℕ) → partLength p old ≡ count
+
+-- the part is the whole record that stands at a place, which is read there as x
+pub record StoreRecord (s : List ℕ) (x : Rec) (p : Part) : Type 0 where
+  pub at : ℕ
+  pub whole : Whole s at
+  pub reads : recAt s at ≡ x
+  pub part : StorePart s at (recLength (beAt s 1 at)) p
+
+pub record BatchRecord (t : List ℕ) (y : Rec) (p : Part) : Type 0 where
+  pub at : ℕ
+  pub whole : Whole t at
+  pub reads : recAt t at ≡ y
+  pub part : BatchPart t at (recLength (beAt t 1 at)) p
 
 -- a refusal: the part is empty, the number is the refusal's, and no value changes
 pub record NoPartBut (n : ℕ) (p : Part) : Type 0 where
@@ -149,30 +158,24 @@ no-part p e = record {
   size = λ old. ap (λ (q : Part). partLength q old) e;
 }
 
-store-part : (s w : List ℕ) (p : Part) (at n : ℕ) → p ≡ P.OfStore at n → at + n ≤ length s → take n (drop at s) ≡ w → StorePart s w p
+store-part : (s : List ℕ) (p : Part) (at n : ℕ) → p ≡ P.OfStore at n → at + n ≤ length s → StorePart s at n p
 unfolding partBytes partNumber partSide partAtPlace partLength
-store-part s w p at n e l b = record {
-  at = at;
-  count = n;
+store-part s p at n e l = record {
   is = e;
   inside = l;
-  bytes = b;
-  part = λ batch. ap (λ (q : Part). partBytes q s batch) e ∙ b;
+  part = λ batch. ap (λ (q : Part). partBytes q s batch) e;
   number = ap partNumber e;
   side = λ old. ap (λ (q : Part). partSide q old) e;
   place = λ old. ap (λ (q : Part). partAtPlace q old) e;
   size = λ old. ap (λ (q : Part). partLength q old) e;
 }
 
-batch-part : (t w : List ℕ) (p : Part) (at n : ℕ) → p ≡ P.OfBatch at n → at + n ≤ length t → take n (drop at t) ≡ w → BatchPart t w p
+batch-part : (t : List ℕ) (p : Part) (at n : ℕ) → p ≡ P.OfBatch at n → at + n ≤ length t → BatchPart t at n p
 unfolding partBytes partNumber partSide partAtPlace partLength
-batch-part t w p at n e l b = record {
-  at = at;
-  count = n;
+batch-part t p at n e l = record {
   is = e;
   inside = l;
-  bytes = b;
-  part = λ s. ap (λ (q : Part). partBytes q s t) e ∙ b;
+  part = λ s. ap (λ (q : Part). partBytes q s t) e;
   number = ap partNumber e;
   side = λ old. ap (λ (q : Part). partSide q old) e;
   place = λ old. ap (λ (q : Part). partAtPlace q old) e;
@@ -237,50 +240,23 @@ wins-no x y h =
       | more k ↦ wins-kept x y k
     ]
 
--- the side's part in each case
-module _ (o p : Option Rec) (mine theirs : Part) where
-  side-neither : o ≡ none → p ≡ none → sideOf o p mine theirs ≡ P.Nothing
-  unfolding sideOf
-  side-neither e f = ap₂ (λ (o p : Option Rec). sideOf o p mine theirs) e f
-
-  side-store : (x : Rec) → o ≡ some x → p ≡ none → sideOf o p mine theirs ≡ mine
-  unfolding sideOf
-  side-store x e f = ap₂ (λ (o p : Option Rec). sideOf o p mine theirs) e f
-
-  side-batch : (y : Rec) → o ≡ none → p ≡ some y → sideOf o p mine theirs ≡ theirs
-  unfolding sideOf
-  side-batch y e f = ap₂ (λ (o p : Option Rec). sideOf o p mine theirs) e f
-
-  side-yes : (x y : Rec) → o ≡ some x → p ≡ some y → wins x y ≡ true → sideOf o p mine theirs ≡ theirs
-  unfolding sideOf
-  side-yes x y e f w =
-      ap₂ (λ (o p : Option Rec). sideOf o p mine theirs) e f ∙ ap {B = Part} (λ t. elim t [ true ↦ theirs | false ↦ mine ]) w
-
-  side-no : (x y : Rec) → o ≡ some x → p ≡ some y → wins x y ≡ false → sideOf o p mine theirs ≡ mine
-  unfolding sideOf
-  side-no x y e f w =
-      ap₂ (λ (o p : Option Rec). sideOf o p mine theirs) e f ∙ ap {B = Part} (λ t. elim t [ true ↦ theirs | false ↦ mine ]) w
-
 -- ---- winner
 
 -- what the winner of the item i is, for the store st in the bytes s and the batch b in the bytes t
 pub record WinnerIs (s t : List ℕ) (i : ℕ) (st : Store) (b : Batch) (p : Part) : Type 0 where
   pub neither : find i (st .records) ≡ none → find i (b .records) ≡ none → NoPart p
-  pub storeOnly : (x : Rec) → find i (st .records) ≡ some x → find i (b .records) ≡ none → StorePart s (putRec x []) p
-  pub batchOnly : (y : Rec) → find i (st .records) ≡ none → find i (b .records) ≡ some y → BatchPart t (putRec y []) p
-  pub batchWins : (x y : Rec) → find i (st .records) ≡ some x → find i (b .records) ≡ some y → Beats x y → BatchPart t (putRec y []) p
-  pub storeStays : (x y : Rec) → find i (st .records) ≡ some x → find i (b .records) ≡ some y → (Beats x y → ⊥) → StorePart s (putRec x []) p
+  pub storeOnly : (x : Rec) → find i (st .records) ≡ some x → find i (b .records) ≡ none → StoreRecord s x p
+  pub batchOnly : (y : Rec) → find i (st .records) ≡ none → find i (b .records) ≡ some y → BatchRecord t y p
+  pub batchWins : (x y : Rec) → find i (st .records) ≡ some x → find i (b .records) ≡ some y → Beats x y → BatchRecord t y p
+  pub storeStays : (x y : Rec) → find i (st .records) ≡ some x → find i (b .records) ≡ some y → (Beats x y → ⊥) → StoreRecord s x p
 
--- the winner for what the bytes were read as
-found : List ℕ → List ℕ → ℕ → Store → Batch → Part
-found s t i st b =
-    sideOf (find i (st .records)) (find i (b .records))
-    (partAt P.OfStore s (placeOf s i (length (st .records)) (storeTable s)))
-    (partAt P.OfBatch t (placeOf t i (length (b .records)) (batchTable t)))
+-- the winner for the places in the bytes
+found : List ℕ → List ℕ → ℕ → Part
+found s t i = winnerAt s t (placeOf s i (places s (storeTable s))) (placeOf t i (places t (batchTable t)))
 
 told : List ℕ → List ℕ → List ℕ → Parsed Store → Parsed Batch → Part
 told s t item o p =
-    firstFault P.Refused (ownFault o ∷ ownFault p ∷ line 17 (wrongLength 24 item) ∷ []) (found s t (idOf 24 item) (storeOr o) (batchOr p))
+    firstFault P.Refused (ownFault o ∷ ownFault p ∷ line 17 (wrongLength 24 item) ∷ []) (found s t (idOf 24 item))
 
 told-is : (L : Limits) (s t item : List ℕ) (o : Parsed Store) (p : Parsed Batch) → openStore L s ≡ o → openBatch L t ≡ p → winnerPart L s t item ≡ told s t item o p
 unfolding winnerPart told found
@@ -288,92 +264,96 @@ told-is L s t item o p e f = ap₂ (told s t item) e f
 
 told-store : (s t item : List ℕ) (n : ℕ) (p : Parsed Batch) → told s t item (refused n) p ≡ P.Refused n
 unfolding told
-told-store s t item n p = read-fault Store P.Refused n (ownFault p ∷ line 17 (wrongLength 24 item) ∷ []) (found s t (idOf 24 item) (storeOr (refused n)) (batchOr p))
+told-store s t item n p = read-fault Store P.Refused n (ownFault p ∷ line 17 (wrongLength 24 item) ∷ []) (found s t (idOf 24 item))
 
 told-batch : (s t item : List ℕ) (st : Store) (n : ℕ) → told s t item (accepted st) (refused n) ≡ P.Refused n
 unfolding told
 told-batch s t item st n =
-    let part = found s t (idOf 24 item) (storeOr (accepted st)) (batchOr (refused n)) in
+    let part = found s t (idOf 24 item) in
     read-fine P.Refused st (ownFault (refused n) ∷ line 17 (wrongLength 24 item) ∷ []) part
     ∙ read-fault Batch P.Refused n (line 17 (wrongLength 24 item) ∷ []) part
 
-told-lines : (s t item : List ℕ) (st : Store) (b : Batch) → told s t item (accepted st) (accepted b) ≡ firstFault P.Refused (line 17 (wrongLength 24 item) ∷ []) (found s t (idOf 24 item) st b)
-unfolding told readOr
+told-lines : (s t item : List ℕ) (st : Store) (b : Batch) → told s t item (accepted st) (accepted b) ≡ firstFault P.Refused (line 17 (wrongLength 24 item) ∷ []) (found s t (idOf 24 item))
+unfolding told
 told-lines s t item st b =
-    read-fine P.Refused st (ownFault (accepted b) ∷ line 17 (wrongLength 24 item) ∷ []) (found s t (idOf 24 item) st b)
-    ∙ read-fine P.Refused b (line 17 (wrongLength 24 item) ∷ []) (found s t (idOf 24 item) st b)
+    read-fine P.Refused st (ownFault (accepted b) ∷ line 17 (wrongLength 24 item) ∷ []) (found s t (idOf 24 item))
+    ∙ read-fine P.Refused b (line 17 (wrongLength 24 item) ∷ []) (found s t (idOf 24 item))
 
 told-17 : (s t item : List ℕ) (st : Store) (b : Batch) → wrongLength 24 item ≡ true → told s t item (accepted st) (accepted b) ≡ P.Refused 17
 told-17 s t item st b w =
-    told-lines s t item st b ∙ fault-here P.Refused (line 17 (wrongLength 24 item)) [] (found s t (idOf 24 item) st b) w
+    told-lines s t item st b ∙ fault-here P.Refused (line 17 (wrongLength 24 item)) [] (found s t (idOf 24 item)) w
 
-told-found : (s t item : List ℕ) (st : Store) (b : Batch) → wrongLength 24 item ≡ false → told s t item (accepted st) (accepted b) ≡ found s t (idOf 24 item) st b
+told-found : (s t item : List ℕ) (st : Store) (b : Batch) → wrongLength 24 item ≡ false → told s t item (accepted st) (accepted b) ≡ found s t (idOf 24 item)
 told-found s t item st b w =
-    told-lines s t item st b ∙ fault-none P.Refused (line 17 (wrongLength 24 item) ∷ []) (found s t (idOf 24 item) st b) (w, tt)
+    told-lines s t item st b ∙ fault-none P.Refused (line 17 (wrongLength 24 item) ∷ []) (found s t (idOf 24 item)) (w, tt)
 
--- the part that the search in the store's bytes comes to, and in the batch's
-store-found : (L : Limits) (s : List ℕ) (st : Store) (i : ℕ) (x : Rec) (p : Part) → Permitted L → Bytes s → openStore L s ≡ accepted st → find i (st .records) ≡ some x → p ≡ partAt P.OfStore s (placeOf s i (length (st .records)) (storeTable s)) → StorePart s (putRec x []) p
-unfolding partAt storeTable
-store-found L s st i x p m y o e q =
-    let h = store-places L s st m y o in
-    let n = length (st .records) in
-    let a = placeOf s i n (25 + length (encode (st .knowledge))) in
-    let w = placed s i (25 + length (encode (st .knowledge))) (st .records) [] x (h .fits) (h .records) e in
-    store-part s (putRec x []) p a 89
-    (q
-    ∙ ap (λ (k : ℕ). partAt P.OfStore s (placeOf s i n (25 + k))) (h .knowledge)
-    ∙ ap (P.OfStore a) (rec-step s a x (w .rest) (w .stands) (w .fits)))
-    (rec-over s a x (w .rest) (w .stands) .inside)
-    (placed-bytes s a x w)
+-- the part that the record at a place is
+of-store : (s : List ℕ) (x : Rec) (p : Part) (a : ℕ) → Whole s a → recAt s a ≡ x → p ≡ ofStore s a → StoreRecord s x p
+unfolding ofStore behind
+of-store s x p a w r e = record { at = a; whole = w; reads = r; part = store-part s p a (recLength (beAt s 1 a)) e (w .inside) }
 
-batch-found : (L : Limits) (t : List ℕ) (b : Batch) (i : ℕ) (y : Rec) (p : Part) → Permitted L → Bytes t → openBatch L t ≡ accepted b → find i (b .records) ≡ some y → p ≡ partAt P.OfBatch t (placeOf t i (length (b .records)) (batchTable t)) → BatchPart t (putRec y []) p
-unfolding partAt batchTable
-batch-found L t b i y p m z o e q =
-    let h = batch-places L t b m z o in
-    let n = length (b .records) in
-    let start = 61 + length (encode (b .needed)) + length (encode (b .learned)) in
-    let a = placeOf t i n start in
-    let w = placed t i start (b .records) [] y (h .fits) (h .records) e in
-    batch-part t (putRec y []) p a 89
-    (q
-    ∙ ap₂ (λ (k l : ℕ). partAt P.OfBatch t (placeOf t i n (61 + k + l))) (h .needed) (h .size)
-    ∙ ap (P.OfBatch a) (rec-step t a y (w .rest) (w .stands) (w .fits)))
-    (rec-over t a y (w .rest) (w .stands) .inside)
-    (placed-bytes t a y w)
+of-batch : (t : List ℕ) (y : Rec) (p : Part) (a : ℕ) → Whole t a → recAt t a ≡ y → p ≡ ofBatch t a → BatchRecord t y p
+unfolding ofBatch behind
+of-batch t y p a w r e = record { at = a; whole = w; reads = r; part = batch-part t p a (recLength (beAt t 1 a)) e (w .inside) }
 
-found-is : (L : Limits) (s t : List ℕ) (i : ℕ) (st : Store) (b : Batch) (p : Part) → Permitted L → Bytes s → Bytes t → openStore L s ≡ accepted st → openBatch L t ≡ accepted b → p ≡ found s t i st b → WinnerIs s t i st b p
-unfolding found
-found-is L s t i st b p m y z o q e =
-    let f = find i (st .records) in
-    let g = find i (b .records) in
-    let mine = partAt P.OfStore s (placeOf s i (length (st .records)) (storeTable s)) in
-    let theirs = partAt P.OfBatch t (placeOf t i (length (b .records)) (batchTable t)) in
-    record {
-      neither = λ h k. no-part p (e ∙ side-neither f g mine theirs h k);
-      storeOnly = λ x h k. store-found L s st i x p m y o h (e ∙ side-store f g mine theirs x h k);
-      batchOnly = λ x h k. batch-found L t b i x p m z q k (e ∙ side-batch f g mine theirs x h k);
-      batchWins = λ x x' h k w. batch-found L t b i x' p m z q k (e ∙ side-yes f g mine theirs x x' h k (wins-yes x x' w));
-      storeStays = λ x x' h k w. store-found L s st i x p m y o h (e ∙ side-no f g mine theirs x x' h k (wins-no x x' w));
-    }
+-- the winner of two records, by the outcome of their comparison
+either : List ℕ → List ℕ → ℕ → ℕ → Bool → Part
+either s t a b w = elim w [ true ↦ ofBatch t b | false ↦ ofStore s a ]
 
--- the winner, where P.Nothing is refused
-pub winner-exact :
-    (L : Limits)
-    (s t item : List ℕ)
-    (st : Store)
-    (b : Batch)
-    → Permitted L
-    → Bytes s
-    → Bytes t
-    → openStore L s ≡ accepted st
-    → openBatch L t ≡ accepted b
-    → length item ≡ 24
-    → WinnerIs s t (beAt item 24 0) st b (winnerPart L s t item)
-winner-exact L s t item st b m y z o q l =
-    found-is L s t (beAt item 24 0) st b (winnerPart L s t item) m y z o q
+won : (s t : List ℕ) (a b : ℕ) (x y : Rec) (w : Bool) → recAt s a ≡ x → recAt t b ≡ y → wins x y ≡ w → winnerAt s t (some a) (some b) ≡ either s t a b w
+unfolding winnerAt either
+won s t a b x y w e f h = ap (either s t a b) (ap₂ wins e f ∙ h)
+
+module _ (L : Limits) (s t : List ℕ) (i : ℕ) (st : Store) (b : Batch) (p : Part) (o : openStore L s ≡ accepted st) (q : openBatch L t ≡ accepted b) (e : p ≡ found s t i) where
+  in-store : (x : Rec) → find i (st .records) ≡ some x → Stood s i (storeTable s) x
+  in-store x h = stood s i (storeTable s) x (ap (find i) (store-table L s st o) ∙ h)
+
+  in-batch : (y : Rec) → find i (b .records) ≡ some y → Stood t i (batchTable t) y
+  in-batch y h = stood t i (batchTable t) y (ap (find i) (batch-table L t b q) ∙ h)
+
+  no-store : find i (st .records) ≡ none → placeOf s i (places s (storeTable s)) ≡ none
+  no-store h = not-placed s i (storeTable s) (ap (find i) (store-table L s st o) ∙ h)
+
+  no-batch : find i (b .records) ≡ none → placeOf t i (places t (batchTable t)) ≡ none
+  no-batch h = not-placed t i (batchTable t) (ap (find i) (batch-table L t b q) ∙ h)
+
+  found-is : WinnerIs s t i st b p
+  unfolding found winnerAt either
+  found-is =
+      record {
+        neither = λ h k. no-part p (e ∙ ap₂ (winnerAt s t) (no-store h) (no-batch k));
+        storeOnly = λ x h k.
+            let u = in-store x h in
+            of-store s x p (u .place) (u .whole) (u .reads) (e ∙ ap₂ (winnerAt s t) (u .is) (no-batch k));
+        batchOnly = λ y h k.
+            let v = in-batch y k in
+            of-batch t y p (v .place) (v .whole) (v .reads) (e ∙ ap₂ (winnerAt s t) (no-store h) (v .is));
+        batchWins = λ x y h k w.
+            let u = in-store x h in
+            let v = in-batch y k in
+            of-batch t y p (v .place) (v .whole) (v .reads)
+            (e ∙ (ap₂ (winnerAt s t) (u .is) (v .is) ∙ won s t (u .place) (v .place) x y true (u .reads) (v .reads) (wins-yes x y w)));
+        storeStays = λ x y h k w.
+            let u = in-store x h in
+            let v = in-batch y k in
+            of-store s x p (u .place) (u .whole) (u .reads)
+            (e ∙ (ap₂ (winnerAt s t) (u .is) (v .is) ∙ won s t (u .place) (v .place) x y false (u .reads) (v .reads) (wins-no x y w)));
+      }
+
+-- the winner, where nothing is refused
+pub winner-exact : (L : Limits) (s t item : List ℕ) (st : Store) (b : Batch) → openStore L s ≡ accepted st → openBatch L t ≡ accepted b → length item ≡ 24 → WinnerIs s t (beAt item 24 0) st b (winnerPart L s t item)
+winner-exact L s t item st b o q l =
+    found-is L s t (beAt item 24 0) st b (winnerPart L s t item) o q
     (told-is L s t item (accepted st) (accepted b) o q
     ∙ told-found s t item st b (length-exact 24 item .1 l)
-    ∙ ap (λ (i : ℕ). found s t i st b) (id-is 24 item))
+    ∙ ap (found s t) (id-is 24 item))
+
+-- the part's bytes are those of the record
+pub store-record-bytes : (s : List ℕ) (x : Rec) (p : Part) (batch : List ℕ) → Bytes s → StoreRecord s x p → partBytes p s batch ≡ putRec x []
+store-record-bytes s x p batch b h = h .part .part batch ∙ (rec-part s (h .at) b (h .whole) ∙ ap (λ (r : Rec). putRec r []) (h .reads))
+
+pub batch-record-bytes : (t : List ℕ) (y : Rec) (p : Part) (s : List ℕ) → Bytes t → BatchRecord t y p → partBytes p s t ≡ putRec y []
+batch-record-bytes t y p s b h = h .part .part s ∙ (rec-part t (h .at) b (h .whole) ∙ ap (λ (r : Rec). putRec r []) (h .reads))
 
 -- the store's own number, then the batch's, then 17
 pub winner-store : (L : Limits) (s t item : List ℕ) (n : ℕ) → openStore L s ≡ refused n → NoPartBut n (winnerPart L s t item)
@@ -403,20 +383,20 @@ WinnerRefused L s t item n =
     ⊎ ((n ≡ 17) × (((st : Store) × (openStore L s ≡ accepted st)) × (((b : Batch) × (openBatch L t ≡ accepted b)) × (length item ≡ 24 → ⊥)))))
 
 -- what is found is never a refusal
-never-refusal : (o p : Option Rec) (a c l k n : ℕ) → sideOf o p (P.OfStore a l) (P.OfBatch c k) ≡ P.Refused n → ⊥
-unfolding sideOf
-never-refusal none none a c l k n e = let z : _≡_ {A = ℕ} 0 1 = cc in omega arith
-never-refusal none (some y) a c l k n e = let z : _≡_ {A = ℕ} 0 1 = cc in omega arith
-never-refusal (some x) none a c l k n e = let z : _≡_ {A = ℕ} 0 1 = cc in omega arith
-never-refusal (some x) (some y) a c l k n e = go (wins x y) e
+never-refusal : (s t : List ℕ) (o p : Option ℕ) (n : ℕ) → winnerAt s t o p ≡ P.Refused n → ⊥
+unfolding winnerAt ofStore ofBatch
+never-refusal s t none none n e = let z : _≡_ {A = ℕ} 0 1 = cc in omega arith
+never-refusal s t none (some y) n e = let z : _≡_ {A = ℕ} 0 1 = cc in omega arith
+never-refusal s t (some x) none n e = let z : _≡_ {A = ℕ} 0 1 = cc in omega arith
+never-refusal s t (some x) (some y) n e = go (wins (recAt s x) (recAt t y)) e
   where
-    go : (t : Bool) → _≡_ {A = Part} (elim t [ true ↦ P.OfBatch c k | false ↦ P.OfStore a l ]) (P.Refused n) → ⊥
+    go : (c : Bool) → _≡_ {A = Part} (elim c [ true ↦ P.OfBatch y (recLength (beAt t 1 y)) | false ↦ P.OfStore x (recLength (beAt s 1 x)) ]) (P.Refused n) → ⊥
     go true e = let z : _≡_ {A = ℕ} 0 1 = cc in omega arith
     go false e = let z : _≡_ {A = ℕ} 0 1 = cc in omega arith
 
-found-never : (s t : List ℕ) (i : ℕ) (st : Store) (b : Batch) (n : ℕ) → found s t i st b ≡ P.Refused n → ⊥
-unfolding found partAt
-found-never s t i st b n e = never-refusal (find i (st .records)) (find i (b .records)) _ _ _ _ n e
+found-never : (s t : List ℕ) (i : ℕ) (n : ℕ) → found s t i ≡ P.Refused n → ⊥
+unfolding found
+found-never s t i n e = never-refusal s t (placeOf s i (places s (storeTable s))) (placeOf t i (places t (batchTable t))) n e
 
 pub winner-refused : (L : Limits) (s t item : List ℕ) (n : ℕ) → (winnerPart L s t item ≡ P.Refused n) ↔ WinnerRefused L s t item n
 winner-refused L s t item n = (go (openStore L s) (openBatch L t) (wrongLength 24 item) refl refl refl, back)
@@ -431,7 +411,7 @@ winner-refused L s t item n = (go (openStore L s) (openBatch L t) (wrongLength 2
         let l : length item ≡ 24 → ⊥ = λ (k : length item ≡ 24). let z : _≡_ {A = ℕ} 0 1 = cc (length-exact 24 item .1 k) in omega arith in
         inr (inr (same-number 17 (winner-17 L s t item st b e f l .is) h, ((st, e), ((b, f), l))))
     go (accepted st) (accepted b) false e f g h =
-        absurd (found-never s t (idOf 24 item) st b n (sym (told-is L s t item (accepted st) (accepted b) e f ∙ told-found s t item st b g) ∙ h))
+        absurd (found-never s t (idOf 24 item) n (sym (told-is L s t item (accepted st) (accepted b) e f ∙ told-found s t item st b g) ∙ h))
 
     back : WinnerRefused L s t item n → winnerPart L s t item ≡ P.Refused n
     back (inl h) = winner-store L s t item n h .is
@@ -442,7 +422,7 @@ winner-refused L s t item n = (go (openStore L s) (openBatch L t) (wrongLength 2
 -- ---- learned
 
 learned-told : (t : List ℕ) → Parsed Batch → Part
-learned-told t p = firstFault P.Refused (ownFault p ∷ []) (P.OfBatch (61 + beAt t 4 49) (beAt t 4 53))
+learned-told t p = firstFault P.Refused (ownFault p ∷ []) (P.OfBatch (batchLearned t) (learnedLength t))
 
 learned-is : (L : Limits) (t : List ℕ) (p : Parsed Batch) → openBatch L t ≡ p → learnedPart L t ≡ learned-told t p
 unfolding learnedPart learned-told
@@ -450,22 +430,30 @@ learned-is L t p e = ap (learned-told t) e
 
 learned-none : (t : List ℕ) (n : ℕ) → learned-told t (refused n) ≡ P.Refused n
 unfolding learned-told
-learned-none t n = read-fault Batch P.Refused n [] (P.OfBatch (61 + beAt t 4 49) (beAt t 4 53))
+learned-none t n = read-fault Batch P.Refused n [] (P.OfBatch (batchLearned t) (learnedLength t))
 
-learned-some : (t : List ℕ) (b : Batch) → learned-told t (accepted b) ≡ P.OfBatch (61 + beAt t 4 49) (beAt t 4 53)
+learned-some : (t : List ℕ) (b : Batch) → learned-told t (accepted b) ≡ P.OfBatch (batchLearned t) (learnedLength t)
 unfolding learned-told
 learned-some t b =
-    read-fine P.Refused b [] (P.OfBatch (61 + beAt t 4 49) (beAt t 4 53)) ∙ fault-none P.Refused [] (P.OfBatch (61 + beAt t 4 49) (beAt t 4 53)) tt
+    read-fine P.Refused b [] (P.OfBatch (batchLearned t) (learnedLength t)) ∙ fault-none P.Refused [] (P.OfBatch (batchLearned t) (learnedLength t)) tt
 
--- the learned knowledge of a valid batch, where it stands
-pub learned-exact : (L : Limits) (t : List ℕ) (b : Batch) → Permitted L → Bytes t → openBatch L t ≡ accepted b → BatchPart t (encode (b .learned)) (learnedPart L t)
-learned-exact L t b m y o =
-    let h = batch-places L t b m y o in
-    let k = length (encode (b .needed)) in
-    batch-part t (encode (b .learned)) (learnedPart L t) (61 + k) (length (encode (b .learned)))
-    (learned-is L t (accepted b) o ∙ learned-some t b ∙ ap₂ (λ (n l : ℕ). P.OfBatch (61 + n) l) (h .needed) (h .size))
-    (h .records .inside)
-    (part-reads t (61 + k) (encode (b .learned)) (putRecs (b .records) []) (h .learned))
+-- the learned knowledge of a batch that opens: the part that is read as it
+pub record LearnedIs (L : Limits) (t : List ℕ) (b : Batch) (p : Part) : Type 0 where
+  pub part : BatchPart t (batchLearned t) (learnedLength t) p
+  pub reads : parse (anyId L) (take (learnedLength t) (drop (batchLearned t) t)) ≡ accepted (b .learned)
+
+pub learned-exact : (L : Limits) (t : List ℕ) (b : Batch) → openBatch L t ≡ accepted b → LearnedIs L t b (learnedPart L t)
+learned-exact L t b o =
+    let h = batch-read L t b o .0 in
+    record {
+      part = batch-part t (learnedPart L t) (batchLearned t) (learnedLength t) (learned-is L t (accepted b) o ∙ learned-some t b) (h .inside);
+      reads = h .learned;
+    }
+
+-- its bytes are those of the knowledge
+pub learned-bytes : (L : Limits) (t s : List ℕ) (b : Batch) (p : Part) → Permitted L → Bytes t → LearnedIs L t b p → partBytes p s t ≡ encode (b .learned)
+learned-bytes L t s b p m y h =
+    h .part .part s ∙ exact (anyId L) m (take (learnedLength t) (drop (batchLearned t) t)) (b .learned) (part-bytes t (learnedLength t) (batchLearned t) y) .0 (h .reads) .0
 
 pub learned-batch : (L : Limits) (t : List ℕ) (n : ℕ) → openBatch L t ≡ refused n → NoPartBut n (learnedPart L t)
 learned-batch L t n o = part-refused n (learnedPart L t) (learned-is L t (refused n) o ∙ learned-none t n)
@@ -480,5 +468,5 @@ learned-refused L t n = (go (openBatch L t) refl, λ h. learned-batch L t n h .i
         let q : m ≡ n = cc in
         e ∙ ap refused q
     go (accepted b) e h =
-        let w : learnedPart L t ≡ P.OfBatch (61 + beAt t 4 49) (beAt t 4 53) = learned-is L t (accepted b) e ∙ learned-some t b in
+        let w : learnedPart L t ≡ P.OfBatch (batchLearned t) (learnedLength t) = learned-is L t (accepted b) e ∙ learned-some t b in
         absurd (let z : _≡_ {A = ℕ} 0 1 = cc in omega arith)

@@ -1,126 +1,156 @@
--- Records and their bytes, both ways. Where the bytes of records stand, to the very end, reading gives these records,
--- since each field is read where it was put and the place after a record is 89 bytes further on. And where reading
--- gives records, their bytes are what stands there, since the bytes of a number read and put again are the same.
-use Prim.Native.Nat.{ℕ, zero, suc, _+_, _*_, _^_, _<_, _≤_}
-use mathlib.Core.Path.{_≡_, refl, sym, ap, _∙_}
+-- Records and their bytes, both ways. Where the bytes of records stand, to the very end, reading gives these records, since each field is
+-- read where it was put and the next record stands behind it. And where reading gives records, their bytes are what stands there, since
+-- the bytes of a number read and put again are the same.
+use Prim.Native.Nat.{ℕ, zero, suc, _+_, _^_, _<_, _≤_}
+use mathlib.Core.Path.{_≡_, refl, sym, ap, _∙_, subst}
 use mathlib.Core.Bool.{Bool, true, false}
-use mathlib.Core.Logic.{_⊎_, inl, inr}
-use mathlib.Core.List.{List, [], _∷_}
+use mathlib.Core.Logic.{_⊎_, inl, inr, _↔_}
+use mathlib.Core.List.{List, [], _∷_, _++_}
 use mathlib.Core.Option.{Option, none, some}
 use native.Mathlib.Omega.{arith}
+use native.Mathlib.Nat.{add-zero}
 use lib.Dec.{leb, eqb}
-use lib.ListN.{length, drop}
-use lib.Seq.{drop-length}
-use borrow.Author.Tests.{le-leb, eq-eqb, leb-true, eqb-true, eqb-false}
-use Rattle.codec.specs.Number.{Bytes, beAt, put}
-use Rattle.codec.proofs.Numbers.{be-below, put-back, put-bytes, put-length}
-use Rattle.layout.specs.Knowledge.{All}
-use Rattle.layout.proofs.Chain.{Stands, stands-length, moved, over, reads}
-use Rattle.replication.specs.Formats.{Rec, putRec, putRecs}
-use Rattle.replication.specs.Reading.{recLength, recAt, whole, front, recsAt}
+use lib.ListN.{length, take, drop}
+use lib.Seq.{drop-length, take-append-seam}
+use borrow.Author.Tests.{le-leb, eq-eqb, ne-eqb, leb-true, eqb-true, eqb-false}
+use Rattle.codec.specs.Number.{Bytes, beAt}
+use Rattle.codec.proofs.Numbers.{be-below}
+use Rattle.layout.specs.Knowledge.{putFields, All}
+use Rattle.layout.proofs.Chain.{Stands, stands-length, moved, fields-over, Fit, sizes}
+use Rattle.layout.proofs.Runs.{ReadAs, run-length, run-bytes, run-append, run-reads, run-back}
+use Rattle.replication.specs.Record.{Content, Rec}
+use Rattle.replication.specs.Formats.{kindOf, recFields, putRec, putRecs}
+use Rattle.replication.specs.Reading.{recLength, behind, contentAt, recAt, whole, front, recsAt}
 
--- a record of a known kind whose values have room in their fields
+-- a record whose values have room in their fields
 pub record FitsRec (r : Rec) : Type 0 where
-  pub kind : (r .kind ≡ 1) ⊎ (r .kind ≡ 2)
   pub item : r .item < 256 ^ 24
   pub changeReplica : r .changeReplica < 256 ^ 16
   pub changeTick : r .changeTick < 256 ^ 8
   pub createReplica : r .createReplica < 256 ^ 16
   pub createTick : r .createTick < 256 ^ 8
-  pub tag : r .tag < 256 ^ 16
+  pub tag : r .content .tag < 256 ^ 16
 
--- ---- one record
+-- ---- kinds and lengths: the only place that knows them
 
--- a known kind is 1 or 2 and has 89 bytes; any other number has the length 0
-pub kind-length : (x : ℕ) → (x ≡ 1) ⊎ (x ≡ 2) → recLength x ≡ 89
+abbrev pub KnownKind : ℕ → Type 0
+KnownKind x = (x ≡ 1) ⊎ (x ≡ 2)
+
+-- the length of a record of a known kind, which every record value has
+abbrev pub recSize : ℕ
+recSize = 89
+
+-- a known kind is 1 or 2 and has that length; any other number has the length 0
+pub kind-length : (x : ℕ) → KnownKind x → recLength x ≡ recSize
 unfolding recLength
 kind-length x (inl e) = rw (eq-eqb x 1 e, recLength)
 kind-length x (inr e) = rw e
 
-pub kind-known : (x : ℕ) → (recLength x ≡ 0 → ⊥) → (x ≡ 1) ⊎ (x ≡ 2)
+pub kind-known : (x : ℕ) → (recLength x ≡ 0 → ⊥) → KnownKind x
 unfolding recLength
 kind-known x h = go (eqb x 1) (eqb x 2) refl refl h
   where
-    go : (a b : Bool) → eqb x 1 ≡ a → eqb x 2 ≡ b → (_≡_ {A = ℕ} (elim a [ true ↦ 89 | false ↦ elim b [ true ↦ 89 | false ↦ 0 ] ]) 0 → ⊥) → (x ≡ 1) ⊎ (x ≡ 2)
+    go : (a b : Bool) → eqb x 1 ≡ a → eqb x 2 ≡ b → (_≡_ {A = ℕ} (elim a [ true ↦ recSize | false ↦ elim b [ true ↦ recSize | false ↦ 0 ] ]) 0 → ⊥) → KnownKind x
     go true b e f h = inl (eqb-true x 1 e)
     go false true e f h = inr (eqb-true x 2 f)
     go false false e f h = absurd (h refl)
 
-pub kind-below : (x : ℕ) → (x ≡ 1) ⊎ (x ≡ 2) → x < 256
-kind-below x (inl e) = omega arith
-kind-below x (inr e) = omega arith
+kind-of : (c : Content) → KnownKind (kindOf c)
+unfolding kindOf
+kind-of c = go (c .deleted)
+  where
+    go : (t : Bool) → KnownKind (elim t [ true ↦ 2 | false ↦ 1 ])
+    go true = inr refl
+    go false = inl refl
 
-pub rec-length : (r : Rec) (t : List ℕ) → length (putRec r t) ≡ 89 + length t
+kind-below : (c : Content) → kindOf c < 256 ^ 1
+kind-below c = elim (kind-of c) [ inl e ↦ omega (arith, e) | inr e ↦ omega (arith, e) ]
+
+-- the kind says whether the record is deleted, and back
+deleted-reads : (c : Content) (x : ℕ) → x ≡ kindOf c → eqb x 2 ≡ c .deleted
+unfolding kindOf
+deleted-reads c x e = go (c .deleted) e
+  where
+    go : (t : Bool) → x ≡ elim t [ true ↦ 2 | false ↦ 1 ] → eqb x 2 ≡ t
+    go true e = eq-eqb x 2 e
+    go false e = ne-eqb x 2 (λ h. omega (arith, e, h))
+
+kind-back : (x tag : ℕ) → KnownKind x → kindOf (record { deleted = eqb x 2; tag = tag }) ≡ x
+unfolding kindOf
+kind-back x tag (inl e) = ap {B = ℕ} (λ (t : Bool). elim t [ true ↦ 2 | false ↦ 1 ]) (ne-eqb x 2 (λ h. omega (arith, e, h))) ∙ sym e
+kind-back x tag (inr e) = ap {B = ℕ} (λ (t : Bool). elim t [ true ↦ 2 | false ↦ 1 ]) (eq-eqb x 2 e) ∙ sym e
+
+fields-size : (r : Rec) → sizes (recFields r) ≡ recSize
+unfolding recFields
+fields-size r = refl
+
+pub rec-length : (r : Rec) (t : List ℕ) → length (putRec r t) ≡ recSize + length t
 unfolding putRec
-rec-length r t = simp put-length (omega arith)
+rec-length r t = omega (arith, run-length (recFields r) t, fields-size r)
+
+-- ---- one record
 
 pub rec-bytes : (r : Rec) (t : List ℕ) → Bytes t → Bytes (putRec r t)
 unfolding putRec
-rec-bytes r t b =
-    put-bytes 1 _ _ (put-bytes 24 _ _ (put-bytes 16 _ _ (put-bytes 8 _ _ (put-bytes 16 _ _ (put-bytes 8 _ _ (put-bytes 16 _ t b))))))
+rec-bytes r t b = run-bytes (recFields r) t b
 
--- over a number, to a place that is written otherwise
-pub past : (s : List ℕ) (at n b x : ℕ) (t : List ℕ) → at + n ≡ b → Stands s at (put n x t) → Stands s b t
-past s at n b x t e h = moved s (at + n) b t e (over s at n x t h)
+fits-fields : (r : Rec) → FitsRec r → All Fit (recFields r)
+unfolding recFields
+fits-fields r f = (
+  record { below = kind-below (r .content) },
+  (record { below = f .item }, (record { below = f .changeReplica }, (record { below = f .changeTick }, (record { below = f .createReplica }, (record { below = f .createTick }, (record { below = f .tag }, tt)))))),
+)
 
-module _ (s : List ℕ) (at : ℕ) (r : Rec) (t : List ℕ) (h : Stands s at (putRec r t)) where
-  item-stands : Stands s (at + 1) (put 24 (r .item) (put 16 (r .changeReplica) (put 8 (r .changeTick) (put 16 (r .createReplica) (put 8 (r .createTick) (put 16 (r .tag) t))))))
+module _ (s : List ℕ) (at : ℕ) (r : Rec) (t : List ℕ) (h : Stands s at (putRec r t)) (f : FitsRec r) where
+  read-as : ReadAs s at 0 (recFields r)
   unfolding putRec
-  item-stands = over s at 1 _ _ h
+  read-as = run-reads s at 0 (recFields r) t (moved s at (at + 0) (putFields (recFields r) t) (sym (add-zero at)) h) (fits-fields r f)
 
-  changeReplica-stands : Stands s (at + 25) (put 16 (r .changeReplica) (put 8 (r .changeTick) (put 16 (r .createReplica) (put 8 (r .createTick) (put 16 (r .tag) t)))))
-  changeReplica-stands = past s (at + 1) 24 (at + 25) _ _ (omega arith) item-stands
+  pub kind-reads : beAt s 1 at ≡ kindOf (r .content)
+  unfolding recFields
+  kind-reads = ap (beAt s 1) (sym (add-zero at)) ∙ read-as .0
 
-  changeTick-stands : Stands s (at + 41) (put 8 (r .changeTick) (put 16 (r .createReplica) (put 8 (r .createTick) (put 16 (r .tag) t))))
-  changeTick-stands = past s (at + 25) 16 (at + 41) _ _ (omega arith) changeReplica-stands
-
-  createReplica-stands : Stands s (at + 49) (put 16 (r .createReplica) (put 8 (r .createTick) (put 16 (r .tag) t)))
-  createReplica-stands = past s (at + 41) 8 (at + 49) _ _ (omega arith) changeTick-stands
-
-  createTick-stands : Stands s (at + 65) (put 8 (r .createTick) (put 16 (r .tag) t))
-  createTick-stands = past s (at + 49) 16 (at + 65) _ _ (omega arith) createReplica-stands
-
-  tag-stands : Stands s (at + 73) (put 16 (r .tag) t)
-  tag-stands = past s (at + 65) 8 (at + 73) _ _ (omega arith) createTick-stands
-
-  pub rec-over : Stands s (at + 89) t
-  rec-over = past s (at + 73) 16 (at + 89) _ _ (omega arith) tag-stands
-
-  pub kind-reads : FitsRec r → beAt s 1 at ≡ r .kind
-  unfolding putRec
-  kind-reads f = reads s at 1 _ _ h (kind-below (r .kind) (f .kind))
+  content-reads : contentAt s at ≡ r .content
+  unfolding recFields contentAt
+  content-reads = rw (deleted-reads (r .content) (beAt s 1 at) kind-reads, read-as .1 .1 .1 .1 .1 .1 .0)
 
   -- the record that stands at a place is read there
-  pub rec-reads : FitsRec r → recAt s at ≡ r
-  unfolding recAt
-  rec-reads f =
-      rw (
-        kind-reads f,
-        reads s (at + 1) 24 _ _ item-stands (f .item),
-        reads s (at + 25) 16 _ _ changeReplica-stands (f .changeReplica),
-        reads s (at + 41) 8 _ _ changeTick-stands (f .changeTick),
-        reads s (at + 49) 16 _ _ createReplica-stands (f .createReplica),
-        reads s (at + 65) 8 _ _ createTick-stands (f .createTick),
-        reads s (at + 73) 16 _ _ tag-stands (f .tag),
-      )
+  pub rec-reads : recAt s at ≡ r
+  unfolding recFields recAt
+  rec-reads =
+      let w = read-as .1 in
+      rw (w .0, w .1 .0, w .1 .1 .0, w .1 .1 .1 .0, w .1 .1 .1 .1 .0, content-reads)
 
-  pub rec-step : FitsRec r → recLength (beAt s 1 at) ≡ 89
-  rec-step f = ap recLength (kind-reads f) ∙ kind-length (r .kind) (f .kind)
+  behind-is : behind s at ≡ at + recSize
+  unfolding behind
+  behind-is = ap (λ (n : ℕ). at + n) (ap recLength kind-reads ∙ kind-length (kindOf (r .content)) (kind-of (r .content)))
 
-  pub rec-whole : FitsRec r → whole s at ≡ true
+  -- and what is behind it stands at the place behind it
+  pub rec-over : Stands s (behind s at) t
+  unfolding putRec
+  rec-over = moved s (at + sizes (recFields r)) (behind s at) t (omega (arith, fields-size r, behind-is)) (fields-over s at (recFields r) t h)
+
+  pub rec-whole : whole s at ≡ true
   unfolding whole
-  rec-whole f =
-      ap {B = Bool} (λ n. elim (eqb n 0) [ true ↦ false | false ↦ leb (at + n) (length s) ]) (rec-step f)
-      ∙ le-leb (at + 89) (length s) (rec-over .inside)
+  rec-whole =
+      ap {B = Bool} (λ (n : ℕ). elim (eqb n 0) [ true ↦ false | false ↦ leb (behind s at) (length s) ]) (ap recLength kind-reads ∙ kind-length (kindOf (r .content)) (kind-of (r .content)))
+      ∙ le-leb (behind s at) (length s) (rec-over .inside)
 
 -- what a whole record at a place says of the bytes
 pub record Whole (s : List ℕ) (at : ℕ) : Type 0 where
-  pub kind : (beAt s 1 at ≡ 1) ⊎ (beAt s 1 at ≡ 2)
-  pub step : recLength (beAt s 1 at) ≡ 89
-  pub inside : at + 89 ≤ length s
+  pub kind : KnownKind (beAt s 1 at)
+  pub size : behind s at ≡ at + recSize
+  pub later : at < behind s at
+  pub inside : behind s at ≤ length s
+
+pub whole-of : (s : List ℕ) (at : ℕ) → KnownKind (beAt s 1 at) → behind s at ≤ length s → whole s at ≡ true
+unfolding whole
+whole-of s at k l =
+    ap {B = Bool} (λ (n : ℕ). elim (eqb n 0) [ true ↦ false | false ↦ leb (behind s at) (length s) ]) (kind-length (beAt s 1 at) k)
+    ∙ le-leb (behind s at) (length s) l
 
 pub whole-back : (s : List ℕ) (at : ℕ) → whole s at ≡ true → Whole s at
-unfolding whole
+unfolding whole behind
 whole-back s at h = go (eqb (recLength (beAt s 1 at)) 0) refl h
   where
     go : (t : Bool) → eqb (recLength (beAt s 1 at)) 0 ≡ t → _≡_ {A = Bool} (elim t [ true ↦ false | false ↦ leb (at + recLength (beAt s 1 at)) (length s) ]) true → Whole s at
@@ -128,32 +158,29 @@ whole-back s at h = go (eqb (recLength (beAt s 1 at)) 0) refl h
     go false e h =
         let k = kind-known (beAt s 1 at) (eqb-false (recLength (beAt s 1 at)) 0 e) in
         let l = kind-length (beAt s 1 at) k in
-        record { kind = k; step = l; inside = omega (arith, leb-true (at + recLength (beAt s 1 at)) (length s) h) }
+        record { kind = k; size = omega (arith, l); later = omega (arith, l); inside = leb-true (at + recLength (beAt s 1 at)) (length s) h }
 
--- the bytes of a number in front of the rest, which begins at b
-pub put-upto : (s : List ℕ) (n at b : ℕ) → Bytes s → at + n ≡ b → b ≤ length s → drop at s ≡ put n (beAt s n at) (drop b s)
-put-upto s n at b y e l = put-back s n at y (omega arith) ∙ ap (λ c. put n (beAt s n at) (drop c s)) e
+-- a whole record of a known kind, in plain numbers: the byte there is 1 or 2, and no more than the bytes of a record are missing
+pub whole-exact : (s : List ℕ) (at : ℕ) → (whole s at ≡ true) ↔ (KnownKind (beAt s 1 at) × (at + recSize ≤ length s))
+unfolding behind
+whole-exact s at = (
+  (λ e. let w = whole-back s at e in (w .kind, omega (arith, w .size, w .inside))),
+  λ h. whole-of s at (h .0) (omega (arith, kind-length (beAt s 1 at) (h .0), h .1)),
+)
 
-pub rec-back : (s : List ℕ) (at : ℕ) → Bytes s → at + 89 ≤ length s → drop at s ≡ putRec (recAt s at) (drop (at + 89) s)
-unfolding putRec recAt
-rec-back s at b l =
-    put-upto s 1 at (at + 1) b refl (omega arith)
-    ∙ ap (put 1 (beAt s 1 at))
-    (put-upto s 24 (at + 1) (at + 25) b (omega arith) (omega arith)
-    ∙ ap (put 24 (beAt s 24 (at + 1)))
-    (put-upto s 16 (at + 25) (at + 41) b (omega arith) (omega arith)
-    ∙ ap (put 16 (beAt s 16 (at + 25)))
-    (put-upto s 8 (at + 41) (at + 49) b (omega arith) (omega arith)
-    ∙ ap (put 8 (beAt s 8 (at + 41)))
-    (put-upto s 16 (at + 49) (at + 65) b (omega arith) (omega arith)
-    ∙ ap (put 16 (beAt s 16 (at + 49)))
-    (put-upto s 8 (at + 65) (at + 73) b (omega arith) (omega arith)
-    ∙ ap (put 8 (beAt s 8 (at + 65))) (put-upto s 16 (at + 73) (at + 89) b (omega arith) (omega arith)))))))
+pub rec-back : (s : List ℕ) (at : ℕ) → Bytes s → Whole s at → drop at s ≡ putRec (recAt s at) (drop (behind s at) s)
+unfolding putRec recFields recAt contentAt
+rec-back s at b w =
+    let e : at + (0 + recSize) ≡ behind s at = omega (arith, w .size) in
+    ap (λ (n : ℕ). drop n s) (sym (add-zero at))
+    ∙ (run-back s at 0 (recFields (recAt s at)) b
+    (ap (beAt s 1) (add-zero at) ∙ sym (kind-back (beAt s 1 at) (beAt s 16 (at + 73)) (w .kind)), (refl, (refl, (refl, (refl, (refl, (refl, tt)))))))
+    (omega (arith, e, w .inside))
+    ∙ ap (λ (n : ℕ). putFields (recFields (recAt s at)) (drop n s)) e)
 
-pub rec-fits : (s : List ℕ) (at : ℕ) → Bytes s → Whole s at → FitsRec (recAt s at)
-unfolding recAt
-rec-fits s at b w = record {
-  kind = w .kind;
+pub rec-fits : (s : List ℕ) (at : ℕ) → Bytes s → FitsRec (recAt s at)
+unfolding recAt contentAt
+rec-fits s at b = record {
   item = be-below s 24 (at + 1) b;
   changeReplica = be-below s 16 (at + 25) b;
   changeTick = be-below s 8 (at + 41) b;
@@ -162,12 +189,19 @@ rec-fits s at b w = record {
   tag = be-below s 16 (at + 73) b;
 }
 
--- ---- tables of records
+pub rec-append : (r : Rec) (t : List ℕ) → putRec r t ≡ putRec r [] ++ t
+unfolding putRec
+rec-append r t = run-append (recFields r) t
 
-pub recs-length : (rs : List Rec) (t : List ℕ) → length (putRecs rs t) ≡ 89 * length rs + length t
-unfolding putRecs
-recs-length [] t = omega arith
-recs-length (r ∷ rs) t = omega (arith, rec-length r (putRecs rs t), recs-length rs t)
+-- the part that a whole record is: its bytes
+pub rec-part : (s : List ℕ) (at : ℕ) → Bytes s → Whole s at → take (recLength (beAt s 1 at)) (drop at s) ≡ putRec (recAt s at) []
+rec-part s at b w =
+    let n : recLength (beAt s 1 at) ≡ length (putRec (recAt s at) []) = kind-length (beAt s 1 at) (w .kind) ∙ omega (arith, rec-length (recAt s at) []) in
+    ap (take (recLength (beAt s 1 at))) (rec-back s at b w ∙ rec-append (recAt s at) (drop (behind s at) s))
+    ∙ (ap (λ (k : ℕ). take k (putRec (recAt s at) [] ++ drop (behind s at) s)) n
+    ∙ take-append-seam (putRec (recAt s at) []) (drop (behind s at) s))
+
+-- ---- tables of records
 
 pub recs-bytes : (rs : List Rec) (t : List ℕ) → Bytes t → Bytes (putRecs rs t)
 unfolding putRecs
@@ -178,10 +212,9 @@ pub recs-end : (s : List ℕ) (at : ℕ) → at ≡ length s → recsAt s 0 at �
 unfolding recsAt
 recs-end s at e = rw (eq-eqb at (length s) e, recsAt)
 
-pub recs-more : (s : List ℕ) (n at : ℕ) → whole s at ≡ true → recLength (beAt s 1 at) ≡ 89 →
-    recsAt s (suc n) at ≡ front (recAt s at) (recsAt s n (at + 89))
+pub recs-more : (s : List ℕ) (n at : ℕ) → whole s at ≡ true → recsAt s (suc n) at ≡ front (recAt s at) (recsAt s n (behind s at))
 unfolding recsAt
-recs-more s n at w l = rw (w, l, recsAt)
+recs-more s n at w = rw (w, recsAt)
 
 pub recs-stop : (s : List ℕ) (n at : ℕ) → whole s at ≡ false → recsAt s (suc n) at ≡ none
 unfolding recsAt
@@ -196,8 +229,8 @@ pub recs-read : (s : List ℕ) (at : ℕ) (rs : List Rec) → All FitsRec rs →
 unfolding putRecs
 recs-read s at [] f h = recs-end s at (omega (arith, stands-length s at [] h))
 recs-read s at (r ∷ rs) f h =
-    recs-more s (length rs) at (rec-whole s at r (putRecs rs []) h (f .0)) (rec-step s at r (putRecs rs []) h (f .0))
-    ∙ rw (rec-reads s at r (putRecs rs []) h (f .0), recs-read s (at + 89) rs (f .1) (rec-over s at r (putRecs rs []) h))
+    recs-more s (length rs) at (rec-whole s at r (putRecs rs []) h (f .0))
+    ∙ rw (rec-reads s at r (putRecs rs []) h (f .0), recs-read s (behind s at) rs (f .1) (rec-over s at r (putRecs rs []) h (f .0)))
     (front-some r rs)
 
 -- what records read from a place on say of the bytes
@@ -206,36 +239,37 @@ pub record Read (s : List ℕ) (n at : ℕ) (rs : List Rec) : Type 0 where
   pub count : length rs ≡ n
   pub fits : All FitsRec rs
 
-front-back : (r : Rec) (o : Option (List Rec)) (rs : List Rec) (C : Type 0) → front r o ≡ some rs →
+pub front-back : (r : Rec) (o : Option (List Rec)) (rs : List Rec) (C : Type 0) → front r o ≡ some rs →
     ((qs : List Rec) → o ≡ some qs → r ∷ qs ≡ rs → C) → C
 unfolding front
 front-back r none rs C e k = absurd (let z : _≡_ {A = ℕ} 0 1 = cc in omega arith)
 front-back r (some qs) rs C e k = k qs refl (cc)
 
-more-back : (s : List ℕ) (n at : ℕ) (rs : List Rec) (C : Type 0) → recsAt s (suc n) at ≡ some rs →
-    ((qs : List Rec) → Whole s at → recsAt s n (at + 89) ≡ some qs → recAt s at ∷ qs ≡ rs → C) → C
+-- one record more: it is whole, and the others are read behind it
+pub more-back : (s : List ℕ) (n at : ℕ) (rs : List Rec) (C : Type 0) → recsAt s (suc n) at ≡ some rs →
+    ((qs : List Rec) → whole s at ≡ true → recsAt s n (behind s at) ≡ some qs → recAt s at ∷ qs ≡ rs → C) → C
 more-back s n at rs C e k = go (whole s at) refl
   where
     go : (t : Bool) → whole s at ≡ t → C
-    go true w =
-        let q = whole-back s at w in
-        front-back (recAt s at) (recsAt s n (at + 89)) rs C (sym (recs-more s n at w (q .step)) ∙ e) (λ qs f g. k qs q f g)
+    go true w = front-back (recAt s at) (recsAt s n (behind s at)) rs C (sym (recs-more s n at w) ∙ e) (λ qs f g. k qs w f g)
     go false w = absurd (let z : _≡_ {A = ℕ} 0 1 = cc (recs-stop s n at w) in omega arith)
 
-end-back : (s : List ℕ) (at : ℕ) (rs : List Rec) → recsAt s 0 at ≡ some rs → Read s 0 at rs
-unfolding recsAt putRecs
+-- no record more: nothing is left, and the table ends with the bytes
+pub end-back : (s : List ℕ) (at : ℕ) (rs : List Rec) → recsAt s 0 at ≡ some rs → (rs ≡ []) × (at ≡ length s)
+unfolding recsAt
 end-back s at rs e = go (eqb at (length s)) refl e
   where
-    go : (t : Bool) → eqb at (length s) ≡ t → _≡_ {A = Option (List Rec)} (elim t [ true ↦ some [] | false ↦ none ]) (some rs) → Read s 0 at rs
-    go true l e =
-        let g : [] ≡ rs = cc in
-        rw (← g) record { bytes = ap (λ n. drop n s) (eqb-true at (length s) l) ∙ drop-length s; count = refl; fits = tt }
+    go : (t : Bool) → eqb at (length s) ≡ t → _≡_ {A = Option (List Rec)} (elim t [ true ↦ some [] | false ↦ none ]) (some rs) → (rs ≡ []) × (at ≡ length s)
+    go true l e = (cc, eqb-true at (length s) l)
     go false l e = absurd (let z : _≡_ {A = ℕ} 0 1 = cc in omega arith)
 
 pub recs-back : (s : List ℕ) (n at : ℕ) (rs : List Rec) → Bytes s → recsAt s n at ≡ some rs → Read s n at rs
 unfolding putRecs
-recs-back s zero at rs b e = end-back s at rs e
+recs-back s zero at rs b e =
+    let q = end-back s at rs e in
+    subst (Read s 0 at) (sym (q .0)) (record { bytes = ap (λ (n : ℕ). drop n s) (q .1) ∙ drop-length s; count = refl; fits = tt })
 recs-back s (suc n) at rs b e =
     more-back s n at rs (Read s (suc n) at rs) e (λ qs w f g.
-    let i = recs-back s n (at + 89) qs b f in
-    rw (← g) record { bytes = rec-back s at b (w .inside) ∙ ap (putRec (recAt s at)) (i .bytes); count = ap suc (i .count); fits = (rec-fits s at b w, i .fits) })
+    let i = recs-back s n (behind s at) qs b f in
+    subst (Read s (suc n) at) g
+    (record { bytes = rec-back s at b (whole-back s at w) ∙ ap (putRec (recAt s at)) (i .bytes); count = ap suc (i .count); fits = (rec-fits s at b, i .fits) }))

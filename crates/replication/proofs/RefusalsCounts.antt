@@ -23,16 +23,19 @@ use Rattle.ticks.proofs.Operations.{normal-test, normal-raise, known-raise-own,
 use Rattle.ticks.proofs.Unique.{normal-sound}
 use Rattle.ticks.proofs.Largest.{alike-all}
 use Rattle.ticks.proofs.Counts.{distinct-count, replicas-are, raise-map, raise-replicas, raise-ranges, normalise-replicas, project-replicas}
-use Rattle.replication.specs.Formats.{Rec, Store, items, find}
+use Rattle.replication.specs.Record.{Rec, Content}
+use Rattle.replication.specs.Valid.{RightBrought}
+use Rattle.replication.specs.Formats.{Store, items, find}
 use Rattle.replication.specs.OpenStore.{versionsIn, openStore}
 use Rattle.replication.specs.Operate.{replace, nextTick, changedRec, changed, made}
-use Rattle.replication.specs.Calls.{editReply, deleteReply, makeReply}
+use Rattle.replication.specs.Calls.{editReply, deleteReply, makeReply, tombstone, liveContent}
 use Rattle.replication.proofs.Tables.{find-here, find-there, replace-nil, replace-after, replace-before, replace-length-found, valid-recs}
 use Rattle.replication.proofs.TablesSelected.{selected-length}
 use Rattle.replication.proofs.StoreBytes.{ValidStore, valid-store, store-opened}
 use Rattle.replication.proofs.RefusalsTests.{Present, Unexhausted, opened-lawful}
 use Rattle.replication.proofs.RefusalsEdit.{editedStore, edit-11, edit-12, edit-13, delete-11, delete-12, delete-13}
 use Rattle.replication.proofs.RefusalsMake.{make-11, make-13}
+use Rattle.replication.specs.Call.{Brought}
 
 -- ---- replicas
 
@@ -87,10 +90,10 @@ replace-length-new r (x ∷ xs) f =
 -- ---- a changed store
 
 -- the record that a change writes, whatever stood there before
-item-of : (kind i own t tag : ℕ) (o : Option Rec) → changedRec kind i own t tag o .item ≡ i
+item-of : (content : Content) (i own t : ℕ) (o : Option Rec) → changedRec content i own t o .item ≡ i
 unfolding changedRec
-item-of kind i own t tag none = refl
-item-of kind i own t tag (some r) = refl
+item-of content i own t none = refl
+item-of content i own t (some r) = refl
 
 none-or : (o : Option Rec) → (o ≡ none) ⊎ ((r : Rec) × (o ≡ some r))
 none-or none = inl refl
@@ -122,79 +125,79 @@ module _ (L : Limits) (permitted : Permitted L) (s : List ℕ) (octets : Bytes s
       let w = replicas-are (st .knowledge) (st .own) normal .0 m in
       omega (arith, w .1 .1, alike-all (st .knowledge) (st .own) (w .0) (valid .alike))
 
-  module _ (kind i tag : ℕ) where
-    changed-replicas : (L .replicas < length (changed kind i tag st .knowledge .replicas)) ↔ ((known (st .knowledge) 0 (st .own) ≡ 0) × (length (st .knowledge .replicas) ≡ L .replicas))
+  module _ (content : Content) (i : ℕ) where
+    changed-replicas : (L .replicas < length (changed content i st .knowledge .replicas)) ↔ ((known (st .knowledge) 0 (st .own) ≡ 0) × (length (st .knowledge .replicas) ≡ L .replicas))
     unfolding changed nextTick
     changed-replicas = (there (zero-or (known (st .knowledge) 0 (st .own))), λ h. omega (arith, h .1, raise-new (st .own) (1 + largest (st .knowledge)) (st .knowledge) normal (omega arith) (own-out (h .0))))
       where
-        there : (known (st .knowledge) 0 (st .own) ≡ 0) ⊎ (1 ≤ known (st .knowledge) 0 (st .own)) → L .replicas < length (changed kind i tag st .knowledge .replicas) → (known (st .knowledge) 0 (st .own) ≡ 0) × (length (st .knowledge .replicas) ≡ L .replicas)
+        there : (known (st .knowledge) 0 (st .own) ≡ 0) ⊎ (1 ≤ known (st .knowledge) 0 (st .own)) → L .replicas < length (changed content i st .knowledge .replicas) → (known (st .knowledge) 0 (st .own) ≡ 0) × (length (st .knowledge .replicas) ≡ L .replicas)
         there (inl z) h = (z, omega (arith, h, lawful .replicas, raise-new (st .own) (1 + largest (st .knowledge)) (st .knowledge) normal (omega arith) (own-out z)))
         there (inr l) h = absurd (omega (arith, h, lawful .replicas, raise-old (st .own) (1 + largest (st .knowledge)) (st .knowledge) (own-in l)))
 
-    changed-ranges : length (changed kind i tag st .knowledge .ranges) ≤ L .ranges
+    changed-ranges : length (changed content i st .knowledge .ranges) ≤ L .ranges
     unfolding changed nextTick
     changed-ranges = omega (arith, lawful .ranges, raise-ranges (st .own) (1 + largest (st .knowledge)) (st .knowledge) normal)
 
-    changed-found : (r : Rec) → find i (st .records) ≡ some r → length (changed kind i tag st .records) ≤ L .records
+    changed-found : (r : Rec) → find i (st .records) ≡ some r → length (changed content i st .records) ≤ L .records
     unfolding changed
     changed-found r e =
-        let new = changedRec kind i (st .own) (nextTick st) tag (find i (st .records)) in
+        let new = changedRec content i (st .own) (nextTick st) (find i (st .records)) in
         omega (
           arith,
           valid .count,
-          replace-length-found new 0 (st .records) r rising (ap (λ (j : ℕ). find j (st .records)) (item-of kind i (st .own) (nextTick st) tag (find i (st .records))) ∙ e),
+          replace-length-found new 0 (st .records) r rising (ap (λ (j : ℕ). find j (st .records)) (item-of content i (st .own) (nextTick st) (find i (st .records))) ∙ e),
         )
 
-    changed-absent : find i (st .records) ≡ none → length (changed kind i tag st .records) ≡ suc (length (st .records))
+    changed-absent : find i (st .records) ≡ none → length (changed content i st .records) ≡ suc (length (st .records))
     unfolding changed
     changed-absent e =
-        let new = changedRec kind i (st .own) (nextTick st) tag (find i (st .records)) in
-        replace-length-new new (st .records) (ap (λ (j : ℕ). find j (st .records)) (item-of kind i (st .own) (nextTick st) tag (find i (st .records))) ∙ e)
+        let new = changedRec content i (st .own) (nextTick st) (find i (st .records)) in
+        replace-length-new new (st .records) (ap (λ (j : ℕ). find j (st .records)) (item-of content i (st .own) (nextTick st) (find i (st .records))) ∙ e)
 
-    changed-records : (L .records < length (changed kind i tag st .records)) ↔ ((find i (st .records) ≡ none) × (length (st .records) ≡ L .records))
+    changed-records : (L .records < length (changed content i st .records)) ↔ ((find i (st .records) ≡ none) × (length (st .records) ≡ L .records))
     changed-records = (there (none-or (find i (st .records))), λ h. omega (arith, h .1, changed-absent (h .0)))
       where
-        there : (find i (st .records) ≡ none) ⊎ ((r : Rec) × (find i (st .records) ≡ some r)) → L .records < length (changed kind i tag st .records) → (find i (st .records) ≡ none) × (length (st .records) ≡ L .records)
+        there : (find i (st .records) ≡ none) ⊎ ((r : Rec) × (find i (st .records) ≡ some r)) → L .records < length (changed content i st .records) → (find i (st .records) ≡ none) × (length (st .records) ≡ L .records)
         there (inl e) h = (e, omega (arith, valid .count, changed-absent e))
         there (inr w) h = absurd (omega (arith, changed-found (w .0) (w .1)))
 
   -- ---- edit
 
-  module _ (item tag : List ℕ) where
-    pub edit-11-full : (editReply L s item tag ≡ refuses 11) ↔ (((length item ≡ 24) × (length tag ≡ 16)) × (Unexhausted st × ((known (st .knowledge) 0 (st .own) ≡ 0) × (length (st .knowledge .replicas) ≡ L .replicas))))
+  module _ (item : List ℕ) (b : Brought) where
+    pub edit-11-full : (editReply L s item b ≡ refuses 11) ↔ (((length item ≡ 24) × RightBrought b) × (Unexhausted st × ((known (st .knowledge) 0 (st .own) ≡ 0) × (length (st .knowledge .replicas) ≡ L .replicas))))
     edit-11-full =
-        let law = edit-11 L permitted s item tag octets st os in
-        let count = changed-replicas 1 (beAt item 24 0) (beAt tag 16 0) in
+        let law = edit-11 L permitted s item b octets st os in
+        let count = changed-replicas (liveContent b) (beAt item 24 0) in
         ((λ h. let a = law .0 h in (a .0, (a .1 .0, count .0 (a .1 .1)))), λ a. law .1 (a .0, (a .1 .0, count .1 (a .1 .1))))
 
-    pub edit-never-12 : editReply L s item tag ≡ refuses 12 → ⊥
+    pub edit-never-12 : editReply L s item b ≡ refuses 12 → ⊥
     edit-never-12 h =
-        omega (arith, edit-12 L permitted s item tag octets st os .0 h .1 .1 .1, changed-ranges 1 (beAt item 24 0) (beAt tag 16 0))
+        omega (arith, edit-12 L permitted s item b octets st os .0 h .1 .1 .1, changed-ranges (liveContent b) (beAt item 24 0))
 
     -- the item has no record, the table is full, and the replicas leave room
-    pub edit-13-full : (editReply L s item tag ≡ refuses 13) ↔ (((length item ≡ 24) × (length tag ≡ 16)) × (Unexhausted st × (((1 ≤ known (st .knowledge) 0 (st .own)) ⊎ (length (st .knowledge .replicas) < L .replicas)) × ((find (beAt item 24 0) (st .records) ≡ none) × (length (st .records) ≡ L .records)))))
+    pub edit-13-full : (editReply L s item b ≡ refuses 13) ↔ (((length item ≡ 24) × RightBrought b) × (Unexhausted st × (((1 ≤ known (st .knowledge) 0 (st .own)) ⊎ (length (st .knowledge .replicas) < L .replicas)) × ((find (beAt item 24 0) (st .records) ≡ none) × (length (st .records) ≡ L .records)))))
     edit-13-full =
-        let law = edit-13 L permitted s item tag octets st os in
-        let count = changed-records 1 (beAt item 24 0) (beAt tag 16 0) in (
+        let law = edit-13 L permitted s item b octets st os in
+        let count = changed-records (liveContent b) (beAt item 24 0) in (
           (λ h. let a = law .0 h in (a .0, (a .1 .0, (room-there (a .1 .1 .0) (zero-or (known (st .knowledge) 0 (st .own))), count .0 (a .1 .1 .1 .1))))),
-          λ a. law .1 (a .0, (a .1 .0, (room-back (a .1 .1 .0), (changed-ranges 1 (beAt item 24 0) (beAt tag 16 0), count .1 (a .1 .1 .1))))),
+          λ a. law .1 (a .0, (a .1 .0, (room-back (a .1 .1 .0), (changed-ranges (liveContent b) (beAt item 24 0), count .1 (a .1 .1 .1))))),
         )
       where
-        room-there : length (editedStore st item tag .knowledge .replicas) ≤ L .replicas → (known (st .knowledge) 0 (st .own) ≡ 0) ⊎ (1 ≤ known (st .knowledge) 0 (st .own)) → (1 ≤ known (st .knowledge) 0 (st .own)) ⊎ (length (st .knowledge .replicas) < L .replicas)
+        room-there : length (editedStore st item b .knowledge .replicas) ≤ L .replicas → (known (st .knowledge) 0 (st .own) ≡ 0) ⊎ (1 ≤ known (st .knowledge) 0 (st .own)) → (1 ≤ known (st .knowledge) 0 (st .own)) ⊎ (length (st .knowledge .replicas) < L .replicas)
         room-there h (inr l) = inl l
         room-there h (inl z) =
             elim (order (length (st .knowledge .replicas)) (L .replicas)) [
               | less k ↦ inr k
-              | same k ↦ absurd (omega (arith, h, changed-replicas 1 (beAt item 24 0) (beAt tag 16 0) .1 (z, k)))
+              | same k ↦ absurd (omega (arith, h, changed-replicas (liveContent b) (beAt item 24 0) .1 (z, k)))
               | more k ↦ absurd (omega (arith, lawful .replicas))
             ]
 
-        room-back : (1 ≤ known (st .knowledge) 0 (st .own)) ⊎ (length (st .knowledge .replicas) < L .replicas) → length (editedStore st item tag .knowledge .replicas) ≤ L .replicas
+        room-back : (1 ≤ known (st .knowledge) 0 (st .own)) ⊎ (length (st .knowledge .replicas) < L .replicas) → length (editedStore st item b .knowledge .replicas) ≤ L .replicas
         room-back x =
-            elim (order (length (editedStore st item tag .knowledge .replicas)) (L .replicas)) [
+            elim (order (length (editedStore st item b .knowledge .replicas)) (L .replicas)) [
               | less k ↦ omega arith
               | same k ↦ omega arith
-              | more k ↦ let w = changed-replicas 1 (beAt item 24 0) (beAt tag 16 0) .0 k in absurd (⊎-elim (λ (l : 1 ≤ known (st .knowledge) 0 (st .own)). omega (arith, w .0)) (λ (l : length (st .knowledge .replicas) < L .replicas). omega (arith, w .1)) x)
+              | more k ↦ let w = changed-replicas (liveContent b) (beAt item 24 0) .0 k in absurd (⊎-elim (λ (l : 1 ≤ known (st .knowledge) 0 (st .own)). omega (arith, w .0)) (λ (l : length (st .knowledge .replicas) < L .replicas). omega (arith, w .1)) x)
             ]
 
   -- ---- delete
@@ -203,19 +206,19 @@ module _ (L : Limits) (permitted : Permitted L) (s : List ℕ) (octets : Bytes s
     pub delete-11-full : (deleteReply L s item ≡ refuses 11) ↔ ((length item ≡ 24) × (Present (find (beAt item 24 0) (st .records)) × (Unexhausted st × ((known (st .knowledge) 0 (st .own) ≡ 0) × (length (st .knowledge .replicas) ≡ L .replicas)))))
     delete-11-full =
         let law = delete-11 L permitted s item octets st os in
-        let count = changed-replicas 2 (beAt item 24 0) 0 in (
+        let count = changed-replicas tombstone (beAt item 24 0) in (
           (λ h. let a = law .0 h in (a .0, (a .1 .0, (a .1 .1 .0, count .0 (a .1 .1 .1))))),
           λ a. law .1 (a .0, (a .1 .0, (a .1 .1 .0, count .1 (a .1 .1 .1)))),
         )
 
     pub delete-never-12 : deleteReply L s item ≡ refuses 12 → ⊥
     delete-never-12 h =
-        omega (arith, delete-12 L permitted s item octets st os .0 h .1 .1 .1 .1, changed-ranges 2 (beAt item 24 0) 0)
+        omega (arith, delete-12 L permitted s item octets st os .0 h .1 .1 .1 .1, changed-ranges tombstone (beAt item 24 0))
 
     pub delete-never-13 : deleteReply L s item ≡ refuses 13 → ⊥
     delete-never-13 h =
         let a = delete-13 L permitted s item octets st os .0 h in
-        omega (arith, a .1 .1 .1 .1 .1, changed-found 2 (beAt item 24 0) 0 (a .1 .0 .0) (a .1 .0 .1 .0))
+        omega (arith, a .1 .1 .1 .1 .1, changed-found tombstone (beAt item 24 0) (a .1 .0 .0) (a .1 .0 .1 .0))
 
   -- ---- make
 

@@ -20,34 +20,36 @@ use Rattle.ticks.proofs.ForCalls.{id-is}
 use Rattle.replication.specs.Formats.{Store, encodeStore, find}
 use Rattle.replication.specs.OpenStore.{openStore}
 use Rattle.replication.specs.Operate.{changed}
-use Rattle.replication.specs.Calls.{storeOr, gone, exhausted, storeLines, editLines, edited, editReply, deleteLines, deleted, deleteReply}
+use Rattle.replication.specs.Calls.{storeOr, gone, exhausted, storeLines, editLines, edited, editReply, deleteLines, deleted, deleteReply, tombstone, liveContent, wrongBrought}
 use Rattle.replication.proofs.RefusalsTable.{Rule, rule, Told, told-cons, At, only, refused-at, refused-among, given-none, refuses-same}
 use Rattle.replication.proofs.RefusalsTests.{Gone, Present, means-19, Exhausted, Unexhausted, means-20, means-length, means-lengths, rule11, rule12, rule13, told-store, opened-lawful}
 use Rattle.codec.specs.Parsed.{accepted, refused, Parsed, ownFault, readOr}
+use Rattle.replication.specs.Call.{Brought}
+use Rattle.replication.specs.Valid.{RightBrought}
 
 -- ---- the replies, by what opens
 
-edit-on : Limits → Parsed Store → List ℕ → List ℕ → Reply
-edit-on L o item tag = firstFault refuses (editLines L o item tag (edited o item tag)) (gives (encodeStore (edited o item tag)))
+edit-on : Limits → Parsed Store → List ℕ → Brought → Reply
+edit-on L o item b = firstFault refuses (editLines L o item b (edited o item b)) (gives (encodeStore (edited o item b)))
 
 delete-on : Limits → Parsed Store → List ℕ → Reply
 delete-on L o item = firstFault refuses (deleteLines L o item (deleted o item)) (gives (encodeStore (deleted o item)))
 
 -- the store's own number, whichever it is
-pub edit-store : (L : Limits) (s item tag : List ℕ) (n : ℕ) → openStore L s ≡ refused n → editReply L s item tag ≡ refuses n
+pub edit-store : (L : Limits) (s item : List ℕ) (b : Brought) (n : ℕ) → openStore L s ≡ refused n → editReply L s item b ≡ refuses n
 unfolding editReply edit-on editLines ownFault firstFault
-edit-store L s item tag n e = ap (λ (o : Parsed Store). edit-on L o item tag) e
+edit-store L s item b n e = ap (λ (o : Parsed Store). edit-on L o item b) e
 
 pub delete-store : (L : Limits) (s item : List ℕ) (n : ℕ) → openStore L s ≡ refused n → deleteReply L s item ≡ refuses n
 unfolding deleteReply delete-on deleteLines ownFault firstFault
 delete-store L s item n e = ap (λ (o : Parsed Store). delete-on L o item) e
 
 -- the stores that an edit and a delete come to
-abbrev pub editedStore : Store → List ℕ → List ℕ → Store
-editedStore st item tag = changed 1 (beAt item 24 0) (beAt tag 16 0) st
+abbrev pub editedStore : Store → List ℕ → Brought → Store
+editedStore st item b = changed (liveContent b) (beAt item 24 0) st
 
 abbrev pub deletedStore : Store → List ℕ → Store
-deletedStore st item = changed 2 (beAt item 24 0) 0 st
+deletedStore st item = changed tombstone (beAt item 24 0) st
 
 -- the three lines of a changed store
 abbrev pub storeRules : Limits → Store → List Rule
@@ -55,83 +57,83 @@ storeRules L st = rule11 L (st .knowledge) ∷ rule12 L (st .knowledge) ∷ rule
 
 -- ---- edit
 
-module _ (L : Limits) (st : Store) (item tag : List ℕ) where
+module _ (L : Limits) (st : Store) (item : List ℕ) (b : Brought) where
   abbrev edit-lines : List Line
-  edit-lines = line 17 (wrongLength 24 item || wrongLength 16 tag) ∷ line 20 (exhausted st) ∷ storeLines L (editedStore st item tag)
+  edit-lines = line 17 (wrongLength 24 item || wrongBrought b) ∷ line 20 (exhausted st) ∷ storeLines L (editedStore st item b)
 
   abbrev pub editRules : List Rule
   editRules =
-      rule 17 ((length item ≡ 24 → ⊥) ⊎ (length tag ≡ 16 → ⊥)) ((length item ≡ 24) × (length tag ≡ 16)) ∷
+      rule 17 ((length item ≡ 24 → ⊥) ⊎ (RightBrought b → ⊥)) ((length item ≡ 24) × RightBrought b) ∷
       rule 20 (Exhausted st) (Unexhausted st) ∷
-      storeRules L (editedStore st item tag)
+      storeRules L (editedStore st item b)
 
   edit-told : Lawful (anyId L) (st .knowledge) → Told edit-lines editRules
   edit-told l =
-      told-cons (line 17 (wrongLength 24 item || wrongLength 16 tag)) (line 20 (exhausted st) ∷ storeLines L (editedStore st item tag))
-      (rule 17 ((length item ≡ 24 → ⊥) ⊎ (length tag ≡ 16 → ⊥)) ((length item ≡ 24) × (length tag ≡ 16))) (rule 20 (Exhausted st) (Unexhausted st) ∷ storeRules L (editedStore st item tag))
-      (means-lengths item tag)
-      (told-cons (line 20 (exhausted st)) (storeLines L (editedStore st item tag)) (rule 20 (Exhausted st) (Unexhausted st)) (storeRules L (editedStore st item tag)) (means-20 L st l)
-      (told-store L (editedStore st item tag)))
+      told-cons (line 17 (wrongLength 24 item || wrongBrought b)) (line 20 (exhausted st) ∷ storeLines L (editedStore st item b))
+      (rule 17 ((length item ≡ 24 → ⊥) ⊎ (RightBrought b → ⊥)) ((length item ≡ 24) × RightBrought b)) (rule 20 (Exhausted st) (Unexhausted st) ∷ storeRules L (editedStore st item b))
+      (means-lengths item b)
+      (told-cons (line 20 (exhausted st)) (storeLines L (editedStore st item b)) (rule 20 (Exhausted st) (Unexhausted st)) (storeRules L (editedStore st item b)) (means-20 L st l)
+      (told-store L (editedStore st item b)))
 
-  edit-table : (s : List ℕ) → openStore L s ≡ accepted st → editReply L s item tag ≡ firstFault refuses edit-lines (gives (encodeStore (editedStore st item tag)))
+  edit-table : (s : List ℕ) → openStore L s ≡ accepted st → editReply L s item b ≡ firstFault refuses edit-lines (gives (encodeStore (editedStore st item b)))
   unfolding editReply edit-on editLines edited ownFault readOr firstFault
   edit-table s e =
-      ap (λ (o : Parsed Store). edit-on L o item tag) e
-      ∙ ap₂ (λ (i : ℕ) (g : ℕ). firstFault refuses (line 17 (wrongLength 24 item || wrongLength 16 tag) ∷ line 20 (exhausted st) ∷ storeLines L (changed 1 i g st)) (gives (encodeStore (changed 1 i g st)))) (id-is 24 item) (id-is 16 tag)
+      ap (λ (o : Parsed Store). edit-on L o item b) e
+      ∙ ap (λ (i : ℕ). firstFault refuses (line 17 (wrongLength 24 item || wrongBrought b) ∷ line 20 (exhausted st) ∷ storeLines L (changed (liveContent b) i st)) (gives (encodeStore (changed (liveContent b) i st)))) (id-is 24 item)
 
 -- what is met where edit gives bytes
-pub record EditGives (L : Limits) (st : Store) (item tag bs : List ℕ) : Type 0 where
+pub record EditGives (L : Limits) (st : Store) (item : List ℕ) (b : Brought) (bs : List ℕ) : Type 0 where
   pub item24 : length item ≡ 24
-  pub tag16 : length tag ≡ 16
+  pub brought : RightBrought b
   pub unexhausted : Unexhausted st
-  pub replicas : length (editedStore st item tag .knowledge .replicas) ≤ L .replicas
-  pub ranges : length (editedStore st item tag .knowledge .ranges) ≤ L .ranges
-  pub records : length (editedStore st item tag .records) ≤ L .records
-  pub bytes : bs ≡ encodeStore (editedStore st item tag)
+  pub replicas : length (editedStore st item b .knowledge .replicas) ≤ L .replicas
+  pub ranges : length (editedStore st item b .knowledge .ranges) ≤ L .ranges
+  pub records : length (editedStore st item b .records) ≤ L .records
+  pub bytes : bs ≡ encodeStore (editedStore st item b)
 
-module _ (L : Limits) (permitted : Permitted L) (s item tag : List ℕ) (octets : Bytes s) (st : Store) (os : openStore L s ≡ accepted st) where
-  told : Told (edit-lines L st item tag) (editRules L st item tag)
-  told = edit-told L st item tag (opened-lawful L s st permitted octets os)
+module _ (L : Limits) (permitted : Permitted L) (s item : List ℕ) (b : Brought) (octets : Bytes s) (st : Store) (os : openStore L s ≡ accepted st) where
+  told : Told (edit-lines L st item b) (editRules L st item b)
+  told = edit-told L st item b (opened-lawful L s st permitted octets os)
 
-  at : (n k : ℕ) → only n k (editRules L st item tag) ≡ true → (editReply L s item tag ≡ refuses n) ↔ At k (editRules L st item tag)
-  at n k o = refused-at (editReply L s item tag) (edit-lines L st item tag) (editRules L st item tag) (encodeStore (editedStore st item tag)) (edit-table L st item tag s os) told n k o
+  at : (n k : ℕ) → only n k (editRules L st item b) ≡ true → (editReply L s item b ≡ refuses n) ↔ At k (editRules L st item b)
+  at n k o = refused-at (editReply L s item b) (edit-lines L st item b) (editRules L st item b) (encodeStore (editedStore st item b)) (edit-table L st item b s os) told n k o
 
-  pub edit-17 : (editReply L s item tag ≡ refuses 17) ↔ ((length item ≡ 24 → ⊥) ⊎ (length tag ≡ 16 → ⊥))
+  pub edit-17 : (editReply L s item b ≡ refuses 17) ↔ ((length item ≡ 24 → ⊥) ⊎ (RightBrought b → ⊥))
   edit-17 = at 17 0 refl
 
-  pub edit-20 : (editReply L s item tag ≡ refuses 20) ↔ (((length item ≡ 24) × (length tag ≡ 16)) × Exhausted st)
+  pub edit-20 : (editReply L s item b ≡ refuses 20) ↔ (((length item ≡ 24) × RightBrought b) × Exhausted st)
   edit-20 = at 20 1 refl
 
-  pub edit-11 : (editReply L s item tag ≡ refuses 11) ↔ (((length item ≡ 24) × (length tag ≡ 16)) × (Unexhausted st × (L .replicas < length (editedStore st item tag .knowledge .replicas))))
+  pub edit-11 : (editReply L s item b ≡ refuses 11) ↔ (((length item ≡ 24) × RightBrought b) × (Unexhausted st × (L .replicas < length (editedStore st item b .knowledge .replicas))))
   edit-11 = at 11 2 refl
 
-  pub edit-12 : (editReply L s item tag ≡ refuses 12) ↔ (((length item ≡ 24) × (length tag ≡ 16)) × (Unexhausted st × ((length (editedStore st item tag .knowledge .replicas) ≤ L .replicas) × (L .ranges < length (editedStore st item tag .knowledge .ranges)))))
+  pub edit-12 : (editReply L s item b ≡ refuses 12) ↔ (((length item ≡ 24) × RightBrought b) × (Unexhausted st × ((length (editedStore st item b .knowledge .replicas) ≤ L .replicas) × (L .ranges < length (editedStore st item b .knowledge .ranges)))))
   edit-12 = at 12 3 refl
 
-  pub edit-13 : (editReply L s item tag ≡ refuses 13) ↔ (((length item ≡ 24) × (length tag ≡ 16)) × (Unexhausted st × ((length (editedStore st item tag .knowledge .replicas) ≤ L .replicas) × ((length (editedStore st item tag .knowledge .ranges) ≤ L .ranges) × (L .records < length (editedStore st item tag .records))))))
+  pub edit-13 : (editReply L s item b ≡ refuses 13) ↔ (((length item ≡ 24) × RightBrought b) × (Unexhausted st × ((length (editedStore st item b .knowledge .replicas) ≤ L .replicas) × ((length (editedStore st item b .knowledge .ranges) ≤ L .ranges) × (L .records < length (editedStore st item b .records))))))
   edit-13 = at 13 4 refl
 
-  pub edit-gives : (bs : List ℕ) → (editReply L s item tag ≡ gives bs) ↔ EditGives L st item tag bs
+  pub edit-gives : (bs : List ℕ) → (editReply L s item b ≡ gives bs) ↔ EditGives L st item b bs
   edit-gives bs =
-      let law = given-none (editReply L s item tag) (edit-lines L st item tag) (editRules L st item tag) (encodeStore (editedStore st item tag)) (edit-table L st item tag s os) told bs in (
+      let law = given-none (editReply L s item b) (edit-lines L st item b) (editRules L st item b) (encodeStore (editedStore st item b)) (edit-table L st item b s os) told bs in (
         (λ h.
             let w = law .0 h in
-            record { item24 = w .0 .0 .0; tag16 = w .0 .0 .1; unexhausted = w .0 .1 .0; replicas = w .0 .1 .1 .0; ranges = w .0 .1 .1 .1 .0; records = w .0 .1 .1 .1 .1 .0; bytes = w .1 }),
-        λ m. law .1 (((m .item24, m .tag16), (m .unexhausted, (m .replicas, (m .ranges, (m .records, tt))))), m .bytes),
+            record { item24 = w .0 .0 .0; brought = w .0 .0 .1; unexhausted = w .0 .1 .0; replicas = w .0 .1 .1 .0; ranges = w .0 .1 .1 .1 .0; records = w .0 .1 .1 .1 .1 .0; bytes = w .1 }),
+        λ m. law .1 (((m .item24, m .brought), (m .unexhausted, (m .replicas, (m .ranges, (m .records, tt))))), m .bytes),
       )
 
-module _ (L : Limits) (permitted : Permitted L) (s item tag : List ℕ) (octets : Bytes s) where
+module _ (L : Limits) (permitted : Permitted L) (s item : List ℕ) (b : Brought) (octets : Bytes s) where
   -- no other number: the store's own, or one of the table
-  pub edit-numbers : (n : ℕ) → editReply L s item tag ≡ refuses n → (openStore L s ≡ refused n) ⊎ (((st : Store) × (openStore L s ≡ accepted st)) × Among n (17 ∷ 20 ∷ 11 ∷ 12 ∷ 13 ∷ []))
+  pub edit-numbers : (n : ℕ) → editReply L s item b ≡ refuses n → (openStore L s ≡ refused n) ⊎ (((st : Store) × (openStore L s ≡ accepted st)) × Among n (17 ∷ 20 ∷ 11 ∷ 12 ∷ 13 ∷ []))
   edit-numbers n = go (openStore L s) refl
     where
-      go : (o : Parsed Store) → openStore L s ≡ o → editReply L s item tag ≡ refuses n → (openStore L s ≡ refused n) ⊎ (((st : Store) × (openStore L s ≡ accepted st)) × Among n (17 ∷ 20 ∷ 11 ∷ 12 ∷ 13 ∷ []))
-      go (refused m) e h = inl (e ∙ ap refused (refuses-same (editReply L s item tag) m n (edit-store L s item tag m e) h))
+      go : (o : Parsed Store) → openStore L s ≡ o → editReply L s item b ≡ refuses n → (openStore L s ≡ refused n) ⊎ (((st : Store) × (openStore L s ≡ accepted st)) × Among n (17 ∷ 20 ∷ 11 ∷ 12 ∷ 13 ∷ []))
+      go (refused m) e h = inl (e ∙ ap refused (refuses-same (editReply L s item b) m n (edit-store L s item b m e) h))
       go (accepted st) e h =
           inr (
             (st, e),
-            refused-among (editReply L s item tag) (edit-lines L st item tag) (editRules L st item tag) (encodeStore (editedStore st item tag)) (edit-table L st item tag s e)
-                (told L permitted s item tag octets st e) n h,
+            refused-among (editReply L s item b) (edit-lines L st item b) (editRules L st item b) (encodeStore (editedStore st item b)) (edit-table L st item b s e)
+                (told L permitted s item b octets st e) n h,
           )
 
 -- ---- delete
@@ -160,7 +162,7 @@ module _ (L : Limits) (st : Store) (item : List ℕ) where
   unfolding deleteReply delete-on deleteLines deleted ownFault readOr firstFault
   delete-table s e =
       ap (λ (o : Parsed Store). delete-on L o item) e
-      ∙ ap (λ (i : ℕ). firstFault refuses (line 17 (wrongLength 24 item) ∷ line 19 (gone (find i (st .records))) ∷ line 20 (exhausted st) ∷ storeLines L (changed 2 i 0 st)) (gives (encodeStore (changed 2 i 0 st)))) (id-is 24 item)
+      ∙ ap (λ (i : ℕ). firstFault refuses (line 17 (wrongLength 24 item) ∷ line 19 (gone (find i (st .records))) ∷ line 20 (exhausted st) ∷ storeLines L (changed tombstone i st)) (gives (encodeStore (changed tombstone i st)))) (id-is 24 item)
 
 -- what is met where delete gives bytes
 pub record DeleteGives (L : Limits) (st : Store) (item bs : List ℕ) : Type 0 where

@@ -17,7 +17,7 @@ use Rattle.layout.specs.Permitted.{Permitted}
 use Rattle.ticks.specs.Operations.{merge}
 use Rattle.ticks.specs.Table.{sorted}
 use Rattle.ticks.proofs.Lists.{Among, among-left, among-right, among-cases, sorted-in, sorted-only, sorted-rising, rising-unique}
-use Rattle.replication.specs.Formats.{Rec, Store, Batch, items, encodeStore}
+use Rattle.replication.specs.Formats.{Store, Batch, items, encodeStore}
 use Rattle.replication.specs.OpenStore.{versionsIn, openStore}
 use Rattle.replication.specs.OpenBatch.{carried, openBatch}
 use Rattle.replication.specs.Operate.{join, applied}
@@ -29,6 +29,7 @@ use Rattle.replication.proofs.BatchBytes.{valid-batch, batch-opened}
 use Rattle.replication.proofs.RefusalsTests.{Covered, Behind}
 use Rattle.replication.proofs.RefusalsApply.{ApplyGives, apply-13, apply-gives}
 use Rattle.codec.specs.Parsed.{accepted}
+use Rattle.replication.specs.Record.{Rec}
 
 -- ---- the items of a join
 

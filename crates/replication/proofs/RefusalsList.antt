@@ -30,13 +30,11 @@ use Rattle.replication.specs.Formats.{Store, Batch, find}
 use Rattle.replication.specs.OpenStore.{openStore}
 use Rattle.replication.specs.OpenBatch.{openBatch}
 use Rattle.replication.specs.Calls.{exhausted, editReply, deleteReply, makeReply, applyReply}
-use Rattle.replication.specs.Lists.{Call, Given, World, outcome, batchNumber}
-use Rattle.replication.specs.Machine.{Remembered, State, value, numbered, greatest, largestKnown}
-use Rattle.replication.specs.Promise.{ends, machine}
-use Rattle.replication.proofs.StoreBytes.{store-bytes}
-use Rattle.replication.proofs.AgreeInvariant.{Follows, opens}
+use Rattle.replication.specs.Lists.{World, outcome, batchNumber}
+use Rattle.replication.specs.Machine.{Remembered, State, value, greatest, largestKnown, rememberedAt}
+use Rattle.replication.specs.Promise.{IsBatch, ends, machine}
+use Rattle.replication.proofs.AgreeInvariant.{store-octets, Follows, opens}
 use Rattle.replication.proofs.AgreeEdit.{largest-same}
-use Rattle.replication.proofs.AgreeMake.{id-value}
 use Rattle.replication.proofs.AgreeRun.{paired-number, batch-open-at}
 use Rattle.replication.proofs.Demand3.{ahead-fails, ends-follow, accepted-same}
 use Rattle.replication.proofs.RefusalsTests.{Lacks, Ahead, Behind, ahead-exact, behind-apart, Gone, Present, Exhausted, means-20}
@@ -46,6 +44,9 @@ use Rattle.replication.proofs.RefusalsApply.{apply-18, apply-numbers}
 use Rattle.codec.specs.Parsed.{accepted, Parsed, refused}
 use Rattle.ticks.proofs.Lists.{Among}
 use Rattle.layout.specs.Parse.{parse}
+use Rattle.replication.proofs.Arguments.{id-value}
+use Rattle.replication.specs.Call.{Call, Given, Brought}
+use Rattle.replication.specs.Valid.{RightBrought}
 
 -- ---- the buffer
 
@@ -131,17 +132,17 @@ pub record LacksNeeded (m : State) (p : ℕ) (span : Remembered) (b : Batch) : T
 -- how the calls on replica p are refused, in the machine's terms
 pub record RefusedAsMachine (R : Rules) (w : World) (m : State) (p : ℕ) : Type 0 where
   -- the numbers that can be given: neither a store's own nor that of a batch of the list (15, 16) is among them
-  pub editNumbers : (item tag : List ℕ) (n : ℕ) → editReply (R .limits) (w .stores p) item tag ≡ refuses n → Among n (17 ∷ 20 ∷ 11 ∷ 12 ∷ 13 ∷ [])
+  pub editNumbers : (item : List ℕ) (b : Brought) (n : ℕ) → editReply (R .limits) (w .stores p) item b ≡ refuses n → Among n (17 ∷ 20 ∷ 11 ∷ 12 ∷ 13 ∷ [])
   pub deleteNumbers : (item : List ℕ) (n : ℕ) → deleteReply (R .limits) (w .stores p) item ≡ refuses n → Among n (17 ∷ 19 ∷ 20 ∷ 11 ∷ 12 ∷ 13 ∷ [])
   pub makeNumbers : (knowledge first last : List ℕ) (n : ℕ) → makeReply R (w .stores p) knowledge first last ≡ refuses n → (parse R knowledge ≡ refused n) ⊎ Among n (17 ∷ 11 ∷ 12 ∷ 13 ∷ [])
   pub applyNumbers : (k : ℕ) (t : List ℕ) (n : ℕ) → batchNumber k (w .batches) ≡ some t → applyReply (R .limits) (w .stores p) t ≡ refuses n → Among n (18 ∷ 11 ∷ 12 ∷ 13 ∷ [])
   -- 18 is given where the replica knows less than needed somewhere in the span, and on no other condition
-  pub apply18 : (n : ℕ) (t : List ℕ) (span : Remembered) (b : Batch) → batchNumber n (w .batches) ≡ some t → numbered n (m .batches) ≡ some span → openBatch (R .limits) t ≡ accepted b → (applyReply (R .limits) (w .stores p) t ≡ refuses 18) ↔ LacksNeeded m p span b
+  pub apply18 : (n : ℕ) (t : List ℕ) (span : Remembered) (b : Batch) → batchNumber n (w .batches) ≡ some t → rememberedAt n (m .batches) ≡ some span → openBatch (R .limits) t ≡ accepted b → (applyReply (R .limits) (w .stores p) t ≡ refuses 18) ↔ LacksNeeded m p span b
   -- 19 is given where the greatest version of the item that the replica's ticks contain is missing or a tombstone
   pub delete19 : (item : List ℕ) → (deleteReply (R .limits) (w .stores p) item ≡ refuses 19) ↔ ((length item ≡ 24) × Gone (greatest (m .versions) (m .ticks p) (value 0 item)))
   -- 20 is given where the replica's largest known tick is the largest there is
   pub delete20 : (item : List ℕ) → (deleteReply (R .limits) (w .stores p) item ≡ refuses 20) ↔ ((length item ≡ 24) × (Present (greatest (m .versions) (m .ticks p) (value 0 item)) × (largestKnown (m .ticks p) ≡ largestTick)))
-  pub edit20 : (item tag : List ℕ) → (editReply (R .limits) (w .stores p) item tag ≡ refuses 20) ↔ (((length item ≡ 24) × (length tag ≡ 16)) × (largestKnown (m .ticks p) ≡ largestTick))
+  pub edit20 : (item : List ℕ) (b : Brought) → (editReply (R .limits) (w .stores p) item b ≡ refuses 20) ↔ (((length item ≡ 24) × RightBrought b) × (largestKnown (m .ticks p) ≡ largestTick))
 
 same-some : {A : Type 0} (x y : A) → some x ≡ some y → x ≡ y
 same-some x y e = cc
@@ -156,7 +157,7 @@ module _ (R : Rules) (permitted : Permitted (R .limits)) (w : World) (m : State)
   open-here = opens (R .limits) permitted w m f p small
 
   octets : Bytes (w .stores p)
-  octets = subst Bytes (sym (f .stores p small .bytes)) (store-bytes (f .stores p small .st))
+  octets = store-octets (R .limits) (w .stores p) (m .versions) (m .ticks p) p (f .stores p small)
 
   -- the largest tick, in the store and in the machine
   exhausted-same : Exhausted (f .stores p small .st) ↔ (largestKnown (m .ticks p) ≡ largestTick)
@@ -164,9 +165,9 @@ module _ (R : Rules) (permitted : Permitted (R .limits)) (w : World) (m : State)
   exhausted-same =
       let s = f .stores p small in
       let k = s .st .knowledge in
-      let same : largestKnown (m .ticks p) ≡ largest k = largest-same (R .limits) k (m .ticks p) (s .form) (s .ticks) (λ i q h. f .good .strangers p i q h) in (
-        (λ x. omega (arith, same, x .tick, largest-bounds k (x .item) (x .replica), lawful-largest (anyId (R .limits)) k (s .form .lawful))),
-        λ e. means-20 (R .limits) (s .st) (s .form .lawful) .yes (le-leb largestTick (largest k) (omega (arith, same, e))),
+      let same : largestKnown (m .ticks p) ≡ largest k = largest-same k (m .ticks p) (s .valid .normal) (s .ticks) (λ i q h. f .good .strangers p i q h) in (
+        (λ x. omega (arith, same, x .tick, largest-bounds k (x .item) (x .replica), lawful-largest (anyId (R .limits)) k (s .valid .lawful))),
+        λ e. means-20 (R .limits) (s .st) (s .valid .lawful) .yes (le-leb largestTick (largest k) (omega (arith, same, e))),
       )
 
   -- the record of an item, in the store and in the machine
@@ -188,16 +189,16 @@ module _ (R : Rules) (permitted : Permitted (R .limits)) (w : World) (m : State)
         λ a. law .1 (a .0, (subst Present (sym (record-same item (a .0))) (a .1 .0), exhausted-same .1 (a .1 .1))),
       )
 
-  in-list-edit-20 : (item tag : List ℕ) → (editReply (R .limits) (w .stores p) item tag ≡ refuses 20) ↔ (((length item ≡ 24) × (length tag ≡ 16)) × (largestKnown (m .ticks p) ≡ largestTick))
-  in-list-edit-20 item tag =
-      let law = edit-20 (R .limits) permitted (w .stores p) item tag octets (f .stores p small .st) open-here in (
+  in-list-edit-20 : (item : List ℕ) (b : Brought) → (editReply (R .limits) (w .stores p) item b ≡ refuses 20) ↔ (((length item ≡ 24) × RightBrought b) × (largestKnown (m .ticks p) ≡ largestTick))
+  in-list-edit-20 item b =
+      let law = edit-20 (R .limits) permitted (w .stores p) item b octets (f .stores p small .st) open-here in (
         (λ h. let a = law .0 h in (a .0, exhausted-same .0 (a .1))),
         λ a. law .1 (a .0, exhausted-same .1 (a .1)),
       )
 
-  in-list-edit : (item tag : List ℕ) (n : ℕ) → editReply (R .limits) (w .stores p) item tag ≡ refuses n → Among n (17 ∷ 20 ∷ 11 ∷ 12 ∷ 13 ∷ [])
-  in-list-edit item tag n h =
-      elim (edit-numbers (R .limits) permitted (w .stores p) item tag octets n h) [
+  in-list-edit : (item : List ℕ) (b : Brought) (n : ℕ) → editReply (R .limits) (w .stores p) item b ≡ refuses n → Among n (17 ∷ 20 ∷ 11 ∷ 12 ∷ 13 ∷ [])
+  in-list-edit item b n h =
+      elim (edit-numbers (R .limits) permitted (w .stores p) item b octets n h) [
         | inl e ↦ absurd (not-refused (openStore (R .limits) (w .stores p)) (f .stores p small .st) n open-here e)
         | inr a ↦ a .1
       ]
@@ -218,26 +219,26 @@ module _ (R : Rules) (permitted : Permitted (R .limits)) (w : World) (m : State)
 
   in-list-apply : (k : ℕ) (t : List ℕ) (n : ℕ) → batchNumber k (w .batches) ≡ some t → applyReply (R .limits) (w .stores p) t ≡ refuses n → Among n (18 ∷ 11 ∷ 12 ∷ 13 ∷ [])
   in-list-apply k t n d h =
-      let x = paired-number R (m .versions) k t (w .batches) (m .batches) (f .batches) d in
+      let x = paired-number (R .limits) (m .versions) k t (w .batches) (m .batches) (f .batches) d in
       elim (apply-numbers (R .limits) (w .stores p) t n h) [
         | inl e ↦ absurd (not-refused (openStore (R .limits) (w .stores p)) (f .stores p small .st) n open-here e)
         | inr a ↦ elim (a .1) [
-          | inl e ↦ absurd (not-refused (openBatch (R .limits) t) (x .follows .b) n (batch-open-at R permitted w m f k t d x) e)
+          | inl e ↦ absurd (not-refused (openBatch (R .limits) t) (x .follows .b) n (batch-open-at R permitted w m f k t x) e)
           | inr b ↦ b .1
         ]
       ]
 
-  in-list-18 : (n : ℕ) (t : List ℕ) (span : Remembered) (b : Batch) → batchNumber n (w .batches) ≡ some t → numbered n (m .batches) ≡ some span → openBatch (R .limits) t ≡ accepted b → (applyReply (R .limits) (w .stores p) t ≡ refuses 18) ↔ LacksNeeded m p span b
+  in-list-18 : (n : ℕ) (t : List ℕ) (span : Remembered) (b : Batch) → batchNumber n (w .batches) ≡ some t → rememberedAt n (m .batches) ≡ some span → openBatch (R .limits) t ≡ accepted b → (applyReply (R .limits) (w .stores p) t ≡ refuses 18) ↔ LacksNeeded m p span b
   in-list-18 n t span b e numb ob =
-      let x = paired-number R (m .versions) n t (w .batches) (m .batches) (f .batches) e in
+      let x = paired-number (R .limits) (m .versions) n t (w .batches) (m .batches) (f .batches) e in
       let s = f .stores p small in
       let law = apply-18 (R .limits) (w .stores p) t (s .st) b open-here ob in
-      let eb : x .follows .b ≡ b = accepted-same (x .follows .b) b (sym (batch-open-at R permitted w m f n t e x) ∙ ob) in
+      let eb : x .follows .b ≡ b = accepted-same (x .follows .b) b (sym (batch-open-at R permitted w m f n t x) ∙ ob) in
       let es : x .b ≡ span = same-some (x .b) span (sym (x .is) ∙ numb) in
       let first : b .first ≡ span .first = ap (λ (y : Batch). y .first) (sym eb) ∙ (x .follows .first ∙ ap (λ (y : Remembered). y .first) es) in
       let last : b .last ≡ span .last = ap (λ (y : Batch). y .last) (sym eb) ∙ (x .follows .last ∙ ap (λ (y : Remembered). y .last) es) in
       let top : b .last ≤ highest = subst (λ (y : Batch). y .last ≤ highest) eb (x .follows .top) in
-      let behind : Behind (s .st) b = ahead-exact (s .st) b .0 (ahead-fails R permitted w m f p n t (s .st) b small e open-here ob) in (
+      let behind : Behind (s .st) b = ahead-exact (s .st) b .0 (ahead-fails R permitted w m f p n t (s .st) b small e (record { bytes = s .bytes; valid = s .valid }) (subst (IsBatch (R .limits) t) eb (record { bytes = x .follows .bytes; valid = x .follows .valid }))) in (
         (λ h. ⊎-elim (λ (l : Lacks (s .st) b). told first last top l) (λ (a : Ahead (s .st) b). absurd (behind-apart (s .st) b a behind)) (law .0 h)),
         λ l.
             law .1

@@ -3,7 +3,7 @@
 -- many, so either all of them are covered or one that is not is found. The largest tick is one of the known ones.
 -- Counts are compared with the limits, lengths with 24 and 16.
 use Prim.Native.Nat.{ℕ, zero, suc, _≤_, _<_}
-use mathlib.Core.Path.{_≡_, refl, ap, _∙_}
+use mathlib.Core.Path.{_≡_, refl, ap, _∙_, sym}
 use mathlib.Core.Logic.{_⊎_, inl, inr, ⊎-elim, _↔_}
 use mathlib.Core.Bool.{Bool, true, false, not, _||_}
 use mathlib.Core.List.{List, [], _∷_}
@@ -29,12 +29,15 @@ use Rattle.ticks.proofs.Search.{covers-exact}
 use Rattle.ticks.proofs.ForCover.{covers-for-exact}
 use Rattle.ticks.proofs.LawfulResults.{lawful-sound, lawful-ticks}
 use Rattle.ticks.proofs.Largest.{largest-bounds, largest-attained}
-use Rattle.replication.specs.Formats.{Rec, Store, Batch}
+use Rattle.replication.specs.Formats.{Store, Batch}
 use Rattle.replication.specs.OpenStore.{openStore}
-use Rattle.replication.specs.Calls.{uncovered, ownAhead, gone, exhausted, tooManyRecords, storeLines}
+use Rattle.replication.specs.Calls.{uncovered, ownAhead, gone, exhausted, tooManyRecords, storeLines, wrongBrought}
 use Rattle.replication.proofs.StoreBytes.{store-opened}
 use Rattle.replication.proofs.RefusalsTable.{Rule, rule, Means, FirstOf, NoneOf, Told, told-nil, told-cons, told-then}
 use Rattle.codec.specs.Parsed.{accepted}
+use Rattle.replication.specs.Record.{Rec}
+use Rattle.replication.specs.Call.{Brought}
+use Rattle.replication.specs.Valid.{RightBrought}
 
 -- ---- finite searches
 
@@ -186,10 +189,10 @@ module _ (st : Store) (b : Batch) where
 
 -- "item absent or tombstone"; and a record that is there and no tombstone
 abbrev pub Gone : Option Rec → Type 0
-Gone o = (o ≡ none) ⊎ ((r : Rec) × ((o ≡ some r) × (r .kind ≡ 2)))
+Gone o = (o ≡ none) ⊎ ((r : Rec) × ((o ≡ some r) × (r .content .deleted ≡ true)))
 
 abbrev pub Present : Option Rec → Type 0
-Present o = (r : Rec) × ((o ≡ some r) × (r .kind ≡ 2 → ⊥))
+Present o = (r : Rec) × ((o ≡ some r) × (r .content .deleted ≡ false))
 
 pub gone-apart : (o : Option Rec) → Gone o → Present o → ⊥
 gone-apart o (inl e) p =
@@ -199,16 +202,16 @@ gone-apart o (inl e) p =
 gone-apart o (inr g) p =
     let e : o ≡ some (g .0) = g .1 .0 in
     let f : o ≡ some (p .0) = p .1 .0 in
-    let s : p .0 .kind ≡ g .0 .kind = cc in
-    p .1 .1 (s ∙ g .1 .1)
+    let s : p .0 .content .deleted ≡ g .0 .content .deleted = cc in
+    clash (g .0 .content .deleted) (g .1 .1) (sym s ∙ p .1 .1)
 
 pub means-19 : (o : Option Rec) → Means (line 19 (gone o)) (rule 19 (Gone o) (Present o))
 unfolding gone
 means-19 none = record { number = refl; yes = λ e. inl refl; no = λ e. clash true refl e; apart = gone-apart none }
 means-19 (some r) = record {
   number = refl;
-  yes = λ e. inr (r, (refl, eqb-true (r .kind) 2 e));
-  no = λ e. (r, (refl, eqb-false (r .kind) 2 e));
+  yes = λ e. inr (r, (refl, e));
+  no = λ e. (r, (refl, e));
   apart = gone-apart (some r);
 }
 
@@ -260,19 +263,26 @@ means-length n s = record {
 }
 
 -- an item id of 24 bytes and a tag of 16
-pub means-lengths : (item tag : List ℕ) → Means (line 17 (wrongLength 24 item || wrongLength 16 tag)) (rule 17 ((length item ≡ 24 → ⊥) ⊎ (length tag ≡ 16 → ⊥)) ((length item ≡ 24) × (length tag ≡ 16)))
-means-lengths item tag = record {
+-- what an edit brings
+pub brought-exact : (b : Brought) → (wrongBrought b ≡ false) ↔ RightBrought b
+unfolding wrongBrought
+brought-exact b = ((λ e. record { tag = length-exact 16 (b .tag) .0 e }), λ r. length-exact 16 (b .tag) .1 (r .tag))
+
+brought-or : (b : Brought) → RightBrought b ⊎ (RightBrought b → ⊥)
+brought-or b = ⊎-elim (λ (e : length (b .tag) ≡ 16). inl (record { tag = e })) (λ (n : length (b .tag) ≡ 16 → ⊥). inr (λ (r : RightBrought b). n (r .tag))) (same-or (length (b .tag)) 16)
+
+pub means-lengths : (item : List ℕ) (b : Brought) → Means (line 17 (wrongLength 24 item || wrongBrought b)) (rule 17 ((length item ≡ 24 → ⊥) ⊎ (RightBrought b → ⊥)) ((length item ≡ 24) × RightBrought b))
+means-lengths item b = record {
   number = refl;
-  yes = λ e. found e (same-or (length item) 24) (same-or (length tag) 16);
-  no = λ e. let w = neither (wrongLength 24 item) (wrongLength 16 tag) e in (length-exact 24 item .0 (w .0), length-exact 16 tag .0 (w .1));
+  yes = λ e. found e (same-or (length item) 24) (brought-or b);
+  no = λ e. let w = neither (wrongLength 24 item) (wrongBrought b) e in (length-exact 24 item .0 (w .0), brought-exact b .0 (w .1));
   apart = λ x y. ⊎-elim (λ f. f (y .0)) (λ f. f (y .1)) x;
 }
   where
-    found : (wrongLength 24 item || wrongLength 16 tag) ≡ true → (length item ≡ 24) ⊎ (length item ≡ 24 → ⊥) → (length tag ≡ 16) ⊎ (length tag ≡ 16 → ⊥) → (length item ≡ 24 → ⊥) ⊎ (length tag ≡ 16 → ⊥)
+    found : (wrongLength 24 item || wrongBrought b) ≡ true → (length item ≡ 24) ⊎ (length item ≡ 24 → ⊥) → RightBrought b ⊎ (RightBrought b → ⊥) → (length item ≡ 24 → ⊥) ⊎ (RightBrought b → ⊥)
     found e (inr f) y = inl f
     found e (inl x) (inr f) = inr f
-    found e (inl x) (inl y) =
-        clash (wrongLength 24 item || wrongLength 16 tag) e (both-false (wrongLength 24 item) (wrongLength 16 tag) (length-exact 24 item .1 x) (length-exact 16 tag .1 y))
+    found e (inl x) (inl y) = clash (wrongLength 24 item || wrongBrought b) e (both-false (wrongLength 24 item) (wrongBrought b) (length-exact 24 item .1 x) (brought-exact b .1 y))
 
 -- both ends of a span of 24 bytes, first not above last
 pub record Span (first last : List ℕ) : Type 0 where

@@ -14,10 +14,11 @@ use lib.ListN.{length}
 use borrow.Author.Tests.{lt-ltb, le-ltb, le-leb, leb-true, eq-eqb, ne-eqb, eqb-true, eqb-false}
 use Rattle.layout.specs.Knowledge.{largestTick, All, Rising}
 use Rattle.ticks.proofs.Lists.{less, same, more, order}
-use Rattle.replication.specs.Formats.{Rec, items, find}
+use Rattle.replication.specs.Formats.{items, find}
 use Rattle.replication.specs.Reading.{both, tagKept, validRec, validRecs}
 use Rattle.replication.specs.OpenBatch.{inSpan}
 use Rattle.replication.specs.Operate.{replace}
+use Rattle.replication.specs.Record.{Rec, Content}
 
 -- ---- rising item ids
 
@@ -302,18 +303,18 @@ pub record ValidRec (r : Rec) : Type 0 where
   pub created : 1 ≤ r .createTick
   pub order : r .createTick ≤ r .changeTick
   pub changed : r .changeTick ≤ largestTick
-  pub tag : r .kind ≡ 2 → r .tag ≡ 0
+  pub bare : r .content .deleted ≡ true → r .content .tag ≡ 0
 
-tag-true : (r : Rec) → tagKept r ≡ true → r .kind ≡ 2 → r .tag ≡ 0
+tag-true : (c : Content) → tagKept c ≡ true → c .deleted ≡ true → c .tag ≡ 0
 unfolding tagKept
-tag-true r e k = eqb-true (r .tag) 0 (rw (eq-eqb (r .kind) 2 k, tagKept) at e)
+tag-true c e k = eqb-true (c .tag) 0 (rw (k, tagKept) at e)
 
-tag-holds : (r : Rec) → (r .kind ≡ 2 → r .tag ≡ 0) → tagKept r ≡ true
+tag-holds : (c : Content) → (c .deleted ≡ true → c .tag ≡ 0) → tagKept c ≡ true
 unfolding tagKept
-tag-holds r h = go (eqb (r .kind) 2) refl
+tag-holds c h = go (c .deleted) refl
   where
-    go : (t : Bool) → eqb (r .kind) 2 ≡ t → tagKept r ≡ true
-    go true e = rw (e, tagKept) (eq-eqb (r .tag) 0 (h (eqb-true (r .kind) 2 e)))
+    go : (t : Bool) → c .deleted ≡ t → tagKept c ≡ true
+    go true e = rw (e, tagKept) (eq-eqb (c .tag) 0 (h e))
     go false e = rw (e, tagKept)
 
 rec-true : (r : Rec) → validRec r ≡ true → ValidRec r
@@ -326,7 +327,7 @@ rec-true r e =
       created = leb-true _ _ (a .0);
       order = leb-true _ _ (b .0);
       changed = leb-true _ _ (c .0);
-      tag = tag-true r (c .1);
+      bare = tag-true (r .content) (c .1);
     }
 
 rec-holds : (r : Rec) → ValidRec r → validRec r ≡ true
@@ -334,7 +335,7 @@ unfolding validRec
 rec-holds r v =
     both-holds _ _ (le-leb 1 (r .createTick) (v .created))
     (both-holds _ _ (le-leb (r .createTick) (r .changeTick) (v .order))
-    (both-holds _ _ (le-leb (r .changeTick) largestTick (v .changed)) (tag-holds r (v .tag))))
+    (both-holds _ _ (le-leb (r .changeTick) largestTick (v .changed)) (tag-holds (r .content) (v .bare))))
 
 pub valid-rec : (r : Rec) → (validRec r ≡ true) ↔ ValidRec r
 valid-rec r = (rec-true r, rec-holds r)

@@ -12,9 +12,10 @@ use lib.ListN.{length}
 use borrow.Author.Tests.{lt-ltb, le-ltb, eq-eqb, ne-eqb}
 use Rattle.layout.specs.Knowledge.{All, Rising}
 use Rattle.ticks.proofs.Lists.{less, same, more, order}
-use Rattle.replication.specs.Formats.{Rec, items, find}
+use Rattle.replication.specs.Formats.{items, find}
 use Rattle.replication.specs.Operate.{replace, wins, winnerOf, joinFrom, join}
 use Rattle.replication.proofs.Tables.{rising-cons, rising-low, rising-rest, rising-down, find-nil, find-here, find-there, here, there, finds, find-below, find-item, find-all, replace-nil, replace-after, replace-same, replace-before}
+use Rattle.replication.specs.Record.{Rec}
 
 -- ---- the winner
 

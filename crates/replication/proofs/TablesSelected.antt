@@ -2,18 +2,19 @@
 -- rises where the table does, what it finds for an item is what the table finds, where that meets the test, and each of
 -- its records meets the test. A record that is left out is found no more, as its item stands only once in the table.
 use Prim.Native.Nat.{ℕ, suc, _≤_}
-use mathlib.Core.Path.{_≡_, refl}
+use mathlib.Core.Path.{_≡_, refl, sym, _∙_, subst}
 use mathlib.Core.Bool.{Bool, true, false}
 use mathlib.Core.List.{List, [], _∷_}
 use mathlib.Core.Option.{Option, none, some}
 use native.Mathlib.Omega.{arith}
 use lib.ListN.{length}
 use Rattle.layout.specs.Knowledge.{All, Rising, Knowledge}
-use Rattle.replication.specs.Formats.{Rec, items, find}
+use Rattle.replication.specs.Formats.{items, find}
 use Rattle.replication.specs.Reading.{both}
 use Rattle.replication.specs.OpenBatch.{inSpan, lacksChange}
 use Rattle.replication.specs.Operate.{selected}
-use Rattle.replication.proofs.Tables.{rising-cons, rising-low, rising-rest, rising-down, find-nil, find-here, find-there, here, there, finds, find-below}
+use Rattle.replication.proofs.Tables.{rising-cons, rising-low, rising-rest, rising-down, find-nil, find-here, find-there, here, there, finds, find-below, both-parts}
+use Rattle.replication.specs.Record.{Rec}
 
 -- of what is found, what a make carries
 unfoldable pub kept : ℕ → ℕ → Knowledge → Option Rec → Option Rec
@@ -140,3 +141,21 @@ selected-meets f l n (x ∷ xs) =
       | takes t e ↦ rw e (t, selected-meets f l n xs)
       | leaves t e ↦ rw e (selected-meets f l n xs)
     ]
+
+-- a record that a batch carries
+pub kept-some : (f l : ℕ) (n : Knowledge) (o : Option Rec) (r : Rec) → kept f l n o ≡ some r → (o ≡ some r) × ((inSpan f l (r .item) ≡ true) × (lacksChange n r ≡ true))
+kept-some f l n none r e =
+    let h : none ≡ some r = sym (kept-none f l n) ∙ e in
+    let z : _≡_ {A = ℕ} 0 1 = cc in
+    absurd (omega arith)
+kept-some f l n (some x) r e = go (both (inSpan f l (x .item)) (lacksChange n x)) refl
+  where
+    go : (t : Bool) → both (inSpan f l (x .item)) (lacksChange n x) ≡ t → (some x ≡ some r) × ((inSpan f l (r .item) ≡ true) × (lacksChange n r ≡ true))
+    go true h =
+        let same : some x ≡ some r = sym (kept-in f l n x h) ∙ e in
+        let eq : x ≡ r = cc in
+        (same, subst (λ y. (inSpan f l (y .item) ≡ true) × (lacksChange n y ≡ true)) eq (both-parts (inSpan f l (x .item)) (lacksChange n x) h))
+    go false h =
+        let bad : none ≡ some r = sym (kept-out f l n x h) ∙ e in
+        let z : _≡_ {A = ℕ} 0 1 = cc in
+        absurd (omega arith)

@@ -9,8 +9,9 @@ use Rattle.ticks.specs.Meaning.{highest, emptyKnowledge}
 use Rattle.ticks.specs.Operations.{covers, coversFor, largest}
 use Rattle.codec.specs.Parsed.{Parsed, readOr}
 use Rattle.ticks.specs.Calls.{line, idOf, readAs, ownFault, wrongLength, wrongSpan, resultLines}
-use Rattle.replication.specs.Formats.{Rec, Store, newStore, encodeStore, Batch, encodeBatch, find}
-use Rattle.replication.specs.Reading.{live, tombstone}
+use Rattle.replication.specs.Record.{Content, Rec}
+use Rattle.replication.specs.Call.{Brought}
+use Rattle.replication.specs.Formats.{Store, newStore, encodeStore, Batch, encodeBatch, find}
 use Rattle.replication.specs.Operate.{changed, made, applied}
 use Rattle.replication.specs.OpenStore.{openStore}
 use Rattle.replication.specs.OpenBatch.{openBatch}
@@ -38,7 +39,7 @@ ownAhead st b = not (coversFor (st .own ∷ []) (st .knowledge) (b .learned) 0 h
 -- 19: "item absent or tombstone"
 unfoldable pub gone : Option Rec → Bool
 gone none = true
-gone (some r) = eqb (r .kind) tombstone
+gone (some r) = r .content .deleted
 
 -- 20: "largest tick is 2^63 − 1"
 unfoldable pub exhausted : Store → Bool
@@ -57,24 +58,33 @@ storeLines L st =
 unfoldable pub newReply : List ℕ → Reply
 newReply own = firstFault refuses (line 17 (wrongLength 16 own) ∷ []) (gives (encodeStore (newStore (idOf 16 own))))
 
--- edit
-unfoldable pub editLines : Limits → Parsed Store → List ℕ → List ℕ → Store → List Line
-editLines L o item tag result =
+-- edit: what it brings, live with the given tag. 17: the tag is not 16 bytes long
+unfoldable pub liveContent : Brought → Content
+liveContent b = record { deleted = false; tag = idOf 16 (b .tag) }
+
+unfoldable pub wrongBrought : Brought → Bool
+wrongBrought b = wrongLength 16 (b .tag)
+
+unfoldable pub editLines : Limits → Parsed Store → List ℕ → Brought → Store → List Line
+editLines L o item b result =
     ownFault o ∷
-    line 17 (wrongLength 24 item || wrongLength 16 tag) ∷
+    line 17 (wrongLength 24 item || wrongBrought b) ∷
     line 20 (exhausted (storeOr o)) ∷
     storeLines L result
 
-unfoldable pub edited : Parsed Store → List ℕ → List ℕ → Store
-edited o item tag = changed live (idOf 24 item) (idOf 16 tag) (storeOr o)
+unfoldable pub edited : Parsed Store → List ℕ → Brought → Store
+edited o item b = changed (liveContent b) (idOf 24 item) (storeOr o)
 
-unfoldable pub editReply : Limits → List ℕ → List ℕ → List ℕ → Reply
-editReply L s item tag =
+unfoldable pub editReply : Limits → List ℕ → List ℕ → Brought → Reply
+editReply L s item b =
     let o = openStore L s in
-    let result = edited o item tag in
-    firstFault refuses (editLines L o item tag result) (gives (encodeStore result))
+    let result = edited o item b in
+    firstFault refuses (editLines L o item b result) (gives (encodeStore result))
 
--- delete
+-- delete: what it brings, a tombstone with a tag of zeros
+unfoldable pub tombstone : Content
+tombstone = record { deleted = true; tag = 0 }
+
 unfoldable pub deleteLines : Limits → Parsed Store → List ℕ → Store → List Line
 deleteLines L o item result =
     ownFault o ∷
@@ -84,7 +94,7 @@ deleteLines L o item result =
     storeLines L result
 
 unfoldable pub deleted : Parsed Store → List ℕ → Store
-deleted o item = changed tombstone (idOf 24 item) 0 (storeOr o)
+deleted o item = changed tombstone (idOf 24 item) (storeOr o)
 
 unfoldable pub deleteReply : Limits → List ℕ → List ℕ → Reply
 deleteReply L s item =

@@ -2,29 +2,11 @@
 -- output buffers, refused calls included. It starts from stores that new returned, each under an id of its own." There is a replica
 -- under each id of 16 bytes, so that a list may name any number of them and no two share an id.
 use Rattle.codec.specs.Prelude.{ℕ, zero, suc, _^_, _<_, Bool, true, false, List, [], _∷_, _++_, Option, none, some, leb, eqb, length}
-use Rattle.codec.specs.Number.{Bytes}
 use Rattle.codec.specs.Reply.{Reply, gives, refuses}
 use Rattle.layout.specs.Knowledge.{Limits, Rules}
 use Rattle.replication.specs.Formats.{newStore, encodeStore}
+use Rattle.replication.specs.Call.{Call, edit, delete, make, apply, Fed}
 use Rattle.replication.specs.Calls.{editReply, deleteReply, makeReply, applyReply}
-
--- a call: its replica's id, its arguments as bytes, for an apply the number of the batch in the order in which the list made them, and
--- the length of the output buffer
-pub data Call : Type 0 where
-  edit : (who : ℕ) (item tag : List ℕ) (room : ℕ) → Call
-  delete : (who : ℕ) (item : List ℕ) (room : ℕ) → Call
-  make : (who : ℕ) (knowledge first last : List ℕ) (room : ℕ) → Call
-  apply : (who which : ℕ) (room : ℕ) → Call
-
-abbrev pub ReplicaId : ℕ → Type 0  -- the ids that lists speak of: those of 16 bytes
-ReplicaId p = p < 256 ^ 16
-
--- what is given of a call: the id has 16 bytes, and the arguments are bytes, of any number
-abbrev pub Given : Call → Type 0
-Given (edit who item tag room) = ReplicaId who × (Bytes item × Bytes tag)
-Given (delete who item room) = ReplicaId who × Bytes item
-Given (make who knowledge first last room) = ReplicaId who × (Bytes knowledge × (Bytes first × Bytes last))
-Given (apply who which room) = ReplicaId who
 
 -- the bytes of every replica's store, and of the batches made, the oldest first
 pub record World : Type 0 where
@@ -50,7 +32,7 @@ applyTo L s none room = none
 applyTo L s (some batch) room = outcome (applyReply L s batch) room
 
 unfoldable pub writes : Rules → World → Call → Option (List ℕ)
-writes R w (edit who item tag room) = outcome (editReply (R .limits) (w .stores who) item tag) room
+writes R w (edit who item brought room) = outcome (editReply (R .limits) (w .stores who) item brought) room
 writes R w (delete who item room) = outcome (deleteReply (R .limits) (w .stores who) item) room
 writes R w (make who knowledge first last room) = outcome (makeReply R (w .stores who) knowledge first last) room
 writes R w (apply who which room) = applyTo (R .limits) (w .stores who) (batchNumber which (w .batches)) room
@@ -64,18 +46,13 @@ putAt p x f q = elim (eqb q p) [ true ↦ x | false ↦ f q ]
 unfoldable pub keep : World → Call → Option (List ℕ) → World
 keep w c none = w
 keep w (make who knowledge first last room) (some bs) = record { stores = w .stores; batches = w .batches ++ (bs ∷ []) }
-keep w (edit who item tag room) (some bs) = record { stores = putAt who bs (w .stores); batches = w .batches }
+keep w (edit who item brought room) (some bs) = record { stores = putAt who bs (w .stores); batches = w .batches }
 keep w (delete who item room) (some bs) = record { stores = putAt who bs (w .stores); batches = w .batches }
 keep w (apply who which room) (some bs) = record { stores = putAt who bs (w .stores); batches = w .batches }
 
 unfoldable pub run : Rules → World → List Call → World
 run R w [] = w
 run R w (c ∷ cs) = run R (keep w c (writes R w c)) cs
-
--- "The machine is fed each call's replica and arguments, whether the call was refused, and for an apply which make wrote the batch."
-pub record Fed : Type 0 where
-  pub call : Call
-  pub refused : Bool
 
 unfoldable pub trace : Rules → World → List Call → List Fed
 trace R w [] = []

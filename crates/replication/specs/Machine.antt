@@ -1,8 +1,8 @@
 -- The plain history machine, literally document 01's. It takes nothing from the bytes of a store or batch and shares
 -- no definition with the calls: numbers, order of versions, span and create rule are its own.
 use Rattle.codec.specs.Prelude.{ℕ, zero, suc, max, _+_, _*_, _^_, Bool, true, false, List, [], _∷_, _++_, Option, none, some, leb, ltb, eqb}
-use Rattle.replication.specs.Formats.{Rec}
-use Rattle.replication.specs.Lists.{Call, edit, delete, make, apply, Fed}
+use Rattle.replication.specs.Record.{Content, Rec}
+use Rattle.replication.specs.Call.{Brought, Call, edit, delete, make, apply, Fed}
 
 abbrev pub Ticks : Type 0  -- by item, then replica id
 Ticks = ℕ → ℕ → ℕ
@@ -57,11 +57,18 @@ greatest (r ∷ rs) k i =
     ]
 
 -- "with the create version of the maker's greatest contained version of the item or, if none, this version itself"
-unfoldable pub recordOf : ℕ → ℕ → ℕ → ℕ → ℕ → Option Rec → Rec
-recordOf kind item who t tag none =
-    record { kind = kind; item = item; changeReplica = who; changeTick = t; createReplica = who; createTick = t; tag = tag }
-recordOf kind item who t tag (some g) =
-    record { kind = kind; item = item; changeReplica = who; changeTick = t; createReplica = g .createReplica; createTick = g .createTick; tag = tag }
+unfoldable pub recordOf : Content → ℕ → ℕ → ℕ → Option Rec → Rec
+recordOf content item who t none =
+    record { item = item; changeReplica = who; changeTick = t; createReplica = who; createTick = t; content = content }
+recordOf content item who t (some g) =
+    record {
+      item = item;
+      changeReplica = who;
+      changeTick = t;
+      createReplica = g .createReplica;
+      createTick = g .createTick;
+      content = content;
+    }
 
 unfoldable pub withTicks : ℕ → Ticks → (ℕ → Ticks) → ℕ → Ticks  -- the ticks of one replica changed
 withTicks who k f q = elim (eqb who q) [ true ↦ k | false ↦ f q ]
@@ -71,12 +78,12 @@ unfoldable pub ownTick : ℕ → ℕ → Ticks → Ticks
 ownTick who t k i p = elim (eqb who p) [ true ↦ t | false ↦ k i p ]
 
 -- "Edit or delete: tick 1 + the largest of the maker's known ticks; the record … joins the versions made"
-unfoldable pub changes : ℕ → ℕ → ℕ → ℕ → State → State
-changes kind who item tag m =
+unfoldable pub changes : Content → ℕ → ℕ → State → State
+changes content who item m =
     let k = m .ticks who in
     let t = 1 + largestKnown k in
     record {
-      versions = m .versions ++ (recordOf kind item who t tag (greatest (m .versions) k item) ∷ []);
+      versions = m .versions ++ (recordOf content item who t (greatest (m .versions) k item) ∷ []);
       ticks = withTicks who (ownTick who t k) (m .ticks);
       batches = m .batches;
     }
@@ -86,24 +93,30 @@ unfoldable pub learns : Remembered → Ticks → Ticks
 learns b k i p =
     elim (ltb i (b .first)) [ true ↦ k i p | false ↦ elim (ltb (b .last) i) [ true ↦ k i p | false ↦ max (k i p) (b .ticks i p) ] ]
 
-unfoldable pub numbered : ℕ → List Remembered → Option Remembered
-numbered n [] = none
-numbered zero (b ∷ bs) = some b
-numbered (suc n) (b ∷ bs) = numbered n bs
+unfoldable pub rememberedAt : ℕ → List Remembered → Option Remembered
+rememberedAt n [] = none
+rememberedAt zero (b ∷ bs) = some b
+rememberedAt (suc n) (b ∷ bs) = rememberedAt n bs
 
 unfoldable pub applies : ℕ → Option Remembered → State → State
 applies who none m = m
 applies who (some b) m =
     record { versions = m .versions; ticks = withTicks who (learns b (m .ticks who)) (m .ticks); batches = m .batches }
 
--- one call that was not refused: an edit makes a live record with the given tag, a delete a tombstone
+unfoldable pub live : Brought → Content  -- "live with the given tag"
+live b = record { deleted = false; tag = value 0 (b .tag) }
+
+unfoldable pub dead : Content  -- "or a tombstone", whose tag is zeros
+dead = record { deleted = true; tag = 0 }
+
+-- one call that was not refused
 unfoldable pub acts : State → Call → State
-acts m (edit who item tag room) = changes 1 who (value 0 item) (value 0 tag) m
-acts m (delete who item room) = changes 2 who (value 0 item) 0 m
+acts m (edit who item b room) = changes (live b) who (value 0 item) m
+acts m (delete who item room) = changes dead who (value 0 item) m
 acts m (make who knowledge first last room) =
     let b : Remembered = record { first = value 0 first; last = value 0 last; ticks = m .ticks who } in
     record { versions = m .versions; ticks = m .ticks; batches = m .batches ++ (b ∷ []) }
-acts m (apply who which room) = applies who (numbered which (m .batches)) m
+acts m (apply who which room) = applies who (rememberedAt which (m .batches)) m
 
 -- "A refused call does nothing"
 unfoldable pub history : State → List Fed → State

@@ -7,28 +7,54 @@ use Rattle.layout.specs.Parse.{Parsed, accepted, refused, parse}
 use Rattle.ticks.specs.Meaning.{contains}
 use Rattle.ticks.specs.Written.{isNormal, eqKnowledge}
 use Rattle.ticks.specs.Operations.{project}
-use Rattle.replication.specs.Formats.{Rec, Batch}
+use Rattle.replication.specs.Record.{Rec}
+use Rattle.replication.specs.Formats.{Batch}
 use Rattle.replication.specs.Reading.{both, recsAt, validRecs}
 use Rattle.replication.specs.OpenStore.{versionsIn}
+
+-- the fields of a batch's header, by their places; where its knowledges begin, and its first record
+abbrev pub firstId : List ℕ → ℕ
+firstId s = beAt s 24 1
+
+abbrev pub lastId : List ℕ → ℕ
+lastId s = beAt s 24 25
+
+abbrev pub neededLength : List ℕ → ℕ
+neededLength s = beAt s 4 49
+
+abbrev pub learnedLength : List ℕ → ℕ
+learnedLength s = beAt s 4 53
+
+abbrev pub batchCount : List ℕ → ℕ
+batchCount s = beAt s 4 57
+
+abbrev pub batchNeeded : ℕ
+batchNeeded = 61
+
+abbrev pub batchLearned : List ℕ → ℕ
+batchLearned s = batchNeeded + neededLength s
+
+abbrev pub batchTable : List ℕ → ℕ
+batchTable s = batchLearned s + learnedLength s
 
 unfoldable pub batchWith : List ℕ → Knowledge → Knowledge → Option (List Rec) → Option Batch
 batchWith s needed learned none = none
 batchWith s needed learned (some rs) =
-    some (record { first = beAt s 24 1; last = beAt s 24 25; needed = needed; learned = learned; records = rs })
+    some (record { first = firstId s; last = lastId s; needed = needed; learned = learned; records = rs })
 
 unfoldable pub batchAfter : List ℕ → Knowledge → Parsed Knowledge → Option Batch
 batchAfter s needed (refused n) = none
-batchAfter s needed (accepted k) = batchWith s needed k (recsAt s (beAt s 4 57) (61 + beAt s 4 49 + beAt s 4 53))
+batchAfter s needed (accepted k) = batchWith s needed k (recsAt s (batchCount s) (batchTable s))
 
 unfoldable pub batchFrom : Limits → List ℕ → Parsed Knowledge → Option Batch
 batchFrom L s (refused n) = none
-batchFrom L s (accepted k) = batchAfter s k (parse (anyId L) (take (beAt s 4 53) (drop (61 + beAt s 4 49) s)))
+batchFrom L s (accepted k) = batchAfter s k (parse (anyId L) (take (learnedLength s) (drop (batchLearned s) s)))
 
 unfoldable pub decodeBatch : Limits → List ℕ → Option Batch
 decodeBatch L s =
     elim (eqb (beAt s 1 0) 4) [
-      | true ↦ elim (leb (61 + beAt s 4 49 + beAt s 4 53) (length s)) [
-        | true ↦ batchFrom L s (parse (anyId L) (take (beAt s 4 49) (drop 61 s)))
+      | true ↦ elim (leb (batchTable s) (length s)) [
+        | true ↦ batchFrom L s (parse (anyId L) (take (neededLength s) (drop batchNeeded s)))
         | false ↦ none
       ]
       | false ↦ none

@@ -7,8 +7,25 @@ use Rattle.layout.specs.Parse.{Parsed, accepted, refused, parse}
 use Rattle.ticks.specs.Meaning.{contains}
 use Rattle.ticks.specs.Written.{isNormal}
 use Rattle.ticks.specs.Operations.{ownAlike}
-use Rattle.replication.specs.Formats.{Rec, Store}
+use Rattle.replication.specs.Record.{Rec}
+use Rattle.replication.specs.Formats.{Store}
 use Rattle.replication.specs.Reading.{both, recsAt, validRecs}
+
+-- the fields of a store's header, by their places; where its knowledge begins, and its first record
+abbrev pub ownId : List ℕ → ℕ
+ownId s = beAt s 16 1
+
+abbrev pub knowledgeLength : List ℕ → ℕ
+knowledgeLength s = beAt s 4 17
+
+abbrev pub storeCount : List ℕ → ℕ
+storeCount s = beAt s 4 21
+
+abbrev pub storeKnowledge : ℕ
+storeKnowledge = 25
+
+abbrev pub storeTable : List ℕ → ℕ
+storeTable s = storeKnowledge + knowledgeLength s
 
 -- the value in store bytes, of any contents but of exact length
 unfoldable pub storeWith : ℕ → Knowledge → Option (List Rec) → Option Store
@@ -17,13 +34,13 @@ storeWith own k (some rs) = some (record { own = own; knowledge = k; records = r
 
 unfoldable pub storeFrom : List ℕ → Parsed Knowledge → Option Store
 storeFrom s (refused n) = none
-storeFrom s (accepted k) = storeWith (beAt s 16 1) k (recsAt s (beAt s 4 21) (25 + beAt s 4 17))
+storeFrom s (accepted k) = storeWith (ownId s) k (recsAt s (storeCount s) (storeTable s))
 
 unfoldable pub decodeStore : Limits → List ℕ → Option Store
 decodeStore L s =
     elim (eqb (beAt s 1 0) 3) [
-      | true ↦ elim (leb (25 + beAt s 4 17) (length s)) [
-        | true ↦ storeFrom s (parse (anyId L) (take (beAt s 4 17) (drop 25 s)))
+      | true ↦ elim (leb (storeTable s) (length s)) [
+        | true ↦ storeFrom s (parse (anyId L) (take (knowledgeLength s) (drop storeKnowledge s)))
         | false ↦ none
       ]
       | false ↦ none

@@ -2,7 +2,8 @@
 use Rattle.codec.specs.Prelude.{ℕ, zero, suc, _+_, Bool, true, false, List, [], _∷_, Option, none, some, eqb, ltb}
 use Rattle.layout.specs.Knowledge.{Knowledge}
 use Rattle.ticks.specs.Operations.{normalise, merge, project, raise, largest}
-use Rattle.replication.specs.Formats.{Rec, find, Store, Batch}
+use Rattle.replication.specs.Record.{Content, Rec}
+use Rattle.replication.specs.Formats.{find, Store, Batch}
 use Rattle.replication.specs.Reading.{both}
 use Rattle.replication.specs.OpenBatch.{inSpan, lacksChange}
 
@@ -20,20 +21,26 @@ unfoldable pub nextTick : Store → ℕ
 nextTick st = 1 + largest (st .knowledge)
 
 -- "An absent item gets its create version from the edit; an item already there, tombstones too, keeps its own"
-unfoldable pub changedRec : ℕ → ℕ → ℕ → ℕ → ℕ → Option Rec → Rec
-changedRec kind item own t tag none =
-    record { kind = kind; item = item; changeReplica = own; changeTick = t; createReplica = own; createTick = t; tag = tag }
-changedRec kind item own t tag (some old) =
-    record { kind = kind; item = item; changeReplica = own; changeTick = t; createReplica = old .createReplica; createTick = old .createTick; tag = tag }
+unfoldable pub changedRec : Content → ℕ → ℕ → ℕ → Option Rec → Rec
+changedRec content item own t none =
+    record { item = item; changeReplica = own; changeTick = t; createReplica = own; createTick = t; content = content }
+changedRec content item own t (some old) =
+    record {
+      item = item;
+      changeReplica = own;
+      changeTick = t;
+      createReplica = old .createReplica;
+      createTick = old .createTick;
+      content = content;
+    }
 
--- an edit, of kind live with the given tag, or a delete, of kind tombstone with tag 0.
--- "The own tick becomes that in every range"
-unfoldable pub changed : ℕ → ℕ → ℕ → Store → Store
-changed kind item tag st =
+-- an edit or a delete, by the content that it brings. "The own tick becomes that in every range"
+unfoldable pub changed : Content → ℕ → Store → Store
+changed content item st =
     record {
       own = st .own;
       knowledge = raise (st .own) (nextTick st) (st .knowledge);
-      records = replace (changedRec kind item (st .own) (nextTick st) tag (find item (st .records))) (st .records);
+      records = replace (changedRec content item (st .own) (nextTick st) (find item (st .records))) (st .records);
     }
 
 -- the records that a make carries: "those in the span whose change version needed lacks"

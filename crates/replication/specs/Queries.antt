@@ -6,12 +6,12 @@ use Rattle.layout.specs.Knowledge.{Limits, Rules, Knowledge}
 use Rattle.layout.specs.Parse.{parse}
 use Rattle.ticks.specs.Meaning.{contains}
 use Rattle.ticks.specs.Calls.{line, idOf, readAs, ownFault, wrongLength}
-use Rattle.replication.specs.Formats.{Rec, Store, Batch, find}
-use Rattle.replication.specs.Reading.{whole, recAt, recLength}
-use Rattle.replication.specs.OpenStore.{openStore}
-use Rattle.replication.specs.OpenBatch.{openBatch}
+use Rattle.replication.specs.Record.{Rec}
+use Rattle.replication.specs.Reading.{whole, recAt, recLength, behind}
+use Rattle.replication.specs.OpenStore.{storeTable, openStore}
+use Rattle.replication.specs.OpenBatch.{learnedLength, batchLearned, batchTable, openBatch}
 use Rattle.replication.specs.Operate.{wins}
-use Rattle.replication.specs.Calls.{storeOr, batchOr}
+use Rattle.replication.specs.Calls.{storeOr}
 use Rattle.replication.specs.declared.Part.{Part}
 use Rattle.replication.specs.declared.Part.the-variants as P
 use Rattle.replication.specs.declared.Coverage.{Coverage}
@@ -52,53 +52,54 @@ partLength (P.OfStore at n) old = n
 partLength (P.OfBatch at n) old = n
 partLength (P.Refused k) old = old
 
--- where the record of an item stands among n records from a place on
-unfoldable pub placeOf : List ℕ → ℕ → ℕ → ℕ → ℕ
-placeOf s i zero at = at
-placeOf s i (suc n) at =
-    elim (eqb (recAt s at .item) i) [ true ↦ at | false ↦ placeOf s i n (at + recLength (beAt s 1 at)) ]
+-- the places of the records that a walker goes through from a place on; "it ends where no whole record of a known kind follows". A
+-- record has at least one byte, so the table's length bounds how many there can be
+unfoldable pub placesFrom : ℕ → List ℕ → ℕ → List ℕ
+placesFrom zero s at = []
+placesFrom (suc n) s at = elim (whole s at) [ true ↦ at ∷ placesFrom n s (behind s at) | false ↦ [] ]
 
--- the places of the first records of store and batch bytes
-unfoldable pub storeTable : List ℕ → ℕ
-storeTable s = 25 + beAt s 4 17
+unfoldable pub places : List ℕ → ℕ → List ℕ
+places s at = placesFrom (length s) s at
 
-unfoldable pub batchTable : List ℕ → ℕ
-batchTable s = 61 + beAt s 4 49 + beAt s 4 53
+-- the parts of s that are the records at the given places
+unfoldable pub partsAt : List ℕ → List ℕ → List (List ℕ)
+partsAt s [] = []
+partsAt s (at ∷ ats) = take (recLength (beAt s 1 at)) (drop at s) ∷ partsAt s ats
 
-unfoldable pub partAt : (ℕ → ℕ → Part) → List ℕ → ℕ → Part
-partAt side s at = side at (recLength (beAt s 1 at))
+-- "A walker over a lent table hands out records in turn": what it has still to give at a place
+unfoldable pub toGive : List ℕ → ℕ → List (List ℕ)
+toGive s at = partsAt s (places s at)
 
-unfoldable pub sideOf : Option Rec → Option Rec → Part → Part → Part
-sideOf none none mine theirs = P.Nothing
-sideOf none (some y) mine theirs = theirs
-sideOf (some x) none mine theirs = mine
-sideOf (some x) (some y) mine theirs = elim (wins x y) [ true ↦ theirs | false ↦ mine ]
+-- the first of the given places whose record is the item's
+unfoldable pub placeOf : List ℕ → ℕ → List ℕ → Option ℕ
+placeOf s i [] = none
+placeOf s i (at ∷ ats) = elim (eqb (recAt s at .item) i) [ true ↦ some at | false ↦ placeOf s i ats ]
+
+-- the part of the store's bytes that is the record at a place, and of the batch's
+unfoldable pub ofStore : List ℕ → ℕ → Part
+ofStore s at = P.OfStore at (recLength (beAt s 1 at))
+
+unfoldable pub ofBatch : List ℕ → ℕ → Part
+ofBatch s at = P.OfBatch at (recLength (beAt s 1 at))
+
+-- the winner's part, by where the item's record stands on each side
+unfoldable pub winnerAt : List ℕ → List ℕ → Option ℕ → Option ℕ → Part
+winnerAt s batch none none = P.Nothing
+winnerAt s batch none (some b) = ofBatch batch b
+winnerAt s batch (some a) none = ofStore s a
+winnerAt s batch (some a) (some b) = elim (wins (recAt s a) (recAt batch b)) [ true ↦ ofBatch batch b | false ↦ ofStore s a ]
 
 -- "The winner is returned as a part of the store's or of the batch's bytes"
 unfoldable pub winnerPart : Limits → List ℕ → List ℕ → List ℕ → Part
 winnerPart L s batch item =
-    let o = openStore L s in
-    let p = openBatch L batch in
     let i = idOf 24 item in
-    firstFault P.Refused (ownFault o ∷ ownFault p ∷ line 17 (wrongLength 24 item) ∷ [])
-    (sideOf (find i (storeOr o .records)) (find i (batchOr p .records))
-    (partAt P.OfStore s (placeOf s i (length (storeOr o .records)) (storeTable s)))
-    (partAt P.OfBatch batch (placeOf batch i (length (batchOr p .records)) (batchTable batch))))
+    firstFault P.Refused (ownFault (openStore L s) ∷ ownFault (openBatch L batch) ∷ line 17 (wrongLength 24 item) ∷ [])
+    (winnerAt s batch (placeOf s i (places s (storeTable s))) (placeOf batch i (places batch (batchTable batch))))
 
 -- "From a checked batch the learned knowledge is handed out as a part of the batch, uncopied"
 unfoldable pub learnedPart : Limits → List ℕ → Part
 learnedPart L batch =
-    firstFault P.Refused (ownFault (openBatch L batch) ∷ []) (P.OfBatch (61 + beAt batch 4 49) (beAt batch 4 53))
-
--- the records that a walker at a place has still to give; "it ends where no whole record of a known kind follows".
--- A record has at least one byte, so the table's length bounds how many there can be
-unfoldable pub walkFrom : ℕ → List ℕ → ℕ → List Rec
-walkFrom zero s at = []
-walkFrom (suc n) s at =
-    elim (whole s at) [ true ↦ recAt s at ∷ walkFrom n s (at + recLength (beAt s 1 at)) | false ↦ [] ]
-
-unfoldable pub toGive : List ℕ → ℕ → List Rec
-toGive s at = walkFrom (length s) s at
+    firstFault P.Refused (ownFault (openBatch L batch) ∷ []) (P.OfBatch (batchLearned batch) (learnedLength batch))
 
 -- document 01's number and values of a coverage, from the values before the call
 unfoldable pub coverageNumber : Coverage → ℕ

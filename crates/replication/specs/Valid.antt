@@ -1,20 +1,29 @@
 -- Which stores and batches are valid, on their values: document 01's lists "A valid store: …" and "A valid batch: …".
-use Rattle.codec.specs.Prelude.{ℕ, _^_, _≤_, _<_, _≡_, _⊎_, length}
+use Rattle.codec.specs.Prelude.{ℕ, _^_, _≤_, _<_, _≡_, _⊎_, true, length}
 use Rattle.layout.specs.Knowledge.{Limits, anyId, largestTick, Knowledge, All, Rising, Lawful}
 use Rattle.ticks.specs.Meaning.{highest, known, Normal}
-use Rattle.replication.specs.Formats.{Rec, items, Store, Batch}
+use Rattle.replication.specs.Record.{Content, Rec}
+use Rattle.replication.specs.Call.{Brought}
+use Rattle.replication.specs.Formats.{items, Store, Batch}
 
--- "Kind 1 live, kind 2 tombstone, …, content tag 16 (zeros in a tombstone)"; "ticks 1 to 2^63 − 1, create tick at most change tick"
+-- "content tag 16 (zeros in a tombstone)"
+pub record LawfulContent (c : Content) : Type 0 where
+  pub tag : c .tag < 256 ^ 16
+  pub bare : c .deleted ≡ true → c .tag ≡ 0
+
+-- "ticks 1 to 2^63 − 1, create tick at most change tick"
 pub record LawfulRec (r : Rec) : Type 0 where
-  pub kind : (r .kind ≡ 1) ⊎ (r .kind ≡ 2)
   pub item : r .item < 256 ^ 24
   pub changeReplica : r .changeReplica < 256 ^ 16
   pub createReplica : r .createReplica < 256 ^ 16
-  pub tag : r .tag < 256 ^ 16
-  pub bare : r .kind ≡ 2 → r .tag ≡ 0
+  pub content : LawfulContent (r .content)
   pub createTick : 1 ≤ r .createTick
   pub order : r .createTick ≤ r .changeTick
   pub changeTick : r .changeTick ≤ largestTick
+
+-- "17 an item id, replica id or tag not 24, 16 or 16 bytes long": what an edit brings has its length
+pub record RightBrought (b : Brought) : Type 0 where
+  pub tag : length (b .tag) ≡ 16
 
 -- its change and create versions are contained in a knowledge
 pub record ContainedIn (k : Knowledge) (r : Rec) : Type 0 where
