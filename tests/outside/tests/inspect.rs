@@ -10,10 +10,8 @@ use std::thread;
 use inputs::Knowledge;
 
 fn printed(input: &[u8]) -> String {
-    let program = env::var_os("SYNC_INSPECT").map_or_else(
-        || PathBuf::from(concat!(env!("CARGO_MANIFEST_DIR"), "/../../target/bin/inspect")),
-        PathBuf::from,
-    );
+    let program = env::var_os("SYNC_INSPECT")
+        .map_or_else(|| PathBuf::from(concat!(env!("CARGO_MANIFEST_DIR"), "/../../target/bin/inspect")), PathBuf::from);
     let mut child = Command::new(&program)
         .stdin(Stdio::piped())
         .stdout(Stdio::piped())
