@@ -12,3 +12,8 @@ pub mod Prefix
 pub mod Lengths
 pub mod Exact
 pub mod Faults
+pub mod Table
+pub mod FaultSteps
+pub mod FaultPlaces
+pub mod Numbers
+pub mod NumbersLawful
