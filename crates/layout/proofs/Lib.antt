@@ -17,3 +17,4 @@ pub mod FaultSteps
 pub mod FaultPlaces
 pub mod Numbers
 pub mod NumbersLawful
+pub mod Answers
