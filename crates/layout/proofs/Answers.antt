@@ -41,7 +41,8 @@ sizes-put r v e g old =
           getD-set-other c 3 0 g 0 (λ z. omega arith) ∙ getD-set-other b 2 0 e 0 (λ z. omega arith) ∙
           getD-set-other a 1 0 v 0 (λ z. omega arith) ∙ getD-set-same old 0 r 0 h;
       second = λ h.
-          getD-set-other c 3 1 g 0 (λ z. omega arith) ∙ getD-set-other b 2 1 e 0 (λ z. omega arith) ∙ getD-set-same a 1 v 0 (omega arith);
+          getD-set-other c 3 1 g 0 (λ z. omega arith) ∙ getD-set-other b 2 1 e 0 (λ z. omega arith) ∙ getD-set-same a 1 v 0
+          (omega arith);
       third = λ h. getD-set-other c 3 2 g 0 (λ z. omega arith) ∙ getD-set-same b 2 e 0 (omega arith);
       fourth = λ h. getD-set-same c 3 g 0 (omega arith);
       others = λ i h.
@@ -70,7 +71,8 @@ sizes-refused n old = refl
 pub record Accepts (R : Rules) (s : List ℕ) (k : Knowledge) : Type 0 where
   pub number : checkedNumber (checked R s) ≡ 0
   pub sizes : (old : List ℕ) →
-      Sizes (length (k .replicas)) (length (k .vectors)) (elements (k .vectors)) (length (k .ranges)) old (checkedSizes (checked R s) old)
+      Sizes (length (k .replicas)) (length (k .vectors)) (elements (k .vectors)) (length (k .ranges)) old (checkedSizes
+      (checked R s) old)
 
 -- and where it refuses with n
 pub record Refusal (R : Rules) (s : List ℕ) (n : ℕ) : Type 0 where
@@ -104,4 +106,8 @@ module _ (R : Rules) (permitted : Permitted (R .limits)) where
 
 -- document 01's rules refuse no id for itself: the numbers are those of its table
 pub answer-basic : (s : List ℕ) (n : ℕ) → parse basic s ≡ refused n → (1 ≤ n) × (n ≤ 10)
-answer-basic s n h = elim (answer-refused basic base-permitted s n h .table) [ inl l ↦ l | inr j ↦ absurd (omega (arith, j .1, j .2)) ]
+answer-basic s n h = elim (answer-refused basic base-permitted s n h .table) [
+  | inl l ↦ l
+  | inr j ↦ absurd (omega
+      (arith, j .1, j .2))
+]

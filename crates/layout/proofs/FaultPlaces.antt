@@ -1,7 +1,7 @@
 -- The check's answer at the first faulty field: where the bytes begin as a lawful knowledge begins, and the part that
 -- comes next has a fault, the check refuses with the fault's number. What stands before the part is read as that of a
 -- lawful knowledge is. The bytes before a field are what `encode` writes there; t, the bytes from the field on, is any list.
-use Prim.Native.Nat.{ℕ, suc, _+_, _-_, _*_, _<_, _≤_}
+use Prim.Native.Nat.{ℕ, _+_, _-_, _*_, _<_, _≤_}
 use mathlib.Core.Path.{_≡_, refl, ap, _∙_}
 use mathlib.Core.List.{List, [], _∷_}
 use native.Mathlib.Omega.{arith}
@@ -10,15 +10,15 @@ use Rattle.codec.specs.Number.{put}
 use Rattle.layout.specs.declared.Got.{Got}
 use Rattle.layout.specs.declared.Got.the-variants.{Num, Fault}
 use Rattle.layout.specs.declared.Checked.the-variants.{Refused}
-use Rattle.layout.specs.Knowledge.{Rules, Element, Range, opening, beforeVectors, beforeElements, beforeRanges, closing, putFields, putIds, putElements, putVectors, putRanges, All, Distinct, Rising, keys, bounds}
+use Rattle.layout.specs.Knowledge.{Rules, Element, Range, opening, beforeVectors, beforeElements, beforeRanges, closing, putFields, putIds, putElements, putVectors, putRanges, All, keys}
 use Rattle.layout.specs.Permitted.{Permitted}
 use Rattle.layout.specs.Answer.{elements}
 use Rattle.layout.specs.Read.{_▷_, repeat, number, fields, limit, empty, replicaId, element, firstVector, vector, range}
-use Rattle.layout.specs.Parse.{_▶_, replicaMap, vectorCount, vectorList, rangeList, checked}
-use Rattle.layout.proofs.Parts.{LawfulId, LawfulElement, LawfulVector, LawfulRange}
+use Rattle.layout.specs.Parse.{replicaMap, vectorCount, vectorList, rangeList, checked}
+use Rattle.layout.proofs.Parts.{LawfulVector}
 use Rattle.layout.proofs.Chain.{Stands, over, fields-over, fields-read, fresh-all, beforeElements-fits}
 use Rattle.layout.proofs.ForwardRead.{num, ids-over, ids-read, elements-over, elements-read, vector-begun, vector-over, vectors-over, vectors-read, first-read, ranges-over, ranges-read, lowest}
-use Rattle.layout.proofs.Forward.{map-over, map-start, map-begun, map-read, vectors-start, count-read, list-read, ranges-count, ranges-start, spans-begun, spans-read}
+use Rattle.layout.proofs.Forward.{map-over, map-begun, map-read, vectors-start, count-read, list-read, ranges-count, ranges-start, spans-begun, spans-read}
 use Rattle.layout.proofs.FaultSteps.{repeat-fault}
 use Rattle.layout.proofs.Table.{mapBytes, vectorBytes, elementBytes, rangeBytes, FirstIds, FirstVectors, FirstElements, FirstRanges}
 
@@ -33,7 +33,8 @@ element-fault s r e at n es t j m h l c f =
     let g : Stands s start (putElements es t) =
     over s (at + 4) 4 n (putElements es t) (fields-over s at beforeElements (put 4 n (putElements es t)) h) in
     let so-far : repeat (element s r start) (length es) 0 start ≡ Num (length es) (start + 12 * length es) =
-    elements-read s r start 0 start es t (omega arith) (omega arith) g (l .elements) (l .distinct) (fresh-all s 4 12 start (keys es)) ∙
+    elements-read s r start 0 start es t (omega arith) (omega arith) g (l .elements) (l .distinct) (fresh-all s 4 12 start
+    (keys es)) ∙
     num (0 + length es) (length es) (start + 12 * length es) (start + 12 * length es) (omega arith) refl in
     vector-begun s r e at n (putElements es t) m h (l .most) ∙
     ap (λ (g : Got). g ▷ λ m next. Num (e + m) next)

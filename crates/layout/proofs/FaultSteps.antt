@@ -13,7 +13,7 @@ use borrow.Author.Tests.{lt-ltb, le-ltb, le-leb, lt-leb, eq-eqb, ne-eqb}
 use Rattle.codec.specs.Number.{beAt, put}
 use Rattle.layout.specs.declared.Got.{Got}
 use Rattle.layout.specs.declared.Got.the-variants.{Num, Fault}
-use Rattle.layout.specs.Knowledge.{Rules, largestTick, Element, Range, Field, putFields, putIds, putElements, All, keys}
+use Rattle.layout.specs.Knowledge.{Rules, largestTick, Element, Field, putFields, putIds, putElements, All, keys}
 use Rattle.layout.specs.Read.{_▷_, repeat, number, same, fields, limit, empty, among, judged, replicaId, tick, element, index, range}
 use Rattle.layout.proofs.Parts.{LawfulId, LawfulElement}
 use Rattle.layout.proofs.Chain.{Stands, stands-length, over, reads, number-reads, Fit, sizes, lastOf, fields-over, fields-read}
@@ -25,7 +25,8 @@ unfolding repeat
 repeat-add f zero m x at = ap (λ i. repeat f i x at) (zero-add m)
 repeat-add f (suc n) m x at = ap (λ i. repeat f i x at) (suc-add n m) ∙ go (f x at) (repeat-add f n m)
   where
-    go : (g : Got) → ((y b : ℕ) → repeat f (n + m) y b ≡ (repeat f n y b ▷ repeat f m)) → (g ▷ repeat f (n + m)) ≡ (g ▷ repeat f n ▷ repeat f m)
+    go : (g : Got) → ((y b : ℕ) → repeat f (n + m) y b ≡ (repeat f n y b ▷ repeat f m)) →
+        (g ▷ repeat f (n + m)) ≡ (g ▷ repeat f n ▷ repeat f m)
     go (Num y b) rest = rest y b
     go (Fault j) rest = refl
 
@@ -99,7 +100,7 @@ or-true : (a b : Bool) → b ≡ true → _≡_ {A = Bool} (elim a [ true ↦ tr
 or-true true b e = refl
 or-true false b e = e
 
-among-seen : (s : List ℕ) (n step at k j x : ℕ) → j < k → beAt s n (at + step * j) ≡ x → among s n step at k x ≡ true
+pub among-seen : (s : List ℕ) (n step at k j x : ℕ) → j < k → beAt s n (at + step * j) ≡ x → among s n step at k x ≡ true
 unfolding among
 among-seen s n step at zero j x l e = absurd (omega arith)
 among-seen s n step at (suc k) zero x l e =
@@ -109,7 +110,7 @@ among-seen s n step at (suc k) (suc j) x l e =
     (among-seen s n step (at + step) k j x (omega arith) (ap (beAt s n) (omega (arith, mul-suc step j)) ∙ e))
 
 -- the id and the key at a place of their list
-id-at : (R : Rules) (s : List ℕ) (at : ℕ) (ids t : List ℕ) (j : ℕ) → Stands s at (putIds ids t) → All (LawfulId R) ids →
+pub id-at : (R : Rules) (s : List ℕ) (at : ℕ) (ids t : List ℕ) (j : ℕ) → Stands s at (putIds ids t) → All (LawfulId R) ids →
     j < length ids → beAt s 16 (at + 16 * j) ≡ getD ids j 0
 unfolding putIds
 id-at R s at [] t j h l b = absurd (omega arith)
@@ -117,7 +118,7 @@ id-at R s at (x ∷ xs) t zero h l b = ap (beAt s 16) (omega arith) ∙ reads s 
 id-at R s at (x ∷ xs) t (suc j) h l b =
     ap (beAt s 16) (omega arith) ∙ id-at R s (at + 16) xs t j (over s at 16 x (putIds xs t) h) (l .1) (omega arith)
 
-key-at : (s : List ℕ) (r at : ℕ) (es : List Element) (t : List ℕ) (j : ℕ) → r ≤ 4294967296 → Stands s at (putElements es t) →
+pub key-at : (s : List ℕ) (r at : ℕ) (es : List Element) (t : List ℕ) (j : ℕ) → r ≤ 4294967296 → Stands s at (putElements es t) →
     All (LawfulElement r) es → j < length es → beAt s 4 (at + 12 * j) ≡ getD (keys es) j 0
 unfolding putElements keys
 key-at s r at [] t j m h l b = absurd (omega arith)
@@ -126,7 +127,8 @@ key-at s r at (x ∷ xs) t zero m h l b =
 key-at s r at (x ∷ xs) t (suc j) m h l b =
     ap (beAt s 4) (omega arith) ∙
     key-at s r (at + 4 + 8) xs t j m
-    (over s (at + 4) 8 (x .tick) (putElements xs t) (over s at 4 (x .key .0) (put 8 (x .tick) (putElements xs t)) h)) (l .1) (omega arith)
+    (over s (at + 4) 8 (x .tick) (putElements xs t) (over s at 4 (x .key .0) (put 8 (x .tick) (putElements xs t)) h)) (l .1)
+    (omega arith)
 
 -- 1 and 5, for a replica id; and the rules' own number for one that was not there before
 pub id-cut : (R : Rules) (s : List ℕ) (start k at : ℕ) (t : List ℕ) → Stands s at t → length t < 16 →

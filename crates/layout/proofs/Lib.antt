@@ -17,4 +17,7 @@ pub mod FaultSteps
 pub mod FaultPlaces
 pub mod Numbers
 pub mod NumbersLawful
+pub mod Appended
+pub mod FoundSteps
+pub mod TableExact
 pub mod Answers

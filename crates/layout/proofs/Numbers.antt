@@ -10,18 +10,18 @@ use lib.Dec.{leb}
 use borrow.Author.Tests.{leb-true, leb-false}
 use lib.ListN.{length, getD}
 use Rattle.codec.specs.Number.{put}
-use Rattle.layout.specs.declared.Got.{Got}
 use Rattle.layout.specs.declared.Got.the-variants.{Fault}
 use Rattle.layout.specs.declared.Checked.the-variants.{Refused}
-use Rattle.layout.specs.Knowledge.{Rules, largestTick, Element, Range, Field, opening, beforeVectors, beforeElements, beforeRanges, closing, putFields, putIds, putElements, putVectors, putRanges, All, keys, bounds}
+use Rattle.layout.specs.Knowledge.{Rules, Element, Range, Field, opening, beforeVectors, beforeElements, beforeRanges, putFields, All, keys, bounds}
 use Rattle.layout.specs.Permitted.{Permitted}
-use Rattle.layout.specs.Read.{_▷_, number, same, fields, limit, firstVector, vector}
+use Rattle.layout.specs.Read.{_▷_, number, same, fields, limit}
 use Rattle.layout.specs.Parse.{vectorCount, checked}
 use Rattle.layout.proofs.Chain.{Stands, stands-whole, Fit, opening-fits, beforeVectors-fits, beforeElements-fits, beforeRanges-fits, closing-fits}
 use Rattle.layout.proofs.ForwardRead.{lowest}
 use Rattle.layout.proofs.FaultSteps.{fixed-cut, fixed-differs, fields-fault, count-cut, count-low, count-high, counted-fault, first-cut, first-filled, id-cut, id-seen, id-judged, key-cut, key-above, key-seen, tick-fault, tick-cut, tick-above, bound-cut, bound-low, index-fault, index-cut, index-above}
-use Rattle.layout.proofs.Table.{mapBytes, vectorBytes, elementBytes, rangeBytes, FirstIds, FirstVectors, FirstElements, FirstRanges}
-use Rattle.layout.proofs.Table.{Refuses, Parted, Differs, Seen, NotAbove, Numbers}
+use Rattle.layout.proofs.Table.{mapBytes, vectorBytes, elementBytes, rangeBytes, FirstIds, FirstVectors}
+use Rattle.layout.proofs.Table.{Refuses, Parted, Differs, NotAbove, Line}
+use Rattle.layout.proofs.Table.{fixed-opening, count-r, replica-id, replica-judged, fixed-vectors, count-v, fixed-vector, count-first, count-elements, key, tick, fixed-ranges, count-g, bound, index, fixed-closing}
 use Rattle.layout.proofs.FaultPlaces.{opening-fault, id-fault, vectors-fault, first-fault, vector-fault, ranges-fault, range-fault, closing-fault, element-fault, vector-count-fault, first-count-fault, first-fixed-fault, range-count-fault}
 
 -- both halves of a line by one law: a fault of the part where t stands is the check's
@@ -47,7 +47,8 @@ Fixed before f after s i t = (y at : ℕ) → Stands s at (putFields before t) �
 module _ (before : List Field) (f : Field) (after : List Field) (fits : All Fit (before ++ (f ∷ after))) where
   cut-fixed : (s t : List ℕ) → length t < f .size → Fixed before f after s 1 t
   cut-fixed s t l y at h =
-      fields-fault s y at before f after t 1 h (all-front Fit before (f ∷ after) fits) λ z b g. fixed-cut s (f .size) (f .value) z b t g l
+      fields-fault s y at before f after t 1 h (all-front Fit before (f ∷ after) fits) λ z b g. fixed-cut s (f .size)
+      (f .value) z b t g l
 
   wrong-fixed : (s : List ℕ) (x : ℕ) (t : List ℕ) → x < 256 ^ f .size → Differs f x → Fixed before f after s 2 (put (f .size) x t)
   wrong-fixed s x t l d y at h =
@@ -80,7 +81,7 @@ count-line R p lo hi Bad beyond whole = line R 4 p Bad 3 (Count lo hi) whole
     ]
 
 -- the least bound that may follow is one more than the bound before
-lowest-last : (low : ℕ) (xs : List Range) → 1 ≤ length xs → lowest low xs ≡ suc (getD (bounds xs) (length xs - 1) 0)
+pub lowest-last : (low : ℕ) (xs : List Range) → 1 ≤ length xs → lowest low xs ≡ suc (getD (bounds xs) (length xs - 1) 0)
 unfolding bounds
 lowest-last low [] h = absurd (omega arith)
 lowest-last low (x ∷ []) h = refl
@@ -105,10 +106,10 @@ unfolding keys
 keys-count [] = refl
 keys-count (x ∷ xs) = ap suc (keys-count xs)
 
-keys-length : (es : List Element) {j : ℕ} → j < length (keys es) → j < length es
+pub keys-length : (es : List Element) {j : ℕ} → j < length (keys es) → j < length es
 keys-length es {j} h = omega (arith, keys-count es)
 
-keys-less : (es : List Element) {j : ℕ} → j < length es → j < length (keys es)
+pub keys-less : (es : List Element) {j : ℕ} → j < length es → j < length (keys es)
 keys-less es {j} h = omega (arith, keys-count es)
 
 module _ (R : Rules) (permitted : Permitted (R .limits)) where
@@ -140,133 +141,137 @@ module _ (R : Rules) (permitted : Permitted (R .limits)) where
   unfolding vectorCount
   vectorCount-counted s at i e = e
 
-  pub numbers-exact : Numbers R
-  numbers-exact = record {
-    fixed-opening = λ before f after e.
-        fixed-line before f after (subst (All Fit) e opening-fits) R (putFields before) λ t i fault.
-        let s = putFields before t in
-        opening-fault R permitted s i
-        (counted s opening 0 (R .limits .replicas) i 0 0 (ap (λ fs. fields s fs 0 0) e ∙ fault 0 0 (stands-whole s)));
-    count-r =
-        count-line R (putFields opening) 0 (R .limits .replicas) (λ x. R .limits .replicas < x) (λ x b. inr b) λ t i fault.
-        let s = putFields opening t in
-        opening-fault R permitted s i (counted-fault s opening 0 (R .limits .replicas) 0 0 t i (stands-whole s) opening-fits fault);
-    replica-id = λ r ids l c. record {
-      ends = λ t short.
-          id-fault R permitted (mapBytes r ids t) r ids t 1 (stands-whole (mapBytes r ids t)) l c λ start b g h.
-          id-cut R (mapBytes r ids t) start (length ids) b t h short;
-      bad = λ x t small seen.
-          let s = mapBytes r ids (put 16 x t) in
-          id-fault R permitted s r ids (put 16 x t) 5 (stands-whole s) l c λ start b g h.
-          id-seen R s start b ids x (seen .0) t g h (l .lawful) small (seen .1) (seen .2);
-    };
-    replica-judged = λ r ids l c n. record {
-      ends = λ t short.
-          id-fault R permitted (mapBytes r ids t) r ids t 1 (stands-whole (mapBytes r ids t)) l c λ start b g h.
-          id-cut R (mapBytes r ids t) start (length ids) b t h short;
-      bad = λ x t small new.
-          let s = mapBytes r ids (put 16 x t) in
-          id-fault R permitted s r ids (put 16 x t) (suc n) (stands-whole s) l c λ start b g h.
-          id-judged R s start b ids x n t g h (l .lawful) small (λ j less same. new .0 (j, less, same)) (new .1);
-    };
-    fixed-vectors = λ ids l before f after e.
-        fixed-line before f after (subst (All Fit) e beforeVectors-fits) R (λ t. mapBytes (length ids) ids (putFields before t)) λ t i fault.
-        let s = mapBytes (length ids) ids (putFields before t) in
-        vectors-fault R permitted s ids (putFields before t) i (stands-whole s) l λ b h.
-        vectorCount-counted s b i (counted s beforeVectors 1 (R .limits .ranges + 1) i 0 b (ap (λ fs. fields s fs 0 b) e ∙ fault 0 b h));
-    count-v = λ ids l.
-        count-line R (λ t. mapBytes (length ids) ids (putFields beforeVectors t)) 1 (R .limits .ranges + 1)
-        (λ x. (x < 1) ⊎ (R .limits .ranges + 1 < x)) (λ x b. b) λ t i fault.
-        let s = mapBytes (length ids) ids (putFields beforeVectors t) in
-        vectors-fault R permitted s ids (putFields beforeVectors t) i (stands-whole s) l λ b h.
-        vectorCount-counted s b i (counted-fault s beforeVectors 1 (R .limits .ranges + 1) 0 b t i h beforeVectors-fits fault);
-    fixed-vector = λ ids v vs l w c before f after e.
-        fixed-line before f after (subst (All Fit) e beforeElements-fits) R (λ t. vectorBytes ids v vs (putFields before t))
-        (vector-fixed ids v vs l w c before f after e);
-    count-first = λ ids v l w. record {
-      ends = λ t short.
-          let s = vectorBytes ids v [] (putFields beforeElements t) in
-          first-fault R permitted s ids v (putFields beforeElements t) 1 (stands-whole s) l w λ b h.
-          first-count-fault s 0 b t 1 h λ z a g. first-cut s z a t g short;
-      bad = λ x t small some.
-          let s = vectorBytes ids v [] (putFields beforeElements (put 4 x t)) in
-          first-fault R permitted s ids v (putFields beforeElements (put 4 x t)) 4 (stands-whole s) l w λ b h.
-          first-count-fault s 0 b (put 4 x t) 4 h λ z a g. first-filled s z a x t g small some;
-    };
-    count-elements = λ ids v vs l w some c.
-        count-line R (λ t. vectorBytes ids v vs (putFields beforeElements t)) 0 (length ids) (λ x. length ids < x) (λ x b. inr b) λ t i fault.
-        let s = vectorBytes ids v vs (putFields beforeElements t) in
-        vector-fault R permitted s ids v vs (putFields beforeElements t) i (stands-whole s) l w some c λ n b h.
-        vector-count-fault s (length ids) n b i (counted-fault s beforeElements 0 (length ids) n b t i h beforeElements-fits fault);
-    key = λ ids v vs n es l w some c m d. record {
-      ends = λ t short.
-          let s = vectorBytes ids v vs (elementBytes n es t) in
-          vector-fault R permitted s ids v vs (elementBytes n es t) 1 (stands-whole s) l w some c λ e b h.
-          element-fault s (length ids) e b n es t 1 (few ids l) h m d λ start a u g. key-cut s (length ids) start (length es) a t g short;
-      bad = λ x t small wrong.
-          let s = vectorBytes ids v vs (elementBytes n es (put 4 x t)) in
-          vector-fault R permitted s ids v vs (elementBytes n es (put 4 x t)) 6 (stands-whole s) l w some c λ e b h.
-          element-fault s (length ids) e b n es (put 4 x t) 6 (few ids l) h m d λ start a u g.
-          elim (le-or-lt (length ids) x) [
-            | inl above ↦ key-above s (length ids) start (length es) a x t g small above
-            | inr below ↦ elim wrong [
-              | inl above ↦ key-above s (length ids) start (length es) a x t g small above
-              | inr seen ↦
-                  key-seen s (length ids) start a es x (seen .0) t (omega (arith, few ids l)) u g (m .elements) below (keys-length es (seen .1)) (seen .2)
-            ]
-          ];
-    };
-    tick = λ ids v vs n es x l w some c m d below new. record {
-      ends = λ t short.
-          let s = vectorBytes ids v vs (elementBytes n es (put 4 x t)) in
-          vector-fault R permitted s ids v vs (elementBytes n es (put 4 x t)) 1 (stands-whole s) l w some c λ e b h.
-          element-fault s (length ids) e b n es (put 4 x t) 1 (few ids l) h m d λ start a u g.
-          tick-fault s (length ids) start a es x t 1 (omega (arith, few ids l)) u g (m .elements) below
-          (λ j less same. new (j, keys-less es less, same)) λ a′ g′. tick-cut s (length es) a′ t g′ short;
-      bad = λ y t small above.
-          let s = vectorBytes ids v vs (elementBytes n es (put 4 x (put 8 y t))) in
-          vector-fault R permitted s ids v vs (elementBytes n es (put 4 x (put 8 y t))) 7 (stands-whole s) l w some c λ e b h.
-          element-fault s (length ids) e b n es (put 4 x (put 8 y t)) 7 (few ids l) h m d λ start a u g.
-          tick-fault s (length ids) start a es x (put 8 y t) 7 (omega (arith, few ids l)) u g (m .elements) below
-          (λ j less same. new (j, keys-less es less, same)) λ a′ g′. tick-above s (length es) a′ y t g′ small above;
-    };
-    fixed-ranges = λ ids vs l w before f after e.
-        fixed-line before f after (subst (All Fit) e beforeRanges-fits) R (λ t. vectorBytes ids (length vs) vs (putFields before t)) λ t i fault.
-        let s = vectorBytes ids (length vs) vs (putFields before t) in
-        ranges-fault R permitted s ids vs (putFields before t) i (stands-whole s) l w λ b h.
-        range-count-fault R permitted s (length vs) b i
-        (counted s beforeRanges 1 (R .limits .ranges) i 0 b (ap (λ fs. fields s fs 0 b) e ∙ fault 0 b h));
-    count-g = λ ids vs l w.
-        count-line R (λ t. vectorBytes ids (length vs) vs (putFields beforeRanges t)) 1 (R .limits .ranges)
-        (λ x. (x < 1) ⊎ (R .limits .ranges < x)) (λ x b. b) λ t i fault.
-        let s = vectorBytes ids (length vs) vs (putFields beforeRanges t) in
-        ranges-fault R permitted s ids vs (putFields beforeRanges t) i (stands-whole s) l w λ b h.
-        range-count-fault R permitted s (length vs) b i
-        (counted-fault s beforeRanges 1 (R .limits .ranges) 0 b t i h beforeRanges-fits fault);
-    bound = λ ids vs g xs l w o c. record {
-      ends = λ t short.
-          let s = rangeBytes ids vs g xs t in
-          range-fault R permitted s ids vs g xs t 1 (stands-whole s) l w o c λ b h. bound-cut s (length vs) (lowest 0 xs) b t h short;
-      bad = λ x t small low.
-          let s = rangeBytes ids vs g xs (put 24 x t) in
-          range-fault R permitted s ids vs g xs (put 24 x t) 8 (stands-whole s) l w o c λ b h.
-          bound-low s (length vs) (lowest 0 xs) b x t h small (lowest-above xs x low);
-    };
-    index = λ ids vs g xs x l w o c small above. record {
-      ends = λ t short.
-          let s = rangeBytes ids vs g xs (put 24 x t) in
-          range-fault R permitted s ids vs g xs (put 24 x t) 1 (stands-whole s) l w o c λ b h.
-          index-fault s (length vs) (lowest 0 xs) b x t 1 h small (lowest-fits xs x above) λ a u.
-          index-cut s (length vs) (suc x) a t u short;
-      bad = λ i t less high.
-          let s = rangeBytes ids vs g xs (put 24 x (put 4 i t)) in
-          range-fault R permitted s ids vs g xs (put 24 x (put 4 i t)) 9 (stands-whole s) l w o c λ b h.
-          index-fault s (length vs) (lowest 0 xs) b x (put 4 i t) 9 h small (lowest-fits xs x above) λ a u.
-          index-above s (length vs) (suc x) a i t u less high;
-    };
-    fixed-closing = λ ids vs xs l w o before f after e.
-        fixed-line before f after (subst (All Fit) e closing-fits) R (λ t. rangeBytes ids vs (length xs) xs (putFields before t)) λ t i fault.
-        let s = rangeBytes ids vs (length xs) xs (putFields before t) in
-        closing-fault R permitted s ids vs xs (putFields before t) i (stands-whole s) l w o λ b h.
-        ap (λ fs. fields s fs 0 b) e ∙ fault 0 b h;
+  pub numbers-exact : {n : ℕ} {p : List ℕ → List ℕ} {Bad : ℕ → Type 0} {j : ℕ} → Line R n p Bad j → Refuses R n p Bad j
+  numbers-exact (fixed-opening before f after e) =
+      fixed-line before f after (subst (All Fit) e opening-fits) R (putFields before) λ t i fault.
+      let s = putFields before t in
+      opening-fault R permitted s i
+      (counted s opening 0 (R .limits .replicas) i 0 0 (ap (λ fs. fields s fs 0 0) e ∙ fault 0 0 (stands-whole s)))
+  numbers-exact count-r =
+      count-line R (putFields opening) 0 (R .limits .replicas) (λ x. R .limits .replicas < x) (λ x b. inr b) λ t i fault.
+      let s = putFields opening t in
+      opening-fault R permitted s i (counted-fault s opening 0 (R .limits .replicas) 0 0 t i (stands-whole s) opening-fits fault)
+  numbers-exact (replica-id r ids l c) = record {
+    ends = λ t short.
+        id-fault R permitted (mapBytes r ids t) r ids t 1 (stands-whole (mapBytes r ids t)) l c λ start b g h.
+        id-cut R (mapBytes r ids t) start (length ids) b t h short;
+    bad = λ x t small seen.
+        let s = mapBytes r ids (put 16 x t) in
+        id-fault R permitted s r ids (put 16 x t) 5 (stands-whole s) l c λ start b g h.
+        id-seen R s start b ids x (seen .0) t g h (l .lawful) small (seen .1) (seen .2);
   }
+  numbers-exact (replica-judged r ids l c n) = record {
+    ends = λ t short.
+        id-fault R permitted (mapBytes r ids t) r ids t 1 (stands-whole (mapBytes r ids t)) l c λ start b g h.
+        id-cut R (mapBytes r ids t) start (length ids) b t h short;
+    bad = λ x t small new.
+        let s = mapBytes r ids (put 16 x t) in
+        id-fault R permitted s r ids (put 16 x t) (suc n) (stands-whole s) l c λ start b g h.
+        id-judged R s start b ids x n t g h (l .lawful) small (λ j less same. new .0 (j, less, same)) (new .1);
+  }
+  numbers-exact (fixed-vectors ids l before f after e) =
+      fixed-line before f after (subst (All Fit) e beforeVectors-fits) R
+      (λ t. mapBytes (length ids) ids (putFields before t)) λ t i fault.
+      let s = mapBytes (length ids) ids (putFields before t) in
+      vectors-fault R permitted s ids (putFields before t) i (stands-whole s) l λ b h.
+      vectorCount-counted s b i (counted s beforeVectors 1 (R .limits .ranges + 1) i 0 b (ap (λ fs. fields s fs 0 b) e ∙ fault 0 b h))
+  numbers-exact (count-v ids l) =
+      count-line R (λ t. mapBytes (length ids) ids (putFields beforeVectors t)) 1 (R .limits .ranges + 1)
+      (λ x. (x < 1) ⊎ (R .limits .ranges + 1 < x)) (λ x b. b) λ t i fault.
+      let s = mapBytes (length ids) ids (putFields beforeVectors t) in
+      vectors-fault R permitted s ids (putFields beforeVectors t) i (stands-whole s) l λ b h.
+      vectorCount-counted s b i (counted-fault s beforeVectors 1 (R .limits .ranges + 1) 0 b t i h beforeVectors-fits fault)
+  numbers-exact (fixed-vector ids v vs l w c before f after e) =
+      fixed-line before f after (subst (All Fit) e beforeElements-fits) R (λ t. vectorBytes ids v vs (putFields before t))
+      (vector-fixed ids v vs l w c before f after e)
+  numbers-exact (count-first ids v l w) = record {
+    ends = λ t short.
+        let s = vectorBytes ids v [] (putFields beforeElements t) in
+        first-fault R permitted s ids v (putFields beforeElements t) 1 (stands-whole s) l w λ b h.
+        first-count-fault s 0 b t 1 h λ z a g. first-cut s z a t g short;
+    bad = λ x t small some.
+        let s = vectorBytes ids v [] (putFields beforeElements (put 4 x t)) in
+        first-fault R permitted s ids v (putFields beforeElements (put 4 x t)) 4 (stands-whole s) l w λ b h.
+        first-count-fault s 0 b (put 4 x t) 4 h λ z a g. first-filled s z a x t g small some;
+  }
+  numbers-exact (count-elements ids v vs l w some c) =
+      count-line R (λ t. vectorBytes ids v vs (putFields beforeElements t)) 0 (length ids) (λ x. length ids < x)
+      (λ x b. inr b) λ t i fault.
+      let s = vectorBytes ids v vs (putFields beforeElements t) in
+      vector-fault R permitted s ids v vs (putFields beforeElements t) i (stands-whole s) l w some c λ n b h.
+      vector-count-fault s (length ids) n b i (counted-fault s beforeElements 0 (length ids) n b t i h beforeElements-fits fault)
+  numbers-exact (key ids v vs n es l w some c m d) = record {
+    ends = λ t short.
+        let s = vectorBytes ids v vs (elementBytes n es t) in
+        vector-fault R permitted s ids v vs (elementBytes n es t) 1 (stands-whole s) l w some c λ e b h.
+        element-fault s (length ids) e b n es t 1 (few ids l) h m d λ start a u g.
+        key-cut s (length ids) start (length es) a t g short;
+    bad = λ x t small wrong.
+        let s = vectorBytes ids v vs (elementBytes n es (put 4 x t)) in
+        vector-fault R permitted s ids v vs (elementBytes n es (put 4 x t)) 6 (stands-whole s) l w some c λ e b h.
+        element-fault s (length ids) e b n es (put 4 x t) 6 (few ids l) h m d λ start a u g.
+        elim (le-or-lt (length ids) x) [
+          | inl above ↦ key-above s (length ids) start (length es) a x t g small above
+          | inr below ↦ elim wrong [
+            | inl above ↦ key-above s (length ids) start (length es) a x t g small above
+            | inr seen ↦
+                key-seen s (length ids) start a es x (seen .0) t (omega (arith, few ids l)) u g (m .elements) below
+                (keys-length es (seen .1)) (seen .2)
+          ]
+        ];
+  }
+  numbers-exact (tick ids v vs n es x l w some c m d below new) = record {
+    ends = λ t short.
+        let s = vectorBytes ids v vs (elementBytes n es (put 4 x t)) in
+        vector-fault R permitted s ids v vs (elementBytes n es (put 4 x t)) 1 (stands-whole s) l w some c λ e b h.
+        element-fault s (length ids) e b n es (put 4 x t) 1 (few ids l) h m d λ start a u g.
+        tick-fault s (length ids) start a es x t 1 (omega (arith, few ids l)) u g (m .elements) below
+        (λ j less same. new (j, keys-less es less, same)) λ a′ g′. tick-cut s (length es) a′ t g′ short;
+    bad = λ y t small above.
+        let s = vectorBytes ids v vs (elementBytes n es (put 4 x (put 8 y t))) in
+        vector-fault R permitted s ids v vs (elementBytes n es (put 4 x (put 8 y t))) 7 (stands-whole s) l w some c λ e b h.
+        element-fault s (length ids) e b n es (put 4 x (put 8 y t)) 7 (few ids l) h m d λ start a u g.
+        tick-fault s (length ids) start a es x (put 8 y t) 7 (omega (arith, few ids l)) u g (m .elements) below
+        (λ j less same. new (j, keys-less es less, same)) λ a′ g′. tick-above s (length es) a′ y t g′ small above;
+  }
+  numbers-exact (fixed-ranges ids vs l w before f after e) =
+      fixed-line before f after (subst (All Fit) e beforeRanges-fits) R
+      (λ t. vectorBytes ids (length vs) vs (putFields before t)) λ t i fault.
+      let s = vectorBytes ids (length vs) vs (putFields before t) in
+      ranges-fault R permitted s ids vs (putFields before t) i (stands-whole s) l w λ b h.
+      range-count-fault R permitted s (length vs) b i
+      (counted s beforeRanges 1 (R .limits .ranges) i 0 b (ap (λ fs. fields s fs 0 b) e ∙ fault 0 b h))
+  numbers-exact (count-g ids vs l w) =
+      count-line R (λ t. vectorBytes ids (length vs) vs (putFields beforeRanges t)) 1 (R .limits .ranges)
+      (λ x. (x < 1) ⊎ (R .limits .ranges < x)) (λ x b. b) λ t i fault.
+      let s = vectorBytes ids (length vs) vs (putFields beforeRanges t) in
+      ranges-fault R permitted s ids vs (putFields beforeRanges t) i (stands-whole s) l w λ b h.
+      range-count-fault R permitted s (length vs) b i
+      (counted-fault s beforeRanges 1 (R .limits .ranges) 0 b t i h beforeRanges-fits fault)
+  numbers-exact (bound ids vs g xs l w o c) = record {
+    ends = λ t short.
+        let s = rangeBytes ids vs g xs t in
+        range-fault R permitted s ids vs g xs t 1 (stands-whole s) l w o c λ b h. bound-cut s (length vs) (lowest 0 xs) b t h short;
+    bad = λ x t small low.
+        let s = rangeBytes ids vs g xs (put 24 x t) in
+        range-fault R permitted s ids vs g xs (put 24 x t) 8 (stands-whole s) l w o c λ b h.
+        bound-low s (length vs) (lowest 0 xs) b x t h small (lowest-above xs x low);
+  }
+  numbers-exact (index ids vs g xs x l w o c small above) = record {
+    ends = λ t short.
+        let s = rangeBytes ids vs g xs (put 24 x t) in
+        range-fault R permitted s ids vs g xs (put 24 x t) 1 (stands-whole s) l w o c λ b h.
+        index-fault s (length vs) (lowest 0 xs) b x t 1 h small (lowest-fits xs x above) λ a u.
+        index-cut s (length vs) (suc x) a t u short;
+    bad = λ i t less high.
+        let s = rangeBytes ids vs g xs (put 24 x (put 4 i t)) in
+        range-fault R permitted s ids vs g xs (put 24 x (put 4 i t)) 9 (stands-whole s) l w o c λ b h.
+        index-fault s (length vs) (lowest 0 xs) b x (put 4 i t) 9 h small (lowest-fits xs x above) λ a u.
+        index-above s (length vs) (suc x) a i t u less high;
+  }
+  numbers-exact (fixed-closing ids vs xs l w o before f after e) =
+      fixed-line before f after (subst (All Fit) e closing-fits) R
+      (λ t. rangeBytes ids vs (length xs) xs (putFields before t)) λ t i fault.
+      let s = rangeBytes ids vs (length xs) xs (putFields before t) in
+      closing-fault R permitted s ids vs xs (putFields before t) i (stands-whole s) l w o λ b h.
+      ap (λ fs. fields s fs 0 b) e ∙ fault 0 b h

@@ -15,7 +15,8 @@ use Rattle.layout.specs.Parse.{checked}
 use Rattle.layout.proofs.Parts.{LawfulId, LawfulElement, LawfulVector, LawfulRange, Parts, parts}
 use Rattle.layout.proofs.Forward.{forward}
 use Rattle.layout.proofs.Prefix.{Cut, stopped, whole, ends, over, cut}
-use Rattle.layout.proofs.Table.{FirstIds, FirstVectors, FirstElements, FirstRanges, Seen, NotAbove, Numbers, NumbersOf}
+use Rattle.layout.proofs.Table.{FirstIds, FirstVectors, FirstElements, FirstRanges, Seen, NotAbove, Refuses, Line, NumbersOf}
+use Rattle.layout.proofs.Table.{fixed-opening, count-r, replica-id, replica-judged, fixed-vectors, count-v, fixed-vector, count-first, count-elements, key, tick, fixed-ranges, count-g, bound, index, fixed-closing}
 use Rattle.layout.proofs.Numbers.{all-front, numbers-exact}
 
 accepted-refused : (r v e g n : ℕ) (C : Type 0) → Refused n ≡ Accepted r v e g → C
@@ -98,8 +99,8 @@ module _ (R : Rules) (permitted : Permitted (R .limits)) (k : Knowledge) (lawful
   l : Parts R k
   l = parts R k lawful
 
-  table : Numbers R
-  table = numbers-exact R permitted
+  table : {n : ℕ} {p : List ℕ → List ℕ} {Bad : ℕ → Type 0} {j : ℕ} → Line R n p Bad j → Refuses R n p Bad j
+  table line = numbers-exact R permitted line
 
   all-ids : FirstIds R (length (k .replicas)) (k .replicas)
   all-ids = record { most = l .replicas; lawful = l .ids; distinct = l .distinct }
@@ -144,7 +145,8 @@ module _ (R : Rules) (permitted : Permitted (R .limits)) (k : Knowledge) (lawful
         most = vector .count;
         elements = all-front (LawfulElement (length (k .replicas))) xs (x ∷ after)
             (subst (All (LawfulElement (length (k .replicas)))) q (vector .elements));
-        distinct = distinct-front (keys xs) (keys (x ∷ after)) (subst Distinct (ap keys q ∙ keys-append xs (x ∷ after)) (vector .distinct));
+        distinct = distinct-front (keys xs) (keys (x ∷ after))
+            (subst Distinct (ap keys q ∙ keys-append xs (x ∷ after)) (vector .distinct));
       }
 
       less : length xs < length es
@@ -184,36 +186,40 @@ module _ (R : Rules) (permitted : Permitted (R .limits)) (k : Knowledge) (lawful
 
   pub numbers-lawful : NumbersOf R k
   numbers-lawful = record {
-    fixed-opening = table .fixed-opening;
-    count-r = table .count-r;
+    fixed-opening = λ before f after e. table (fixed-opening before f after e);
+    count-r = table count-r;
     replica-id = λ ids id more e.
-        table .replica-id (length (k .replicas)) ids (first-ids ids id more e) (before-less (k .replicas) ids id more e);
-    replica-judged = λ ids id more e.
-        table .replica-judged (length (k .replicas)) ids (first-ids ids id more e) (before-less (k .replicas) ids id more e);
-    fixed-vectors = table .fixed-vectors (k .replicas) all-ids;
-    count-v = table .count-v (k .replicas) all-ids;
-    fixed-vector = λ vs es more e.
-        table .fixed-vector (k .replicas) (length (k .vectors)) vs all-ids (first-vectors vs es more e) (fewer vs es more e);
-    count-first = table .count-first (k .replicas) (length (k .vectors)) all-ids no-vectors;
+        table (replica-id (length (k .replicas)) ids (first-ids ids id more e) (before-less (k .replicas) ids id more e));
+    replica-judged = λ ids id more e n.
+        table (replica-judged (length (k .replicas)) ids (first-ids ids id more e) (before-less (k .replicas) ids id more e) n);
+    fixed-vectors = λ before f after e. table (fixed-vectors (k .replicas) all-ids before f after e);
+    count-v = table (count-v (k .replicas) all-ids);
+    fixed-vector = λ vs es more e before f after q.
+        table (fixed-vector (k .replicas) (length (k .vectors)) vs all-ids (first-vectors vs es more e)
+        (fewer vs es more e) before f after q);
+    count-first = table (count-first (k .replicas) (length (k .vectors)) all-ids no-vectors);
     count-elements = λ vs es more e some.
-        table .count-elements (k .replicas) (length (k .vectors)) vs all-ids (first-vectors vs es more e) some (fewer vs es more e);
+        table (count-elements (k .replicas) (length (k .vectors)) vs all-ids (first-vectors vs es more e) some (fewer vs es more e));
     key = λ vs es more e xs x after q.
-        table .key (k .replicas) (length (k .vectors)) vs (length es) xs all-ids (first-vectors vs es more e)
-        (later vs es more e xs x after q) (fewer vs es more e) (first-elements vs es more e xs x after q) (less vs es more e xs x after q);
+        table (key (k .replicas) (length (k .vectors)) vs (length es) xs all-ids (first-vectors vs es more e)
+        (later vs es more e xs x after q) (fewer vs es more e) (first-elements vs es more e xs x after q)
+        (less vs es more e xs x after q));
     tick = λ vs es more e xs x after q.
-        table .tick (k .replicas) (length (k .vectors)) vs (length es) xs (x .key .0) all-ids (first-vectors vs es more e)
-        (later vs es more e xs x after q) (fewer vs es more e) (first-elements vs es more e xs x after q) (less vs es more e xs x after q)
-        (below vs es more e xs x after q) (new vs es more e xs x after q);
-    fixed-ranges = table .fixed-ranges (k .replicas) (k .vectors) all-ids all-vectors;
-    count-g = table .count-g (k .replicas) (k .vectors) all-ids all-vectors;
+        table (tick (k .replicas) (length (k .vectors)) vs (length es) xs (x .key .0) all-ids (first-vectors vs es more e)
+        (later vs es more e xs x after q) (fewer vs es more e) (first-elements vs es more e xs x after q)
+        (less vs es more e xs x after q)
+        (below vs es more e xs x after q) (new vs es more e xs x after q));
+    fixed-ranges = λ before f after e. table (fixed-ranges (k .replicas) (k .vectors) all-ids all-vectors before f after e);
+    count-g = table (count-g (k .replicas) (k .vectors) all-ids all-vectors);
     bound = λ xs x more e.
-        table .bound (k .replicas) (k .vectors) (length (k .ranges)) xs all-ids all-vectors (first-ranges xs x more e)
-        (before-less (k .ranges) xs x more e);
+        table (bound (k .replicas) (k .vectors) (length (k .ranges)) xs all-ids all-vectors (first-ranges xs x more e)
+        (before-less (k .ranges) xs x more e));
     index = λ xs x more e.
-        table .index (k .replicas) (k .vectors) (length (k .ranges)) xs (x .bound) all-ids all-vectors (first-ranges xs x more e)
+        table (index (k .replicas) (k .vectors) (length (k .ranges)) xs (x .bound) all-ids all-vectors (first-ranges xs x more e)
         (before-less (k .ranges) xs x more e) (all-member (LawfulRange (length (k .vectors))) xs x more (spans xs x more e) .size)
-        (rising-above 0 xs x more (rises xs x more e));
-    fixed-closing = table .fixed-closing (k .replicas) (k .vectors) (k .ranges) all-ids all-vectors all-ranges;
+        (rising-above 0 xs x more (rises xs x more e)));
+    fixed-closing = λ before f after e. table (fixed-closing (k .replicas) (k .vectors)
+        (k .ranges) all-ids all-vectors all-ranges before f after e);
     beginning = λ n h. shorter R (encode k) n _ _ _ _ h (forward R k permitted lawful);
     left-over = λ b t.
         longer R (encode k ++ (b ∷ t)) (length (encode k)) _ _ _ _ (omega (arith, length-append (encode k) (b ∷ t)))

@@ -5,7 +5,7 @@
 -- to look at the first `longest + 1` of them. Each count is held against its limit before the fields that it counts are
 -- read, so no field that the reading comes to ends after `longest`, and none ends after an m above it.
 use Prim.Native.Nat.{ℕ, zero, suc, _+_, _*_, _-_, _≤_, _<_}
-use mathlib.Core.Path.{_≡_, refl, sym, ap, _∙_}
+use mathlib.Core.Path.{_≡_, refl, ap}
 use mathlib.Core.Bool.{Bool, true, false}
 use mathlib.Core.Logic.{inl, inr}
 use mathlib.Core.List.{List, [], _∷_}
@@ -22,7 +22,7 @@ use Rattle.layout.specs.declared.Got.the-variants.{Num, Fault}
 use Rattle.layout.specs.declared.Checked.{Checked}
 use Rattle.layout.specs.declared.Checked.the-variants.{Accepted, Refused}
 use Rattle.layout.specs.Permitted.{longest, mostVectors, base}
-use Rattle.layout.specs.Knowledge.{Limits, Rules, largestTick, basic, Field, opening, beforeVectors, beforeElements, beforeRanges, closing}
+use Rattle.layout.specs.Knowledge.{Rules, largestTick, basic, Field, opening, beforeVectors, beforeElements, beforeRanges, closing}
 use Rattle.layout.specs.Read.{_▷_, repeat, number, same, fields, limit, empty, among, judged, replicaId, tick, element, firstVector, vector, index, range}
 use Rattle.layout.specs.Parse.{replicaMap, vectorCount, vectorList, rangeList, _▶_, ended, checked}
 

@@ -1,9 +1,9 @@
--- Document 01's table "Where a fault is caught", the lines of a knowledge, for all bytes whose first faulty field is the
--- one in question: the statements, which the laws `numbers-exact` and `numbers-lawful` prove. Each line of `Numbers` is
--- a field of the layout: the bytes before it are those of a lawful knowledge's beginning, with the counts that stand
--- there. Where the bytes end inside the field, whatever its first bytes are, the number is 1; for each bad value and
--- anything after it, it is the field's own number. `NumbersOf` says the same of the fields of a lawful knowledge, and
--- adds that each proper beginning of its bytes gets 1, and its bytes with more after them 10.
+-- Document 01's table "Where a fault is caught", the lines of a knowledge, for all bytes: the statements. The laws are
+-- `table-exact`, that the check refuses bytes with a number exactly where they have that fault (`Faulty`); `numbers-exact`,
+-- that each line's number is given; and `numbers-lawful`, the same for the fields and ends of a lawful knowledge (`NumbersOf`).
+-- Each `Line` is a field of the layout. The bytes before it are those of a lawful knowledge's beginning, with the counts
+-- that stand there. Where the bytes end inside the field, whatever its first bytes are, the number is 1; for each bad value
+-- and anything after it, it is the field's own number.
 use Prim.Native.Nat.{ℕ, suc, _+_, _-_, _^_, _<_, _≤_}
 use mathlib.Core.Path.{_≡_}
 use mathlib.Core.Logic.{_⊎_}
@@ -12,7 +12,7 @@ use lib.ListN.{length, getD, take}
 use Rattle.codec.specs.Number.{put}
 use Rattle.layout.specs.declared.Checked.the-variants.{Refused}
 use Rattle.layout.specs.Knowledge.{Rules, largestTick, Element, Range, Knowledge, Field, opening, beforeVectors, beforeElements, beforeRanges, closing}
-use Rattle.layout.specs.Knowledge.{putFields, putIds, putElements, putVectors, putRanges, encode, All, Distinct, Rising, keys, bounds}
+use Rattle.layout.specs.Knowledge.{putFields, putIds, putElements, putVectors, putRanges, encode, All, Distinct, Rising, keys, bounds, Lawful}
 use Rattle.layout.specs.Parse.{checked}
 use Rattle.layout.proofs.Parts.{LawfulId, LawfulElement, LawfulVector, LawfulRange}
 
@@ -76,61 +76,74 @@ Seen xs x = (j : ℕ) × (j < length xs) × (x ≡ getD xs j 0)
 abbrev pub NotAbove : List Range → ℕ → Type 0
 NotAbove xs x = (1 ≤ length xs) × (x ≤ getD (bounds xs) (length xs - 1) 0)
 
-pub record Numbers (R : Rules) : Type 0 where
+-- the table: a field of n bytes, what stands before it, its bad values and their number
+pub data Line (R : Rules) : (n : ℕ) (p : List ℕ → List ℕ) (Bad : ℕ → Type 0) (j : ℕ) → Type 1 where
   -- 2, a fixed field of the opening differs; 3, r beyond its limit
-  pub fixed-opening : (before : List Field) (f : Field) (after : List Field) → Parted opening before f after →
-      Refuses R (f .size) (putFields before) (Differs f) 2
-  pub count-r : Refuses R 4 (putFields opening) (λ x. R .limits .replicas < x) 3
+  fixed-opening : (before : List Field) (f : Field) (after : List Field) → Parted opening before f after →
+      Line R (f .size) (putFields before) (Differs f) 2
+  count-r : Line R 4 (putFields opening) (λ x. R .limits .replicas < x) 3
   -- 5, a replica id seen before; and the number that the rules themselves give a new one
-  pub replica-id : (r : ℕ) (ids : List ℕ) → FirstIds R r ids → length ids < r → Refuses R 16 (mapBytes r ids) (Seen ids) 5
-  pub replica-judged : (r : ℕ) (ids : List ℕ) → FirstIds R r ids → length ids < r → (n : ℕ) →
-      Refuses R 16 (mapBytes r ids) (λ x. (Seen ids x → ⊥) × (R .judge x ≡ suc n)) (suc n)
+  replica-id : (r : ℕ) (ids : List ℕ) → FirstIds R r ids → length ids < r → Line R 16 (mapBytes r ids) (Seen ids) 5
+  replica-judged : (r : ℕ) (ids : List ℕ) → FirstIds R r ids → length ids < r → (n : ℕ) →
+      Line R 16 (mapBytes r ids) (λ x. (Seen ids x → ⊥) × (R .judge x ≡ suc n)) (suc n)
   -- 2, a fixed field before the vectors differs; 3, v is 0 or beyond its limit
-  pub fixed-vectors : (ids : List ℕ) → FirstIds R (length ids) ids →
+  fixed-vectors : (ids : List ℕ) → FirstIds R (length ids) ids →
       (before : List Field) (f : Field) (after : List Field) → Parted beforeVectors before f after →
-      Refuses R (f .size) (λ t. mapBytes (length ids) ids (putFields before t)) (Differs f) 2
-  pub count-v : (ids : List ℕ) → FirstIds R (length ids) ids →
-      Refuses R 4 (λ t. mapBytes (length ids) ids (putFields beforeVectors t)) (λ x. (x < 1) ⊎ (R .limits .ranges + 1 < x)) 3
+      Line R (f .size) (λ t. mapBytes (length ids) ids (putFields before t)) (Differs f) 2
+  count-v : (ids : List ℕ) → FirstIds R (length ids) ids →
+      Line R 4 (λ t. mapBytes (length ids) ids (putFields beforeVectors t)) (λ x. (x < 1) ⊎ (R .limits .ranges + 1 < x)) 3
   -- of each clock vector: 2, its fixed field differs; 4, the first has an element, also where that is beyond 3's limit;
   -- 3, another has more than r
-  pub fixed-vector : (ids : List ℕ) (v : ℕ) (vs : List (List Element)) → FirstIds R (length ids) ids →
+  fixed-vector : (ids : List ℕ) (v : ℕ) (vs : List (List Element)) → FirstIds R (length ids) ids →
       FirstVectors R (length ids) v vs → length vs < v →
       (before : List Field) (f : Field) (after : List Field) → Parted beforeElements before f after →
-      Refuses R (f .size) (λ t. vectorBytes ids v vs (putFields before t)) (Differs f) 2
-  pub count-first : (ids : List ℕ) (v : ℕ) → FirstIds R (length ids) ids → FirstVectors R (length ids) v [] →
-      Refuses R 4 (λ t. vectorBytes ids v [] (putFields beforeElements t)) (λ x. x ≡ 0 → ⊥) 4
-  pub count-elements : (ids : List ℕ) (v : ℕ) (vs : List (List Element)) → FirstIds R (length ids) ids →
+      Line R (f .size) (λ t. vectorBytes ids v vs (putFields before t)) (Differs f) 2
+  count-first : (ids : List ℕ) (v : ℕ) → FirstIds R (length ids) ids → FirstVectors R (length ids) v [] →
+      Line R 4 (λ t. vectorBytes ids v [] (putFields beforeElements t)) (λ x. x ≡ 0 → ⊥) 4
+  count-elements : (ids : List ℕ) (v : ℕ) (vs : List (List Element)) → FirstIds R (length ids) ids →
       FirstVectors R (length ids) v vs → 1 ≤ length vs → length vs < v →
-      Refuses R 4 (λ t. vectorBytes ids v vs (putFields beforeElements t)) (λ x. length ids < x) 3
+      Line R 4 (λ t. vectorBytes ids v vs (putFields beforeElements t)) (λ x. length ids < x) 3
   -- of each element of a vector of n: 6, its key is at or above r, or seen before in this vector; 7, its tick is above the largest
-  pub key : (ids : List ℕ) (v : ℕ) (vs : List (List Element)) (n : ℕ) (es : List Element) → FirstIds R (length ids) ids →
+  key : (ids : List ℕ) (v : ℕ) (vs : List (List Element)) (n : ℕ) (es : List Element) → FirstIds R (length ids) ids →
       FirstVectors R (length ids) v vs → 1 ≤ length vs → length vs < v → FirstElements (length ids) n es → length es < n →
-      Refuses R 4 (λ t. vectorBytes ids v vs (elementBytes n es t)) (λ x. (length ids ≤ x) ⊎ Seen (keys es) x) 6
-  pub tick : (ids : List ℕ) (v : ℕ) (vs : List (List Element)) (n : ℕ) (es : List Element) (key : ℕ) → FirstIds R (length ids) ids →
+      Line R 4 (λ t. vectorBytes ids v vs (elementBytes n es t)) (λ x. (length ids ≤ x) ⊎ Seen (keys es) x) 6
+  tick : (ids : List ℕ) (v : ℕ) (vs : List (List Element)) (n : ℕ) (es : List Element) (key : ℕ) → FirstIds R (length ids) ids →
       FirstVectors R (length ids) v vs → 1 ≤ length vs → length vs < v → FirstElements (length ids) n es → length es < n →
       key < length ids → (Seen (keys es) key → ⊥) →
-      Refuses R 8 (λ t. vectorBytes ids v vs (elementBytes n es (put 4 key t))) (λ x. largestTick < x) 7
+      Line R 8 (λ t. vectorBytes ids v vs (elementBytes n es (put 4 key t))) (λ x. largestTick < x) 7
   -- 2, a fixed field before the ranges differs; 3, g is 0 or beyond its limit
-  pub fixed-ranges : (ids : List ℕ) (vs : List (List Element)) → FirstIds R (length ids) ids →
+  fixed-ranges : (ids : List ℕ) (vs : List (List Element)) → FirstIds R (length ids) ids →
       FirstVectors R (length ids) (length vs) vs →
       (before : List Field) (f : Field) (after : List Field) → Parted beforeRanges before f after →
-      Refuses R (f .size) (λ t. vectorBytes ids (length vs) vs (putFields before t)) (Differs f) 2
-  pub count-g : (ids : List ℕ) (vs : List (List Element)) → FirstIds R (length ids) ids →
+      Line R (f .size) (λ t. vectorBytes ids (length vs) vs (putFields before t)) (Differs f) 2
+  count-g : (ids : List ℕ) (vs : List (List Element)) → FirstIds R (length ids) ids →
       FirstVectors R (length ids) (length vs) vs →
-      Refuses R 4 (λ t. vectorBytes ids (length vs) vs (putFields beforeRanges t)) (λ x. (x < 1) ⊎ (R .limits .ranges < x)) 3
+      Line R 4 (λ t. vectorBytes ids (length vs) vs (putFields beforeRanges t)) (λ x. (x < 1) ⊎ (R .limits .ranges < x)) 3
   -- of each range: 8, its bound is not above the one before; 9, its index is at or above v
-  pub bound : (ids : List ℕ) (vs : List (List Element)) (g : ℕ) (xs : List Range) → FirstIds R (length ids) ids →
+  bound : (ids : List ℕ) (vs : List (List Element)) (g : ℕ) (xs : List Range) → FirstIds R (length ids) ids →
       FirstVectors R (length ids) (length vs) vs → FirstRanges R (length vs) g xs → length xs < g →
-      Refuses R 24 (rangeBytes ids vs g xs) (NotAbove xs) 8
-  pub index : (ids : List ℕ) (vs : List (List Element)) (g : ℕ) (xs : List Range) (bound : ℕ) → FirstIds R (length ids) ids →
+      Line R 24 (rangeBytes ids vs g xs) (NotAbove xs) 8
+  index : (ids : List ℕ) (vs : List (List Element)) (g : ℕ) (xs : List Range) (bound : ℕ) → FirstIds R (length ids) ids →
       FirstVectors R (length ids) (length vs) vs → FirstRanges R (length vs) g xs → length xs < g →
       bound < 256 ^ 24 → (NotAbove xs bound → ⊥) →
-      Refuses R 4 (λ t. rangeBytes ids vs g xs (put 24 bound t)) (λ x. length vs ≤ x) 9
+      Line R 4 (λ t. rangeBytes ids vs g xs (put 24 bound t)) (λ x. length vs ≤ x) 9
   -- 2, a fixed field after the ranges differs
-  pub fixed-closing : (ids : List ℕ) (vs : List (List Element)) (xs : List Range) → FirstIds R (length ids) ids →
+  fixed-closing : (ids : List ℕ) (vs : List (List Element)) (xs : List Range) → FirstIds R (length ids) ids →
       FirstVectors R (length ids) (length vs) vs → FirstRanges R (length vs) (length xs) xs →
       (before : List Field) (f : Field) (after : List Field) → Parted closing before f after →
-      Refuses R (f .size) (λ t. rangeBytes ids vs (length xs) xs (putFields before t)) (Differs f) 2
+      Line R (f .size) (λ t. rangeBytes ids vs (length xs) xs (putFields before t)) (Differs f) 2
+
+-- the bytes u, from a field of n bytes on, have the fault j: they end inside it, or it has a bad value, whatever follows
+pub data Hit (n : ℕ) (Bad : ℕ → Type 0) (k j : ℕ) (u : List ℕ) : Type 0 where
+  cut-short : j ≡ 1 → length u < n → Hit n Bad k j u
+  bad-value : (x : ℕ) (t : List ℕ) → j ≡ k → u ≡ put n x t → x < 256 ^ n → Bad x → Hit n Bad k j u
+
+-- the bytes s have the fault j: their first faulty field is one of the table, or they are those of a lawful knowledge
+-- and at least one byte more
+pub data Faulty (R : Rules) (s : List ℕ) (j : ℕ) : Type 1 where
+  at-field : {n : ℕ} {p : List ℕ → List ℕ} {Bad : ℕ → Type 0} {k : ℕ} → Line R n p Bad k → (u : List ℕ) → s ≡ p u → Hit n Bad k j u →
+      Faulty R s j
+  at-end : (k : Knowledge) → Lawful R k → (b : ℕ) (t : List ℕ) → s ≡ encode k ++ (b ∷ t) → j ≡ 10 → Faulty R s j
 
 -- the same of a lawful knowledge k: each field of its bytes, with the parts of k that stand before it
 pub record NumbersOf (R : Rules) (k : Knowledge) : Type 0 where
@@ -152,10 +165,12 @@ pub record NumbersOf (R : Rules) (k : Knowledge) : Type 0 where
   pub fixed-vector : (vs : List (List Element)) (es : List Element) (more : List (List Element)) → k .vectors ≡ vs ++ (es ∷ more) →
       (before : List Field) (f : Field) (after : List Field) → Parted beforeElements before f after →
       Refuses R (f .size) (λ t. vectorBytes (k .replicas) (length (k .vectors)) vs (putFields before t)) (Differs f) 2
-  pub count-first : Refuses R 4 (λ t. vectorBytes (k .replicas) (length (k .vectors)) [] (putFields beforeElements t)) (λ x. x ≡ 0 → ⊥) 4
+  pub count-first : Refuses R 4 (λ t. vectorBytes (k .replicas) (length (k .vectors)) [] (putFields beforeElements t))
+      (λ x. x ≡ 0 → ⊥) 4
   pub count-elements : (vs : List (List Element)) (es : List Element) (more : List (List Element)) → k .vectors ≡ vs ++ (es ∷ more) →
       1 ≤ length vs →
-      Refuses R 4 (λ t. vectorBytes (k .replicas) (length (k .vectors)) vs (putFields beforeElements t)) (λ x. length (k .replicas) < x) 3
+      Refuses R 4 (λ t. vectorBytes (k .replicas) (length (k .vectors)) vs (putFields beforeElements t)) (λ x. length
+      (k .replicas) < x) 3
   -- 6 and 7, of each element of each vector
   pub key : (vs : List (List Element)) (es : List Element) (more : List (List Element)) → k .vectors ≡ vs ++ (es ∷ more) →
       (xs : List Element) (x : Element) (after : List Element) → es ≡ xs ++ (x ∷ after) →
@@ -174,10 +189,12 @@ pub record NumbersOf (R : Rules) (k : Knowledge) : Type 0 where
   pub bound : (xs : List Range) (x : Range) (more : List Range) → k .ranges ≡ xs ++ (x ∷ more) →
       Refuses R 24 (rangeBytes (k .replicas) (k .vectors) (length (k .ranges)) xs) (NotAbove xs) 8
   pub index : (xs : List Range) (x : Range) (more : List Range) → k .ranges ≡ xs ++ (x ∷ more) →
-      Refuses R 4 (λ t. rangeBytes (k .replicas) (k .vectors) (length (k .ranges)) xs (put 24 (x .bound) t)) (λ y. length (k .vectors) ≤ y) 9
+      Refuses R 4 (λ t. rangeBytes (k .replicas) (k .vectors) (length (k .ranges)) xs (put 24 (x .bound) t)) (λ y. length
+      (k .vectors) ≤ y) 9
   -- 2
   pub fixed-closing : (before : List Field) (f : Field) (after : List Field) → Parted closing before f after →
-      Refuses R (f .size) (λ t. rangeBytes (k .replicas) (k .vectors) (length (k .ranges)) (k .ranges) (putFields before t)) (Differs f) 2
+      Refuses R (f .size) (λ t. rangeBytes (k .replicas) (k .vectors) (length (k .ranges)) (k .ranges) (putFields before t))
+      (Differs f) 2
   -- 1, each proper beginning; 10, at least one byte more
   pub beginning : (n : ℕ) → n < length (encode k) → checked R (take n (encode k)) ≡ Refused 1
   pub left-over : (b : ℕ) (t : List ℕ) → checked R (encode k ++ (b ∷ t)) ≡ Refused 10
