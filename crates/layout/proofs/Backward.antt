@@ -49,7 +49,7 @@ ended-inv true a r v e g h = (refl, h)
 ended-inv false a r v e g h = let z : _≡_ {A = ℕ} 0 1 = cc in absurd (omega arith)
 
 -- the ids, and the ranges, each with the fields and the count before them
-record IdPart (R : Rules) (s : List ℕ) (r b : ℕ) : Type 0 where
+pub record IdPart (R : Rules) (s : List ℕ) (r b : ℕ) : Type 0 where
   pub values : List ℕ
   pub count : length values ≡ r
   pub high : r ≤ R .limits .replicas
@@ -57,7 +57,7 @@ record IdPart (R : Rules) (s : List ℕ) (r b : ℕ) : Type 0 where
   pub are : Ids R s start 0 start values r b
   pub bytes : s ≡ putFields opening (put 4 r (putIds values (drop b s)))
 
-record RangePart (R : Rules) (s : List ℕ) (v at g b : ℕ) : Type 0 where
+pub record RangePart (R : Rules) (s : List ℕ) (v at g b : ℕ) : Type 0 where
   pub values : List Range
   pub count : length values ≡ g
   pub some : 1 ≤ g
@@ -68,7 +68,7 @@ record RangePart (R : Rules) (s : List ℕ) (v at g b : ℕ) : Type 0 where
   pub bytes : drop at s ≡ putFields beforeRanges (put 4 g (putRanges values (drop b s)))
 
 module _ (R : Rules) (s : List ℕ) (bs : Bytes s) where
-  id-part : (r b : ℕ) → replicaMap R s ≡ Num r b → IdPart R s r b
+  pub id-part : (r b : ℕ) → replicaMap R s ≡ Num r b → IdPart R s r b
   unfolding replicaMap
   id-part r b h =
       then-inv (fields s opening 0 0 ▷ number s 4 ▷ limit 0 (R .limits .replicas))
@@ -87,7 +87,7 @@ module _ (R : Rules) (s : List ℕ) (bs : Bytes s) where
             ∙ ap (λ t. putFields opening (put 4 r t)) (all .are .bytes);
       }
 
-  range-part : (v at g b : ℕ) → rangeList R s v at ≡ Num g b → RangePart R s v at g b
+  pub range-part : (v at g b : ℕ) → rangeList R s v at ≡ Num g b → RangePart R s v at g b
   unfolding rangeList
   range-part v at g b h =
       then-inv (fields s beforeRanges 0 at ▷ number s 4 ▷ limit 1 (R .limits .ranges))
@@ -110,7 +110,7 @@ module _ (R : Rules) (s : List ℕ) (bs : Bytes s) where
             ∙ ap (λ t. putFields beforeRanges (put 4 g t)) (all .are .bytes);
       }
 
-  vector-count : (at v b : ℕ) → vectorCount R s at ≡ Num v b → Counted s beforeVectors 1 (mostVectors (R .limits)) at v b
+  pub vector-count : (at v b : ℕ) → vectorCount R s at ≡ Num v b → Counted s beforeVectors 1 (mostVectors (R .limits)) at v b
   unfolding vectorCount
   vector-count at v b h = count-inv s bs beforeVectors 1 (mostVectors (R .limits)) 0 at v b h
 

@@ -20,6 +20,7 @@ use Rattle.layout.proofs.Parts.{LawfulId, LawfulElement, LawfulVector, 
 use Rattle.layout.specs.Answer.{elements}
 use Rattle.layout.specs.Read.{_▷_, repeat, number, fields, limit, empty, among, judged, replicaId, tick, element, firstVector, vector, index, range}
 use Rattle.layout.specs.Parse.{vectorList}
+use Rattle.layout.proofs.ForwardRead.{lowest}
 use Rattle.layout.proofs.BackwardSteps.{fault-num, then-inv, test-inv, not-inv}
 use Rattle.layout.proofs.BackwardSteps.{Took, number-inv, fields-inv, count-inv}
 
@@ -112,6 +113,7 @@ pub record Ranges (s : List ℕ) (v low at : ℕ) (l : List Range) (z b : ℕ) :
   pub bytes : drop at s ≡ putRanges l (drop b s)
   pub lawful : All (LawfulRange v) l
   pub rising : Rising low (bounds l)
+  pub last : z ≡ lowest low l
 
 judged-inv : (n k at x b : ℕ) → judged n k at ≡ Num x b → (n ≡ 0) × ((x ≡ k) × (b ≡ at))
 unfolding judged
@@ -201,7 +203,7 @@ module _ (s : List ℕ) (bs : Bytes s) (r : ℕ) where
             },
       )
 
-  elements-inv : (n start z b : ℕ) → repeat (element s r start) n 0 start ≡ Num z b
+  pub elements-inv : (n start z b : ℕ) → repeat (element s r start) n 0 start ≡ Num z b
       → Looped (λ k at l z b. Elements s r start k at l z b) n 0 start z b
   unfolding putElements keys
   elements-inv n start z b e =
@@ -290,9 +292,10 @@ module _ (s : List ℕ) (bs : Bytes s) (v : ℕ) where
           bytes = took .bytes ∙ ap (put 24 bound) (second .bytes ∙ ap (put 4 i) (rest .bytes));
           lawful = (record { size = took .small; index = below }, rest .lawful);
           rising = (leb-true low bound t, rw p at (rest .rising));
+          last = rest .last ∙ ap (λ m. lowest m l) p;
         },
       )
 
   pub ranges-inv : (n at z b : ℕ) → repeat (range s v) n 0 at ≡ Num z b → Looped (Ranges s v) n 0 at z b
   unfolding putRanges bounds
-  ranges-inv n at z b e = repeat-inv (range s v) (Ranges s v) (λ x at. record { bytes = refl; lawful = tt; rising = tt }) range-inv n 0 at z b e
+  ranges-inv n at z b e = repeat-inv (range s v) (Ranges s v) (λ x at. record { bytes = refl; lawful = tt; rising = tt; last = refl }) range-inv n 0 at z b e

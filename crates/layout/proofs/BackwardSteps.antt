@@ -41,6 +41,7 @@ not-inv false g n x b C e k = k refl e
 pub record Took (s : List ℕ) (n at x b : ℕ) : Type 0 where
   pub is : x ≡ beAt s n at
   pub end : b ≡ at + n
+  pub inside : b ≤ length s
   pub small : x < 256 ^ n
   pub bytes : drop at s ≡ put n x (drop b s)
 
@@ -48,6 +49,7 @@ pub record Took (s : List ℕ) (n at x b : ℕ) : Type 0 where
 pub record Counted (s : List ℕ) (fs : List Field) (lo hi at n b : ℕ) : Type 0 where
   pub low : lo ≤ n
   pub high : n ≤ hi
+  pub inside : b ≤ length s
   pub bytes : drop at s ≡ putFields fs (put 4 n (drop b s))
 
 module _ (s : List ℕ) (bs : Bytes s) where
@@ -59,6 +61,7 @@ module _ (s : List ℕ) (bs : Bytes s) where
       record {
         is = i;
         end = p;
+        inside = rw p (leb-true _ _ t);
         small = rw i (be-below s n at bs);
         bytes = rw (i, p) (put-back s n at bs (leb-true _ _ t));
       }
@@ -90,5 +93,6 @@ module _ (s : List ℕ) (bs : Bytes s) where
       record {
         low = rw (← p) (leb-true lo z t);
         high = rw (← p) (leb-true z hi t′);
+        inside = rw (← q) (number-inv 4 z′ c′ z c v′ .inside);
         bytes = rw (← p, ← q) (fields-inv fs y at z′ c′ u′ ∙ ap (putFields fs) (number-inv 4 z′ c′ z c v′ .bytes));
       }

@@ -15,7 +15,7 @@ use Rattle.layout.specs.Knowledge.{Rules, Element, Range, Knowledge, Fie
 use Rattle.layout.proofs.Parts.{LawfulId, LawfulVector, LawfulRange, Parts, parts}
 use Rattle.layout.specs.Permitted.{Permitted, mostVectors, mostCount}
 use Rattle.layout.specs.Answer.{elements}
-use Rattle.layout.specs.Read.{_▷_, fields}
+use Rattle.layout.specs.Read.{_▷_, repeat, fields, replicaId, range}
 use Rattle.layout.specs.Parse.{_▶_, replicaMap, vectorCount, vectorList, rangeList, ended, checked}
 use Rattle.layout.specs.Decode.{idsAt, vectorsAt, afterVectors, rangesAt, decode}
 use Rattle.layout.proofs.Chain.{Stands, stands-whole, stands-length, moved, over, reads, number-reads, limit-holds}
@@ -29,39 +29,45 @@ map-count : (s : List ℕ) (ids t : List ℕ) → Stands s 0 (putFields opening 
 unfolding opening
 map-count s ids t h = fields-over s 0 opening (put 4 (length ids) (putIds ids t)) h
 
-map-start : (s : List ℕ) (ids t : List ℕ) → Stands s 0 (putFields opening (put 4 (length ids) (putIds ids t))) →
+pub map-start : (s : List ℕ) (ids t : List ℕ) → Stands s 0 (putFields opening (put 4 (length ids) (putIds ids t))) →
     Stands s 27 (putIds ids t)
 map-start s ids t h = over s 23 4 (length ids) (putIds ids t) (map-count s ids t h)
 
-map-over : (s : List ℕ) (ids t : List ℕ) → Stands s 0 (putFields opening (put 4 (length ids) (putIds ids t))) →
+pub map-over : (s : List ℕ) (ids t : List ℕ) → Stands s 0 (putFields opening (put 4 (length ids) (putIds ids t))) →
     Stands s (27 + 16 * length ids) t
 map-over s ids t h = ids-over s 27 ids t (map-start s ids t h)
 
-map-read : (R : Rules) (s : List ℕ) (ids t : List ℕ) → R .limits .replicas ≤ mostCount →
+-- a count r within its limit stands there: then the ids are read, one after the other
+pub map-begun : (R : Rules) (s : List ℕ) (r : ℕ) (t : List ℕ) → R .limits .replicas ≤ mostCount →
+    Stands s 0 (putFields opening (put 4 r t)) → r ≤ R .limits .replicas → replicaMap R s ≡ repeat (replicaId R s 27) r 0 27
+unfolding replicaMap opening
+map-begun R s r t m h c =
+    rw (
+      fields-read s 0 0 opening (put 4 r t) h opening-fits,
+      number-reads s 23 4 r 16 t (fields-over s 0 opening (put 4 r t) h) (omega arith),
+      limit-holds 0 (R .limits .replicas) r 27 (omega arith) c,
+    )
+
+pub map-read : (R : Rules) (s : List ℕ) (ids t : List ℕ) → R .limits .replicas ≤ mostCount →
     Stands s 0 (putFields opening (put 4 (length ids) (putIds ids t))) → length ids ≤ R .limits .replicas →
     All (LawfulId R) ids → Distinct ids → replicaMap R s ≡ Num (length ids) (27 + 16 * length ids)
-unfolding replicaMap opening
 map-read R s ids t m h c l u =
-    rw (
-      fields-read s 0 0 opening (put 4 (length ids) (putIds ids t)) h opening-fits,
-      number-reads s 23 4 (length ids) 16 (putIds ids t) (map-count s ids t h) (omega arith),
-      limit-holds 0 (R .limits .replicas) (length ids) 27 (omega arith) c,
-      ids-read R s 27 0 27 ids t (omega arith) (map-start s ids t h) l u (fresh-all s 16 16 27 ids),
-    )
-    (num (0 + length ids) (length ids) (27 + 16 * length ids) (27 + 16 * length ids) (omega arith) refl)
+    map-begun R s (length ids) (putIds ids t) m h c ∙
+    ids-read R s 27 0 27 ids t (omega arith) (map-start s ids t h) l u (fresh-all s 16 16 27 ids) ∙
+    num (0 + length ids) (length ids) (27 + 16 * length ids) (27 + 16 * length ids) (omega arith) refl
 
 -- the fields up to the count v
-vectors-count : (s : List ℕ) (at v : ℕ) (t : List ℕ) → Stands s at (putFields beforeVectors (put 4 v t)) →
+pub vectors-count : (s : List ℕ) (at v : ℕ) (t : List ℕ) → Stands s at (putFields beforeVectors (put 4 v t)) →
     Stands s (at + 17) (put 4 v t)
 unfolding beforeVectors
 vectors-count s at v t h = fields-over s at beforeVectors (put 4 v t) h
 
-vectors-start : (s : List ℕ) (at v : ℕ) (t : List ℕ) → Stands s at (putFields beforeVectors (put 4 v t)) →
+pub vectors-start : (s : List ℕ) (at v : ℕ) (t : List ℕ) → Stands s at (putFields beforeVectors (put 4 v t)) →
     Stands s (at + 21) t
 vectors-start s at v t h =
     moved s (at + 17 + 4) (at + 21) t (omega arith) (over s (at + 17) 4 v t (vectors-count s at v t h))
 
-count-read : (R : Rules) (s : List ℕ) (at v : ℕ) (t : List ℕ) → R .limits .ranges ≤ mostCount →
+pub count-read : (R : Rules) (s : List ℕ) (at v : ℕ) (t : List ℕ) → R .limits .ranges ≤ mostCount →
     Stands s at (putFields beforeVectors (put 4 v t)) → 1 ≤ v → v ≤ mostVectors (R .limits) →
     vectorCount R s at ≡ Num v (at + 21)
 unfolding vectorCount beforeVectors
@@ -90,32 +96,41 @@ first-list s r at vs t m h l =
     (num (0 + elements vs) (0 + elements vs) (at + 4 + 4 + 8 * length vs + 12 * elements vs)
     (at + 8 * suc (length vs) + 12 * (0 + elements vs)) refl (omega arith))
 
-list-read : (s : List ℕ) (r at : ℕ) (vs : List (List Element)) (t : List ℕ) → r < 4294967296 →
+pub list-read : (s : List ℕ) (r at : ℕ) (vs : List (List Element)) (t : List ℕ) → r < 4294967296 →
     Stands s at (putVectors vs t) → 1 ≤ length vs → getD vs 0 [] ≡ [] → All (LawfulVector r) vs →
     vectorList s r (length vs) at ≡ Num (elements vs) (at + 8 * length vs + 12 * elements vs)
 list-read s r at [] t m h n f l = absurd (omega arith)
 list-read s r at (es ∷ vs) t m h n f l = rw f (first-list s r at vs t m (rw f at h) (l .1))
 
 -- the ranges
-ranges-count : (s : List ℕ) (at g : ℕ) (t : List ℕ) → Stands s at (putFields beforeRanges (put 4 g t)) →
+pub ranges-count : (s : List ℕ) (at g : ℕ) (t : List ℕ) → Stands s at (putFields beforeRanges (put 4 g t)) →
     Stands s (at + 12) (put 4 g t)
 unfolding beforeRanges
 ranges-count s at g t h = fields-over s at beforeRanges (put 4 g t) h
 
-ranges-start : (s : List ℕ) (at g : ℕ) (t : List ℕ) → Stands s at (putFields beforeRanges (put 4 g t)) → Stands s (at + 16) t
+pub ranges-start : (s : List ℕ) (at g : ℕ) (t : List ℕ) → Stands s at (putFields beforeRanges (put 4 g t)) → Stands s (at + 16) t
 ranges-start s at g t h =
     moved s (at + 12 + 4) (at + 16) t (omega arith) (over s (at + 12) 4 g t (ranges-count s at g t h))
 
-spans-read : (R : Rules) (s : List ℕ) (v at : ℕ) (xs : List Range) (t : List ℕ) → R .limits .ranges ≤ mostCount → v ≤ 4294967296 →
+-- a count g within its limits stands there: then the ranges are read, one after the other
+pub spans-begun : (R : Rules) (s : List ℕ) (v at g : ℕ) (t : List ℕ) → R .limits .ranges ≤ mostCount →
+    Stands s at (putFields beforeRanges (put 4 g t)) → 1 ≤ g → g ≤ R .limits .ranges →
+    rangeList R s v at ≡ (repeat (range s v) g 0 (at + 12 + 4) ▷ λ low next. Num g next)
+unfolding rangeList beforeRanges
+spans-begun R s v at g t m h n c =
+    rw (
+      fields-read s 0 at beforeRanges (put 4 g t) h beforeRanges-fits,
+      number-reads s (at + 12) 4 g 22 t (ranges-count s at g t h) (omega arith),
+      limit-holds 1 (R .limits .ranges) g (at + 12 + 4) n c,
+    )
+
+pub spans-read : (R : Rules) (s : List ℕ) (v at : ℕ) (xs : List Range) (t : List ℕ) → R .limits .ranges ≤ mostCount → v ≤ 4294967296 →
     Stands s at (putFields beforeRanges (put 4 (length xs) (putRanges xs t))) → 1 ≤ length xs → length xs ≤ R .limits .ranges →
     All (LawfulRange v) xs → Rising 0 (bounds xs) →
     rangeList R s v at ≡ Num (length xs) (at + 16 + 28 * length xs)
-unfolding rangeList beforeRanges
 spans-read R s v at xs t m w h n c l u =
+    spans-begun R s v at (length xs) (putRanges xs t) m h n c ∙
     rw (
-      fields-read s 0 at beforeRanges (put 4 (length xs) (putRanges xs t)) h beforeRanges-fits,
-      number-reads s (at + 12) 4 (length xs) 22 (putRanges xs t) (ranges-count s at (length xs) (putRanges xs t) h) (omega arith),
-      limit-holds 1 (R .limits .ranges) (length xs) (at + 12 + 4) n c,
       ranges-read s v 0 (at + 12 + 4) xs t w (over s (at + 12) 4 (length xs) (putRanges xs t) (ranges-count s at (length xs) (putRanges xs t) h)) l u,
       _▷_,
     )
@@ -126,7 +141,7 @@ end-over : (s : List ℕ) (at : ℕ) → Stands s at (putFields closing []) → 
 unfolding closing
 end-over s at h = omega (arith, stands-length s (at + 13) [] (fields-over s at closing [] h))
 
-end-read : (s : List ℕ) (at : ℕ) (c : Checked) → Stands s at (putFields closing []) → (fields s closing 0 at ▶ ended s c) ≡ c
+pub end-read : (s : List ℕ) (at : ℕ) (c : Checked) → Stands s at (putFields closing []) → (fields s closing 0 at ▶ ended s c) ≡ c
 unfolding closing ended
 end-read s at c h =
     rw (fields-read s 0 at closing [] h closing-fits, eq-eqb (at + 13) (length s) (sym (end-over s at h)), _▶_, ended)

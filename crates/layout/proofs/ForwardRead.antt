@@ -108,21 +108,27 @@ vectors-over s at (es ∷ vs) t h =
     (vectors-over s (at + 4 + 4 + 12 * length es) vs t
     (elements-over s (at + 4 + 4) es (putVectors vs t) (vector-over s at es (putVectors vs t) h)))
 
-count-read : (s : List ℕ) (x at n : ℕ) (t : List ℕ) → Stands s at (putFields beforeElements (put 4 n t)) → n < 4294967296 →
+pub count-read : (s : List ℕ) (x at n : ℕ) (t : List ℕ) → Stands s at (putFields beforeElements (put 4 n t)) → n < 4294967296 →
     (fields s beforeElements x at ▷ number s 4) ≡ Num n (at + 4 + 4)
 unfolding beforeElements
 count-read s x at n t h l =
     rw (fields-read s x at beforeElements (put 4 n t) h beforeElements-fits)
     (number-reads s (at + 4) 4 n 1 t (fields-over s at beforeElements (put 4 n t) h) l)
 
+-- a count n of at most r stands there: then the elements are read, one after the other
+pub vector-begun : (s : List ℕ) (r e at n : ℕ) (t : List ℕ) → r < 4294967296 →
+    Stands s at (putFields beforeElements (put 4 n t)) → n ≤ r →
+    vector s r e at ≡ (repeat (element s r (at + 4 + 4)) n 0 (at + 4 + 4) ▷ λ m next. Num (e + m) next)
+unfolding vector
+vector-begun s r e at n t m h c =
+    rw (count-read s e at n t h (omega arith), limit-holds 0 r n (at + 4 + 4) (omega arith) c)
+
 pub vector-read : (s : List ℕ) (r e at : ℕ) (es : List Element) (t : List ℕ) → r < 4294967296 →
     Stands s at (putFields beforeElements (put 4 (length es) (putElements es t))) → LawfulVector r es →
     vector s r e at ≡ Num (e + length es) (at + 4 + 4 + 12 * length es)
-unfolding vector
 vector-read s r e at es t m h l =
+    vector-begun s r e at (length es) (putElements es t) m h (l .count) ∙
     rw (
-      count-read s e at (length es) (putElements es t) h (omega arith),
-      limit-holds 0 r (length es) (at + 4 + 4) (omega arith) (l .count),
       elements-read s r (at + 4 + 4) 0 (at + 4 + 4) es t (omega arith) (omega arith) (vector-over s at es t h) (l .elements) (l .distinct)
           (fresh-all s 4 12 (at + 4 + 4) (keys es)),
       _▷_,

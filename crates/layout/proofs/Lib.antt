@@ -13,3 +13,12 @@ pub mod Prefix
 pub mod Lengths
 pub mod Exact
 pub mod Faults
+pub mod Table
+pub mod FaultSteps
+pub mod FaultPlaces
+pub mod Numbers
+pub mod NumbersLawful
+pub mod Appended
+pub mod FoundSteps
+pub mod TableExact
+pub mod Answers
