@@ -14,7 +14,6 @@ use lib.ListN.{length}
 use Rattle.layout.specs.Knowledge.{Rules, largestTick, Knowledge, All, Rising}
 use Rattle.layout.specs.Permitted.{Permitted}
 use Rattle.ticks.specs.Meaning.{highest, known, contains}
-use Rattle.ticks.proofs.Unique.{normal-sound}
 use Rattle.ticks.proofs.Algebra.{contains-exact}
 use Rattle.ticks.proofs.Largest.{alike-exact}
 use Rattle.ticks.proofs.LawfulResults.{top-below, below-top}
@@ -101,7 +100,7 @@ module _ (R : Rules) (permitted : Permitted (R .limits)) (s : List ℕ) (vs : Li
         count = f .count;
         normal = form-normal R (f .st .knowledge) (f .form);
         alike =
-            alike-exact (f .st .knowledge) (f .st .own) (normal-sound (f .st .knowledge) (f .form .normal)) .1
+            alike-exact (f .st .knowledge) (f .st .own) (f .form .normal .formed .sound) .1
             (record { known = λ i j a b. f .ticks i (f .st .own) a ∙ (rw (f .own) (alike i j) ∙ sym (f .ticks j (f .st .own) b)) });
         records =
             valid-recs (versionsIn (f .st .knowledge)) 0 (f .st .records) .1 (

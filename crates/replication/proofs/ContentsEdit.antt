@@ -17,7 +17,6 @@ use Rattle.layout.specs.Permitted.{Permitted}
 use Rattle.ticks.specs.Meaning.{highest, known}
 use Rattle.ticks.specs.Operations.{raise, largest}
 use Rattle.ticks.specs.Calls.{idOf}
-use Rattle.ticks.proofs.Unique.{normal-sound}
 use Rattle.ticks.proofs.Operations.{known-raise-own, known-raise-other, normal-raise}
 use Rattle.ticks.proofs.Largest.{largest-bounds, largest-attained}
 use Rattle.ticks.proofs.LawfulResults.{below-top, lawful-raise}
@@ -184,7 +183,7 @@ module _ (R : Rules) (permitted : Permitted (R .limits)) (st : Store) (v : Lawfu
   unfolding nextTick
   next-least =
       ⊎-elim (λ e. inl (omega (arith, e))) (λ w. inr (w .0, (w .1 .0, (w .1 .1 .0, omega (arith, w .1 .1 .1)))))
-      (largest-attained (st .knowledge) (normal-sound (st .knowledge) (v .normal)))
+      (largest-attained (st .knowledge) (v .normal .formed .sound))
 
   abbrev next : Rec
   next = changedRec kind item (st .own) (nextTick st) tag (find item (st .records))

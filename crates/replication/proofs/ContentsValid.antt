@@ -17,7 +17,6 @@ use Rattle.layout.proofs.Parts.{all-map}
 use Rattle.ticks.specs.Meaning.{highest, known, contains}
 use Rattle.ticks.specs.Operations.{project}
 use Rattle.ticks.proofs.Equality.{eqKnowledge-sound}
-use Rattle.ticks.proofs.Unique.{normal-sound}
 use Rattle.ticks.proofs.Operations.{normal-test}
 use Rattle.ticks.proofs.Algebra.{contains-yes, contains-more, contains-exact, project-outside}
 use Rattle.ticks.proofs.Largest.{alike-exact}
@@ -144,7 +143,7 @@ module _ (R : Rules) (permitted : Permitted (R .limits)) (st : Store) where
           own = o .1 .0 .own;
           lawful = o .1 .0 .knowledge;
           normal = n;
-          alike = alike-exact (st .knowledge) (st .own) (normal-sound (st .knowledge) n) .0 (v .alike) .known;
+          alike = alike-exact (st .knowledge) (st .own) (n .formed .sound) .0 (v .alike) .known;
           count = v .count;
           rising = rs .0;
           records =
@@ -167,7 +166,7 @@ module _ (R : Rules) (permitted : Permitted (R .limits)) (st : Store) where
       (valid-store (R .limits) st .1 (record {
         count = l .count;
         normal = normal-test (st .knowledge) .1 (l .normal);
-        alike = alike-exact (st .knowledge) (st .own) (normal-sound (st .knowledge) (l .normal)) .1 (record { known = l .alike });
+        alike = alike-exact (st .knowledge) (st .own) (l .normal .formed .sound) .1 (record { known = l .alike });
         records =
             valid-recs (versionsIn (st .knowledge)) 0 (st .records) .1 (
               l .rising,

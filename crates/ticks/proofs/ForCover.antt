@@ -1,18 +1,17 @@
 -- Cover for given replicas is exact: no lacking place is found at the candidate items exactly when the first knowledge
 -- knows at least as much as the second for every item of the span and every given replica, in whatever order they stand.
 use Prim.Native.Nat.{ℕ, _≤_, _<_}
-use mathlib.Core.Path.{_≡_, refl, sym, _∙_, ap, subst}
-use mathlib.Core.Logic.{_⊎_, inl, inr, ⊎-elim, _↔_}
+use mathlib.Core.Path.{_≡_, refl}
+use mathlib.Core.Logic.{inl, inr, ⊎-elim, _↔_}
 use mathlib.Core.Bool.{Bool, true, false}
-use mathlib.Core.List.{List, [], _∷_, _++_}
+use mathlib.Core.List.{List, [], _∷_}
 use native.Mathlib.Omega.{arith}
 use lib.Dec.{ltb}
-use borrow.Author.Tests.{lt-ltb, le-ltb, ltb-true, ltb-false}
-use Rattle.layout.specs.Knowledge.{Knowledge, bounds}
+use borrow.Author.Tests.{ltb-true, ltb-false}
+use Rattle.layout.specs.Knowledge.{Knowledge}
 use Rattle.ticks.specs.Meaning.{known}
-use Rattle.ticks.specs.Table.{sorted, within}
 use Rattle.ticks.specs.Operations.{Place, nowhere, here, lackingAt, orElse, lackingFrom, isNowhere, coversFor}
-use Rattle.ticks.proofs.Lists.{Among, sorted-only, within-only}
+use Rattle.ticks.proofs.Lists.{Among}
 use Rattle.ticks.proofs.Equality.{clash}
 use Rattle.ticks.proofs.Search.{stops, stops-inside, stop-for}
 

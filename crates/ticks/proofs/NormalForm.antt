@@ -8,7 +8,7 @@ use native.Mathlib.Omega.{arith}
 use lib.Dec.{eqb}
 use lib.ListN.{length}
 use Rattle.layout.specs.Knowledge.{All, Distinct, Rising, keys}
-use Rattle.ticks.specs.Meaning.{highest, place, tickAt, vectorAt, known, NormalOver}
+use Rattle.ticks.specs.Meaning.{highest, place, tickAt, vectorAt, known, Formed}
 use Rattle.ticks.specs.Table.{Row, Table, get, at, sorted, rowIds, stepIds, usedIds}
 use Rattle.ticks.specs.Written.{vectorFrom, spansFrom, spans, numbered, written}
 use Rattle.ticks.proofs.Lists.{Among, less, same, more, order, among?, sorted-in, sorted-rising}
@@ -17,7 +17,7 @@ use Rattle.ticks.proofs.Steps.{Changing, at-nil, at-lt, at-ge}
 use Rattle.ticks.proofs.Rows.{RisingRow, row-unique, get-nil, get-same, get-other}
 use Rattle.ticks.proofs.Canonical.{tableTick, RisingRows, CanonicalTable}
 use Rattle.ticks.proofs.Vectors.{vector-in-order, vector-keys, vector-tick}
-use Rattle.ticks.proofs.Written.{among-place, known-in, known-out, vectorAt-numbered, VectorOver, normal-numbered}
+use Rattle.ticks.proofs.Written.{among-place, known-in, known-out, vectorAt-numbered, VectorOver, formed-numbered}
 
 -- each id with a tick in the row is in the map
 abbrev pub RowOver : List ℕ → Row → Type 0
@@ -95,10 +95,10 @@ pub record TableOver (ids : List ℕ) (t : Table) : Type 0 where
   pub firstRow : RowOver ids (t .first)
   pub rows : RowsOver ids (t .rest)
 
-pub normal-written : (ids : List ℕ) (t : Table) → Distinct ids → CanonicalTable t → TableOver ids t → NormalOver ids (written ids t)
+pub formed-written : (ids : List ℕ) (t : Table) → Distinct ids → CanonicalTable t → TableOver ids t → Formed (written ids t)
 unfolding written spans
-normal-written ids t d c o =
-    normal-numbered ids d (vectorFrom 0 ids (t .first)) (spansFrom ids (t .rest)) (vector-over ids (t .first)) (spans-over ids (t .rest))
+formed-written ids t d c o =
+    formed-numbered ids d (vectorFrom 0 ids (t .first)) (spansFrom ids (t .rest)) (vector-over ids (t .first)) (spans-over ids (t .rest))
     (spans-changing highest 1 ids (t .first) (t .rest) (c .firstRow) (c .rows) (o .firstRow) (o .rows) (c .changing))
 
 pub written-replicas : (ids : List ℕ) (t : Table) → written ids t .replicas ≡ ids

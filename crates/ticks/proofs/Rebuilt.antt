@@ -6,7 +6,7 @@ use native.Mathlib.Omega.{arith}
 use lib.ListN.{length, getD, take, List·getD-eq-default}
 use lib.Seq.{length-take-le, getD-take, take-suc, take-all}
 use Rattle.layout.specs.Knowledge.{Element, Range, Knowledge, All, Rising, bounds}
-use Rattle.ticks.specs.Meaning.{highest, indexAt, vectorAt, indices, NormalOver}
+use Rattle.ticks.specs.Meaning.{highest, indexAt, vectorAt, indices, Formed}
 use Rattle.ticks.specs.Table.{at}
 use Rattle.ticks.specs.Written.{range, eqVector, numberOf, grown, vectorsOf, rangesOf, numbered}
 use Rattle.ticks.proofs.Lists.{Among, less, same, more, order}
@@ -88,37 +88,37 @@ unfolding indices
 all-indices-of v [] a = tt
 all-indices-of v (x ∷ xs) a = (a .0, all-indices-of v xs (a .1))
 
-pub order-apart : (ids : List ℕ) (k : Knowledge) → NormalOver ids k → Apart (k .vectors)
-order-apart ids k o = record { apart = apart }
+pub order-apart : (k : Knowledge) → Formed k → Apart (k .vectors)
+order-apart k o = record { apart = apart }
   where
     apart : (y z : ℕ) → y < z → z < length (k .vectors) → getD (k .vectors) y [] ≡ getD (k .vectors) z [] → ⊥
     apart zero z h l e = o .notEmpty z h l (sym e ∙ o .emptyFirst)
     apart (suc y) z h l e = o .distinct (suc y) z (omega arith) h l e
 
-pub used-index : (ids : List ℕ) (k : Knowledge) (y : ℕ) → NormalOver ids k → 1 ≤ y → y < length (k .vectors) → Among y (indices (k .ranges))
-used-index ids k y o h l = place-among y (indices (k .ranges)) (omega (arith, indices-length (k .ranges), o .used y h l))
+pub used-index : (k : Knowledge) (y : ℕ) → Formed k → 1 ≤ y → y < length (k .vectors) → Among y (indices (k .ranges))
+used-index k y o h l = place-among y (indices (k .ranges)) (omega (arith, indices-length (k .ranges), o .used y h l))
 
-pub order-first : (ids : List ℕ) (k : Knowledge) → NormalOver ids k → FirstUse 1 (indices (k .ranges)) (length (k .vectors))
-order-first ids k o =
+pub order-first : (k : Knowledge) → Formed k → FirstUse 1 (indices (k .ranges)) (length (k .vectors))
+order-first k o =
     first-use 1 (indices (k .ranges)) (length (k .vectors)) (o .someVector) (all-indices-of (length (k .vectors)) (k .ranges) (o .sound .indices))
-    (λ y h l. used-index ids k y o h l) (o .firstUse)
+    (λ y h l. used-index k y o h l) (o .firstUse)
 
 take-one : (vs : List (List Element)) → 1 ≤ length vs → getD vs 0 [] ≡ [] → take 1 vs ≡ [] ∷ []
 take-one [] h e = absurd (omega arith)
 take-one (v ∷ vs) h e = ap (λ w. w ∷ []) e
 
 -- a knowledge that meets the conditions is rebuilt from its own ranges
-pub rebuilt : (ids : List ℕ) (k : Knowledge) → NormalOver ids k → numbered ids (ownSpans (k .vectors) (k .ranges)) ≡ k
+pub rebuilt : (k : Knowledge) → Formed k → numbered (k .replicas) (ownSpans (k .vectors) (k .ranges)) ≡ k
 unfolding numbered
-rebuilt ids k o =
+rebuilt k o =
     let vs = k .vectors in
     let xs = k .ranges in
-    let a : Apart vs = order-apart ids k o in
-    let f : FirstUse 1 (indices xs) (length vs) = order-first ids k o in
+    let a : Apart vs = order-apart k o in
+    let f : FirstUse 1 (indices xs) (length vs) = order-first k o in
     let e : [] ∷ [] ≡ take 1 vs = sym (take-one vs (o .someVector) (o .emptyFirst)) in
     let p : vectorsOf ([] ∷ []) (ownSpans vs xs) ≡ vs = ap (λ s. vectorsOf s (ownSpans vs xs)) e ∙ rebuilt-vectors vs a 1 xs f in
     let q : rangesOf ([] ∷ []) (ownSpans vs xs) ≡ xs = ap (λ s. rangesOf s (ownSpans vs xs)) e ∙ rebuilt-ranges vs a 1 xs f in
-    λ i. record { replicas = sym (o .replicas) i; vectors = p i; ranges = q i }
+    λ i. record { replicas = k .replicas; vectors = p i; ranges = q i }
 
 -- Its ranges as steps
 
@@ -180,5 +180,5 @@ from-zero vs (x ∷ xs) z r a d = record {
   changing = own-changing 1 vs (x .index .0) xs (rw z at (r .1)) (a .1) (λ n h. d n (omega arith));
 }
 
-pub normal-from-zero : (ids : List ℕ) (k : Knowledge) → NormalOver ids k → FromZero (ownSpans (k .vectors) (k .ranges))
-normal-from-zero ids k o = from-zero (k .vectors) (k .ranges) (o .firstRange) (o .sound .rising) (o .sound .items) (o .neighbours)
+pub formed-from-zero : (k : Knowledge) → Formed k → FromZero (ownSpans (k .vectors) (k .ranges))
+formed-from-zero k o = from-zero (k .vectors) (k .ranges) (o .firstRange) (o .sound .rising) (o .sound .items) (o .neighbours)

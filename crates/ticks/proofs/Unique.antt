@@ -8,7 +8,7 @@ use native.Mathlib.Omega.{arith}
 use lib.Dec.{eqb}
 use lib.ListN.{length, getD}
 use Rattle.layout.specs.Knowledge.{Element, Range, Knowledge, All, Distinct, Rising, keys, bounds}
-use Rattle.ticks.specs.Meaning.{highest, place, tickAt, indexAt, vectorAt, known, indices, Sound, NormalOver, Normal}
+use Rattle.ticks.specs.Meaning.{highest, place, tickAt, indexAt, vectorAt, known, indices, Sound, Formed, EachUsed, Normal}
 use Rattle.ticks.specs.Table.{at}
 use Rattle.ticks.specs.Written.{numbered}
 use Rattle.ticks.proofs.Lists.{Among, less, same, more, order, among?, all-among, rising-above, rising-unique}
@@ -18,7 +18,7 @@ use Rattle.ticks.proofs.Vectors.{ElementsInOrder, vector-unique, tick-n
 use Rattle.ticks.proofs.Numbering.{index-nil, index-lt, index-ge}
 use Rattle.ticks.proofs.Written.{among-place, among-get, known-in, known-out}
 use Rattle.ticks.proofs.Used.{used-get}
-use Rattle.ticks.proofs.Rebuilt.{ownSpans, used-index, rebuilt, own-vectorAt, FromZero, normal-from-zero}
+use Rattle.ticks.proofs.Rebuilt.{ownSpans, used-index, rebuilt, own-vectorAt, FromZero, formed-from-zero}
 
 -- Sound knowledges
 
@@ -51,16 +51,16 @@ all-get P d (x ∷ xs) zero a p = a .0
 all-get P d (x ∷ xs) (suc n) a p = all-get P d xs n (a .1) p
 
 -- the vectors of a knowledge that meets the conditions, by their places
-pub get-in-order : (ids : List ℕ) (k : Knowledge) (y : ℕ) → NormalOver ids k → ElementsInOrder (getD (k .vectors) y [])
+pub get-in-order : (k : Knowledge) (y : ℕ) → Formed k → ElementsInOrder (getD (k .vectors) y [])
 unfolding keys
-get-in-order ids k y o = record {
+get-in-order k y o = record {
   rising = all-get (λ es. Rising 0 (keys es)) [] (k .vectors) y (o .elements) tt;
   ticks = all-get (All (λ x. 1 ≤ x .tick)) [] (k .vectors) y (o .ticks) tt;
 }
 
-pub vectorAt-in-order : (ids : List ℕ) (k : Knowledge) (i : ℕ) → NormalOver ids k → ElementsInOrder (vectorAt k i)
+pub vectorAt-in-order : (k : Knowledge) (i : ℕ) → Formed k → ElementsInOrder (vectorAt k i)
 unfolding vectorAt
-vectorAt-in-order ids k i o = get-in-order ids k (indexAt (length (k .vectors)) (k .ranges) i) o
+vectorAt-in-order k i o = get-in-order k (indexAt (length (k .vectors)) (k .ranges) i) o
 
 pub vectorAt-keys : (k : Knowledge) (i : ℕ) → Sound k → All (λ x. x .key .0 < length (k .replicas)) (vectorAt k i)
 unfolding vectorAt
@@ -95,22 +95,21 @@ unfolding keys
 no-key key es e m = subst (λ fs. Among key (keys fs)) e m
 
 -- a replica of the map has a tick of 1 or more at some item
-pub replica-known : (k : Knowledge) (p : ℕ) → Normal k → Among p (k .replicas) → (i : ℕ) × ((i ≤ highest) × (1 ≤ known k i p))
+pub replica-known : (k : Knowledge) (p : ℕ) → Formed k → EachUsed k → Among p (k .replicas) → (i : ℕ) × ((i ≤ highest) × (1 ≤ known k i p))
 unfolding vectorAt
-replica-known k p n m =
+replica-known k p o each m =
     let key = place p (k .replicas) in
-    let o : NormalOver (k .replicas) k = n .over in
-    let u = used-get key (k .vectors) (n .used key (among-place p (k .replicas) m)) in
+    let u = used-get key (k .vectors) (each key (among-place p (k .replicas) m)) in
     let some : 1 ≤ u .0 =
     elim (order (u .0) 0) [
       | less h ↦ absurd (omega arith)
       | same h ↦ absurd (no-key key (getD (k .vectors) (u .0) []) (ap (λ y. getD (k .vectors) y []) h ∙ o .emptyFirst) (u .1 .1))
       | more h ↦ h
     ] in
-    let w = index-bound 0 (length (k .vectors)) (k .ranges) (u .0) (o .sound .rising) (used-index (k .replicas) k (u .0) o some (u .1 .0)) in
+    let w = index-bound 0 (length (k .vectors)) (k .ranges) (u .0) (o .sound .rising) (used-index k (u .0) o some (u .1 .0)) in
     let e : vectorAt k (w .0) ≡ getD (k .vectors) (u .0) [] = ap (λ y. getD (k .vectors) y []) (w .1 .1) in
     let t : 1 ≤ tickAt (getD (k .vectors) (u .0) []) key =
-    tick-key (getD (k .vectors) (u .0) []) key (get-in-order (k .replicas) k (u .0) o .ticks) (u .1 .1) in (
+    tick-key (getD (k .vectors) (u .0) []) key (get-in-order k (u .0) o .ticks) (u .1 .1) in (
       w .0,
       (
         all-among (λ b. b ≤ highest) (bounds (k .ranges)) (o .sound .items) (w .0) (w .1 .0),
@@ -130,28 +129,27 @@ pub record SameTicks (a b : Knowledge) : Type 0 where
 same-map : (a b : Knowledge) → Normal a → Normal b → SameTicks a b → a .replicas ≡ b .replicas
 same-map a b n m f =
     rising-unique 0 (a .replicas) (b .replicas) (n .rising) (m .rising)
-    (λ p h. let w = replica-known a p n h in known-replica b (w .0) p (omega (arith, w .1 .1, f .known (w .0) p (w .1 .0))))
-    (λ p h. let w = replica-known b p m h in known-replica a (w .0) p (omega (arith, w .1 .1, f .known (w .0) p (w .1 .0))))
+    (λ p h. let w = replica-known a p (n .formed) (n .used) h in known-replica b (w .0) p (omega (arith, w .1 .1, f .known (w .0) p (w .1 .0))))
+    (λ p h. let w = replica-known b p (m .formed) (m .used) h in known-replica a (w .0) p (omega (arith, w .1 .1, f .known (w .0) p (w .1 .0))))
 
 -- with one map, the vectors at each item are the same
-pub same-vector : (a b : Knowledge) → NormalOver (a .replicas) a → NormalOver (a .replicas) b → SameTicks a b → (i : ℕ) → i ≤ highest → vectorAt a i ≡ vectorAt b i
-same-vector a b o q f i h =
-    let e : b .replicas ≡ a .replicas = q .replicas in
-    vector-unique (vectorAt a i) (vectorAt b i) (vectorAt-in-order (a .replicas) a i o) (vectorAt-in-order (a .replicas) b i q)
+pub same-vector : (a b : Knowledge) → Formed a → Formed b → b .replicas ≡ a .replicas → SameTicks a b → (i : ℕ) → i ≤ highest → vectorAt a i ≡ vectorAt b i
+same-vector a b o q e f i h =
+    vector-unique (vectorAt a i) (vectorAt b i) (vectorAt-in-order a i o) (vectorAt-in-order b i q)
     (λ key.
     elim (order key (length (a .replicas))) [
-      | less k ↦ found e key k
-      | same k ↦ none e key (omega arith)
-      | more k ↦ none e key (omega arith)
+      | less k ↦ found key k
+      | same k ↦ none key (omega arith)
+      | more k ↦ none key (omega arith)
     ])
   where
-    found : b .replicas ≡ a .replicas → (key : ℕ) → key < length (a .replicas) → tickAt (vectorAt a i) key ≡ tickAt (vectorAt b i) key
-    found e key k =
+    found : (key : ℕ) → key < length (a .replicas) → tickAt (vectorAt a i) key ≡ tickAt (vectorAt b i) key
+    found key k =
         sym (key-known a i key (o .sound) k) ∙ f .known i (getD (a .replicas) key 0) h
         ∙ ap (λ ids. known b i (getD ids key 0)) (sym e) ∙ key-known b i key (q .sound) (omega (arith, ap length e))
 
-    none : b .replicas ≡ a .replicas → (key : ℕ) → length (a .replicas) ≤ key → tickAt (vectorAt a i) key ≡ tickAt (vectorAt b i) key
-    none e key k =
+    none : (key : ℕ) → length (a .replicas) ≤ key → tickAt (vectorAt a i) key ≡ tickAt (vectorAt b i) key
+    none key k =
         tick-none (length (a .replicas)) (vectorAt a i) key (vectorAt-keys a i (o .sound)) k
         ∙ sym (tick-none (length (b .replicas)) (vectorAt b i) key (vectorAt-keys b i (q .sound)) (omega (arith, ap length e)))
 
@@ -173,22 +171,16 @@ spans-unique ss ts x y f =
     ∙ sym (y .is)
 
 -- over one map
-pub normal-over-unique : (ids : List ℕ) (a b : Knowledge) → NormalOver ids a → NormalOver ids b → SameTicks a b → a ≡ b
-normal-over-unique ids a b o q f =
-    let o′ : NormalOver (a .replicas) a = subst (λ l. NormalOver l a) (sym (o .replicas)) o in
-    let q′ : NormalOver (a .replicas) b = subst (λ l. NormalOver l b) (sym (o .replicas)) q in
-    sym (rebuilt ids a o)
-    ∙ ap (numbered ids)
-    (spans-unique (ownSpans (a .vectors) (a .ranges)) (ownSpans (b .vectors) (b .ranges)) (normal-from-zero ids a o) (normal-from-zero ids b q)
-    (λ i h. own-vectorAt a i ∙ same-vector a b o′ q′ f i h ∙ sym (own-vectorAt b i)))
-    ∙ rebuilt ids b q
+pub formed-unique : (a b : Knowledge) → Formed a → Formed b → b .replicas ≡ a .replicas → SameTicks a b → a ≡ b
+formed-unique a b o q e f =
+    sym (rebuilt a o)
+    ∙ ap₂ numbered (sym e)
+    (spans-unique (ownSpans (a .vectors) (a .ranges)) (ownSpans (b .vectors) (b .ranges)) (formed-from-zero a o) (formed-from-zero b q)
+    (λ i h. own-vectorAt a i ∙ same-vector a b o q e f i h ∙ sym (own-vectorAt b i)))
+    ∙ rebuilt b q
 
 -- normal forms with equal ticks are equal
 pub normal-unique : (a b : Knowledge) → Normal a → Normal b → ((i p : ℕ) → i ≤ highest → known a i p ≡ known b i p) → a ≡ b
 normal-unique a b n m f =
     let s : SameTicks a b = record { known = f } in
-    let e : b .replicas ≡ a .replicas = sym (same-map a b n m s) in
-    normal-over-unique (a .replicas) a b (n .over) (subst (λ l. NormalOver l b) e (m .over)) s
-
-pub normal-sound : (k : Knowledge) → Normal k → Sound k
-normal-sound k n = n .over .sound
+    formed-unique a b (n .formed) (m .formed) (sym (same-map a b n m s)) s

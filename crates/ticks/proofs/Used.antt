@@ -6,8 +6,8 @@ use mathlib.Core.List.{List, [], _∷_}
 use native.Mathlib.Omega.{arith}
 use lib.Dec.{eqb}
 use lib.ListN.{length, getD}
-use Rattle.layout.specs.Knowledge.{Element, All, keys}
-use Rattle.ticks.specs.Meaning.{highest, place, tickAt, known, Normal}
+use Rattle.layout.specs.Knowledge.{Element, keys}
+use Rattle.ticks.specs.Meaning.{highest, place, tickAt, known, Unused, Normal}
 use Rattle.ticks.specs.Table.{Row, Table, get, canonical, rowIds, stepIds, usedIds}
 use Rattle.ticks.specs.Written.{vectorFrom, spansFrom, spans, numberOf, grown, vectorsOf, numbered, written, normalOf}
 use Rattle.ticks.proofs.Lists.{less, same, more, order, Among, sorted-only, rising-distinct}
@@ -16,11 +16,7 @@ use Rattle.ticks.proofs.Canonical.{RisingRows, CanonicalTable, canonica
 use Rattle.ticks.proofs.Vectors.{keys-length, vector-tick, key-tick}
 use Rattle.ticks.proofs.Numbering.{grown-length, vectors-cons, vectors-length, vectors-number}
 use Rattle.ticks.proofs.Written.{among-place, place-among, among-get}
-use Rattle.ticks.proofs.NormalForm.{spans-cons, row-ids-only, normal-written, known-written, used-over, used-rising}
-
--- every vector is without the key
-abbrev pub Unused : ℕ → List (List Element) → Type 0
-Unused key vs = All (λ es. place key (keys es) ≡ length es) vs
+use Rattle.ticks.proofs.NormalForm.{spans-cons, row-ids-only, formed-written, known-written, used-over, used-rising}
 
 pub used-at : (key n : ℕ) (vs : List (List Element)) → n < length vs → Among key (keys (getD vs n [])) → Unused key vs → ⊥
 used-at key n [] h m a = omega arith
@@ -78,7 +74,7 @@ table-used t key c h =
 pub normal-table : (t : Table) → CanonicalTable t → Normal (written (usedIds t) t)
 unfolding written numbered
 normal-table t c = record {
-  over = normal-written (usedIds t) t (rising-distinct 0 (usedIds t) (used-rising t)) c (used-over t);
+  formed = formed-written (usedIds t) t (rising-distinct 0 (usedIds t) (used-rising t)) c (used-over t);
   rising = used-rising t;
   used = λ key h. spans-used key ([] ∷ []) (spans (usedIds t) t) (table-used t key c h);
 }

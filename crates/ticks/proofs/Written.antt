@@ -9,7 +9,7 @@ use lib.Dec.{eqb}
 use lib.ListN.{length, getD, List·getD-eq-default}
 use borrow.Author.Tests.{lt-ltb, le-ltb}
 use Rattle.layout.specs.Knowledge.{Element, Range, Knowledge, All, Distinct, Rising, keys, bounds}
-use Rattle.ticks.specs.Meaning.{highest, place, tickAt, vectorAt, known, Sound, indices, NormalOver}
+use Rattle.ticks.specs.Meaning.{highest, place, tickAt, vectorAt, known, Sound, indices, Formed}
 use Rattle.ticks.specs.Table.{at}
 use Rattle.ticks.specs.Written.{numberOf, grown, vectorsOf, rangesOf, numbered}
 use Rattle.ticks.proofs.Lists.{Among, less, same, more, order}
@@ -124,9 +124,9 @@ module _ (ids : List ℕ) (distinct : Distinct ids) (w : List Element) (s : List
       ranges-differ highest 1 (vectorsOf ([] ∷ []) ((0, w) ∷ s)) (grown ([] ∷ []) w) w (numberOf w ([] ∷ [])) s (sym (vectors-cons ([] ∷ []) (0, w) s))
       (vectors-number ([] ∷ []) (0, w) s) changing n (omega arith))
 
-  pub normal-numbered : NormalOver ids (numbered ids ((0, w) ∷ s))
+  pub formed-numbered : Formed (numbered ids ((0, w) ∷ s))
   unfolding numbered keys bounds
-  normal-numbered =
+  formed-numbered =
       let vs = vectorsOf ([] ∷ []) ((0, w) ∷ s) in
       let rs = rangesOf ([] ∷ []) ((0, w) ∷ s) in
       let xs = indices rs in
@@ -134,7 +134,6 @@ module _ (ids : List ℕ) (distinct : Distinct ids) (w : List Element) (s : List
       let e : getD vs 0 [] ≡ [] = vectors-keep ([] ∷ []) ((0, w) ∷ s) 0 (omega arith) in
       let a : Apart vs = vectors-apart ([] ∷ []) ((0, w) ∷ s) start-apart in
       record {
-        replicas = refl;
         sound = numbered-sound;
         firstRange = rw ranges-cons refl;
         neighbours = numbered-differ;

@@ -4,7 +4,7 @@ use Rattle.codec.specs.Prelude.{ℕ, suc, max, Bool, true, false, List, [], _�
 use Rattle.layout.specs.Knowledge.{Limits, Range, Knowledge, bounds}
 use Rattle.ticks.specs.Meaning.{known}
 use Rattle.ticks.specs.Table.{inside, within, sorted}
-use Rattle.ticks.specs.Written.{range, normalOf}
+use Rattle.ticks.specs.Written.{normalOf}
 
 unfoldable pub normalise : Knowledge → Knowledge
 normalise k = normalOf (bounds (k .ranges)) (k .replicas) (known k)
