@@ -11,7 +11,7 @@ use Rattle.layout.specs.Knowledge.{Knowledge}
 use Rattle.ticks.specs.Meaning.{highest, known, contains, Normal, emptyKnowledge}
 use Rattle.ticks.specs.Operations.{normalise, merge, project}
 use Rattle.ticks.specs.Demand2.{SameVersions}
-use Rattle.ticks.proofs.Lists.{less, same, more, order, in-span, below-span, above-span, inside?}
+use Rattle.ticks.proofs.Lists.{less, same, more, order, side-in, side-below, side-above, span-side}
 use Rattle.ticks.proofs.Equality.{clash}
 use Rattle.ticks.proofs.Unique.{SameTicks, normal-unique}
 use Rattle.ticks.proofs.Operations.{known-normalise, normal-normalise, normalise-normal, known-merge, normal-merge, known-project-inside, known-project-below, known-project-above, normal-project, known-empty}
@@ -137,10 +137,10 @@ pub project-again : (first last : ℕ) (k : Knowledge) → project first last (p
 project-again first last k =
     normal-unique (project first last (project first last k)) (project first last k) (normal-project first last (project first last k)) (normal-project first last k)
     (λ i p h.
-    elim (inside? first last i) [
-      | in-span l m ↦ known-project-inside first last (project first last k) i p h l m
-      | below-span l ↦ known-project-below first last (project first last k) i p h l ∙ sym (known-project-below first last k i p h l)
-      | above-span l ↦ known-project-above first last (project first last k) i p h l ∙ sym (known-project-above first last k i p h l)
+    elim (span-side first last i) [
+      | side-in l m ↦ known-project-inside first last (project first last k) i p h l m
+      | side-below l ↦ known-project-below first last (project first last k) i p h l ∙ sym (known-project-below first last k i p h l)
+      | side-above l ↦ known-project-above first last (project first last k) i p h l ∙ sym (known-project-above first last k i p h l)
     ])
 
 -- a knowledge in normal form is unchanged by projecting exactly when it knows nothing outside the span
@@ -149,10 +149,10 @@ pub project-same : (first last : ℕ) (k : Knowledge) → Normal k
 project-same first last k n f =
     normal-unique (project first last k) k (normal-project first last k) n
     (λ i p h.
-    elim (inside? first last i) [
-      | in-span l m ↦ known-project-inside first last k i p h l m
-      | below-span l ↦ known-project-below first last k i p h l ∙ sym (f i p h (inl l))
-      | above-span l ↦ known-project-above first last k i p h l ∙ sym (f i p h (inr l))
+    elim (span-side first last i) [
+      | side-in l m ↦ known-project-inside first last k i p h l m
+      | side-below l ↦ known-project-below first last k i p h l ∙ sym (f i p h (inl l))
+      | side-above l ↦ known-project-above first last k i p h l ∙ sym (f i p h (inr l))
     ])
 
 pub project-outside : (first last : ℕ) (k : Knowledge) (i p : ℕ) → project first last k ≡ k → i ≤ highest → (i < first) ⊎ (last < i) → known k i p ≡ 0

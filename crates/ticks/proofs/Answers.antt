@@ -12,7 +12,7 @@ use lib.IntN.{pos, negsuc, _-ℤ_}
 use borrow.Author.Tests.{lt-ltb, le-ltb, ltb-false, eq-eqb, eqb-true, not-false}
 use Rattle.codec.specs.Number.{beAt}
 use Rattle.codec.specs.Parsed.{readOr}
-use Rattle.codec.specs.Reply.{Reply, gives, refuses, firstFault}
+use Rattle.codec.specs.Reply.{firstFault}
 use Rattle.codec.proofs.Replies.{fault-here, fault-none}
 use Rattle.layout.specs.Knowledge.{Rules, Knowledge}
 use Rattle.layout.specs.Parse.{Parsed, accepted, refused, parse}
@@ -24,7 +24,7 @@ use Rattle.ticks.specs.declared.Lead.{Lead}
 use Rattle.ticks.specs.declared.Lead.the-variants as D
 use Rattle.ticks.specs.declared.Cover.{Cover}
 use Rattle.ticks.specs.declared.Cover.the-variants as E
-use Rattle.ticks.specs.Calls.{containNumber, containValue, leadNumber, leadValue, coverNumber, coverValue, idOf, readAs, line, ownFault, wrongLength, wrongPlace, wrongSpan, refusedOr, containFound, coverFound, containAnswer, leadOf, leadAnswer, coverAnswer}
+use Rattle.ticks.specs.Calls.{containNumber, containValue, leadNumber, leadValue, coverNumber, coverValue, idOf, readAs, line, ownFault, wrongLength, wrongIds, wrongSpan, containFound, coverFound, containAnswer, leadOf, leadAnswer, coverAnswer}
 use Rattle.ticks.proofs.Equality.{clash}
 use Rattle.ticks.proofs.Algebra.{contains-exact}
 use Rattle.ticks.proofs.Search.{Covers, covers-exact}
@@ -40,9 +40,9 @@ pub length-exact : (n : ℕ) (s : List ℕ) → (wrongLength n s ≡ false) ↔ 
 unfolding wrongLength
 length-exact n s = ((λ e. eqb-true (length s) n (not-false (eqb (length s) n) e)), (λ e. ap not (eq-eqb (length s) n e)))
 
-pub place-exact : (item replica : List ℕ) → (wrongPlace item replica ≡ false) ↔ ((length item ≡ 24) × (length replica ≡ 16))
-unfolding wrongPlace
-place-exact item replica =
+pub wrong-ids-exact : (item replica : List ℕ) → (wrongIds item replica ≡ false) ↔ ((length item ≡ 24) × (length replica ≡ 16))
+unfolding wrongIds
+wrong-ids-exact item replica =
     let w = neither (wrongLength 24 item) (wrongLength 16 replica) in (
       (λ e. (length-exact 24 item .0 (w .0 e .0), length-exact 16 replica .0 (w .0 e .1))),
       (λ e. w .1 (length-exact 24 item .1 (e .0), length-exact 16 replica .1 (e .1))),
@@ -61,51 +61,22 @@ span-exact first last =
     )
 
 -- the lines of a call on one knowledge, and of one on two, with 17 after them
-one : Parsed Knowledge → Bool → Reply
-one p w = firstFault refuses (ownFault p ∷ line 17 w ∷ []) (gives [])
+module _ {A : Type 0} (refusal : ℕ → A) (w : Bool) (found : A) where
+  one-refused : (n : ℕ) → firstFault refusal (ownFault {A = Knowledge} (refused n) ∷ line 17 w ∷ []) found ≡ refusal n
+  one-refused n = read-fault Knowledge refusal n (line 17 w ∷ []) found
 
-two : Parsed Knowledge → Parsed Knowledge → Bool → Reply
-two p q w = firstFault refuses (ownFault p ∷ ownFault q ∷ line 17 w ∷ []) (gives [])
+  one-wrong : (k : Knowledge) → w ≡ true → firstFault refusal (ownFault (accepted k) ∷ line 17 w ∷ []) found ≡ refusal 17
+  one-wrong k e = read-fine refusal k (line 17 w ∷ []) found ∙ fault-here refusal (line 17 w) [] found e
 
-last-line : (w : Bool) → Reply
-last-line w = firstFault refuses (line 17 w ∷ []) (gives [])
+  one-right : (k : Knowledge) → w ≡ false → firstFault refusal (ownFault (accepted k) ∷ line 17 w ∷ []) found ≡ found
+  one-right k e = read-fine refusal k (line 17 w ∷ []) found ∙ fault-none refusal (line 17 w ∷ []) found (e, tt)
 
-last-wrong : (w : Bool) → w ≡ true → last-line w ≡ refuses 17
-unfolding last-line
-last-wrong w e = fault-here refuses (line 17 w) [] (gives []) e
+  two-first : (n : ℕ) (q : Parsed Knowledge) → firstFault refusal (ownFault {A = Knowledge} (refused n) ∷ ownFault q ∷ line 17 w ∷ []) found ≡ refusal n
+  two-first n q = read-fault Knowledge refusal n (ownFault q ∷ line 17 w ∷ []) found
 
-last-right : (w : Bool) → w ≡ false → last-line w ≡ gives []
-unfolding last-line
-last-right w e = fault-none refuses (line 17 w ∷ []) (gives []) (e, tt)
-
-one-refused : (n : ℕ) (w : Bool) → one (refused n) w ≡ refuses n
-unfolding one
-one-refused n w = read-fault Knowledge refuses n (line 17 w ∷ []) (gives [])
-
-one-accepted : (k : Knowledge) (w : Bool) → one (accepted k) w ≡ last-line w
-unfolding one last-line
-one-accepted k w = read-fine refuses k (line 17 w ∷ []) (gives [])
-
-two-first : (n : ℕ) (q : Parsed Knowledge) (w : Bool) → two (refused n) q w ≡ refuses n
-unfolding two
-two-first n q w = read-fault Knowledge refuses n (ownFault q ∷ line 17 w ∷ []) (gives [])
-
-two-second : (a : Knowledge) (n : ℕ) (w : Bool) → two (accepted a) (refused n) w ≡ refuses n
-unfolding two
-two-second a n w = read-fine refuses a (ownFault (refused n) ∷ line 17 w ∷ []) (gives []) ∙ read-fault Knowledge refuses n (line 17 w ∷ []) (gives [])
-
-two-accepted : (a b : Knowledge) (w : Bool) → two (accepted a) (accepted b) w ≡ last-line w
-unfolding two last-line
-two-accepted a b w = read-fine refuses a (ownFault (accepted b) ∷ line 17 w ∷ []) (gives []) ∙ read-fine refuses b (line 17 w ∷ []) (gives [])
-
-module _ {A : Type 0} (bad : ℕ → A) (found : A) where
-  refused-is : (r : Reply) (n : ℕ) → r ≡ refuses n → refusedOr bad found r ≡ bad n
-  unfolding refusedOr
-  refused-is r n e = ap (refusedOr bad found) e
-
-  found-is : (r : Reply) → r ≡ gives [] → refusedOr bad found r ≡ found
-  unfolding refusedOr
-  found-is r e = ap (refusedOr bad found) e
+  two-later : (a : Knowledge) (q : Parsed Knowledge)
+      → firstFault refusal (ownFault (accepted a) ∷ ownFault q ∷ line 17 w ∷ []) found ≡ firstFault refusal (ownFault q ∷ line 17 w ∷ []) found
+  two-later a q = read-fine refusal a (ownFault q ∷ line 17 w ∷ []) found
 
 -- a test that is not one of its two values is the other
 no-false : (b : Bool) → (b ≡ false → ⊥) → b ≡ true
@@ -131,34 +102,34 @@ cover-found-number false = refl
 
 pub data ContainSays (R : Rules) (s item replica : List ℕ) (t : ℕ) : Contain → Type 0 where
   contain-own : (n : ℕ) → parse R s ≡ refused n → ContainSays R s item replica t (C.Refused n)
-  contain-17 : (k : Knowledge) → parse R s ≡ accepted k → wrongPlace item replica ≡ true → ContainSays R s item replica t (C.Refused 17)
-  contain-found : (k : Knowledge) → parse R s ≡ accepted k → wrongPlace item replica ≡ false
+  contain-17 : (k : Knowledge) → parse R s ≡ accepted k → wrongIds item replica ≡ true → ContainSays R s item replica t (C.Refused 17)
+  contain-found : (k : Knowledge) → parse R s ≡ accepted k → wrongIds item replica ≡ false
       → ContainSays R s item replica t (containFound (contains k (idOf 24 item) (idOf 16 replica) t))
 
 -- the equation of each case
 module _ (R : Rules) (s item replica : List ℕ) (t : ℕ) where
   contain-of : (p : Parsed Knowledge) → parse R s ≡ p
-      → containAnswer R s item replica t ≡ refusedOr C.Refused (containFound (contains (readAs p) (idOf 24 item) (idOf 16 replica) t)) (one p (wrongPlace item replica))
-  unfolding containAnswer one
-  contain-of p e = ap (λ p. refusedOr C.Refused (containFound (contains (readAs p) (idOf 24 item) (idOf 16 replica) t)) (one p (wrongPlace item replica))) e
+      → containAnswer R s item replica t
+      ≡ firstFault C.Refused (ownFault p ∷ line 17 (wrongIds item replica) ∷ []) (containFound (contains (readAs p) (idOf 24 item) (idOf 16 replica) t))
+  unfolding containAnswer
+  contain-of p e =
+      ap (λ p. firstFault C.Refused (ownFault p ∷ line 17 (wrongIds item replica) ∷ []) (containFound (contains (readAs p) (idOf 24 item) (idOf 16 replica) t))) e
 
   contain-is-own : (n : ℕ) → parse R s ≡ refused n → containAnswer R s item replica t ≡ C.Refused n
-  contain-is-own n e = contain-of (refused n) e ∙ refused-is C.Refused _ _ n (one-refused n (wrongPlace item replica))
+  contain-is-own n e = contain-of (refused n) e ∙ one-refused C.Refused (wrongIds item replica) _ n
 
-  contain-is-17 : (k : Knowledge) → parse R s ≡ accepted k → wrongPlace item replica ≡ true → containAnswer R s item replica t ≡ C.Refused 17
-  contain-is-17 k e f =
-      contain-of (accepted k) e ∙ refused-is C.Refused _ _ 17 (one-accepted k (wrongPlace item replica) ∙ last-wrong (wrongPlace item replica) f)
+  contain-is-17 : (k : Knowledge) → parse R s ≡ accepted k → wrongIds item replica ≡ true → containAnswer R s item replica t ≡ C.Refused 17
+  contain-is-17 k e f = contain-of (accepted k) e ∙ one-wrong C.Refused (wrongIds item replica) _ k f
 
-  contain-is-found : (k : Knowledge) → parse R s ≡ accepted k → wrongPlace item replica ≡ false
+  contain-is-found : (k : Knowledge) → parse R s ≡ accepted k → wrongIds item replica ≡ false
       → containAnswer R s item replica t ≡ containFound (contains k (idOf 24 item) (idOf 16 replica) t)
   unfolding readOr
-  contain-is-found k e f =
-      contain-of (accepted k) e ∙ found-is C.Refused _ _ (one-accepted k (wrongPlace item replica) ∙ last-right (wrongPlace item replica) f)
+  contain-is-found k e f = contain-of (accepted k) e ∙ one-right C.Refused (wrongIds item replica) _ k f
 
   pub contain-says : ContainSays R s item replica t (containAnswer R s item replica t)
-  contain-says = go (parse R s) refl (wrongPlace item replica) refl
+  contain-says = go (parse R s) refl (wrongIds item replica) refl
     where
-      go : (p : Parsed Knowledge) → parse R s ≡ p → (w : Bool) → wrongPlace item replica ≡ w → ContainSays R s item replica t (containAnswer R s item replica t)
+      go : (p : Parsed Knowledge) → parse R s ≡ p → (w : Bool) → wrongIds item replica ≡ w → ContainSays R s item replica t (containAnswer R s item replica t)
       go (refused n) e w f = subst (ContainSays R s item replica t) (sym (contain-is-own n e)) (contain-own n e)
       go (accepted k) e true f = subst (ContainSays R s item replica t) (sym (contain-is-17 k e f)) (contain-17 k e f)
       go (accepted k) e false f = subst (ContainSays R s item replica t) (sym (contain-is-found k e f)) (contain-found k e f)
@@ -174,13 +145,13 @@ module _ (R : Rules) (s item replica : List ℕ) (t : ℕ) where
       → (containNumber (containAnswer R s item replica t) ≡ 17) × (containValue (containAnswer R s item replica t) ≡ 0)
   unfolding containNumber containValue
   contain-number-17 k e f =
-      let q : containAnswer R s item replica t ≡ C.Refused 17 = contain-is-17 k e (no-false (wrongPlace item replica) (λ w. f (place-exact item replica .0 w))) in
+      let q : containAnswer R s item replica t ≡ C.Refused 17 = contain-is-17 k e (no-false (wrongIds item replica) (λ w. f (wrong-ids-exact item replica .0 w))) in
       (ap containNumber q, ap containValue q)
 
   module _ (k : Knowledge) (e : parse R s ≡ accepted k) (f : length item ≡ 24) (g : length replica ≡ 16) where
     contain-right : containAnswer R s item replica t ≡ containFound (contains k (beAt item 24 0) (beAt replica 16 0) t)
     unfolding idOf
-    contain-right = contain-is-found k e (place-exact item replica .1 (f, g))
+    contain-right = contain-is-found k e (wrong-ids-exact item replica .1 (f, g))
 
     pub contain-number : containNumber (containAnswer R s item replica t) ≡ 0
     contain-number = ap containNumber contain-right ∙ contain-found-number (contains k (beAt item 24 0) (beAt replica 16 0) t)
@@ -217,38 +188,40 @@ lead-behind a b i p h = sub-behind (known a i p) (known b i p) h
 pub data LeadSays (R : Rules) (s t item replica : List ℕ) : Lead → Type 0 where
   lead-first : (n : ℕ) → parse R s ≡ refused n → LeadSays R s t item replica (D.Refused n)
   lead-second : (a : Knowledge) (n : ℕ) → parse R s ≡ accepted a → parse R t ≡ refused n → LeadSays R s t item replica (D.Refused n)
-  lead-17 : (a b : Knowledge) → parse R s ≡ accepted a → parse R t ≡ accepted b → wrongPlace item replica ≡ true
+  lead-17 : (a b : Knowledge) → parse R s ≡ accepted a → parse R t ≡ accepted b → wrongIds item replica ≡ true
       → LeadSays R s t item replica (D.Refused 17)
-  lead-found : (a b : Knowledge) → parse R s ≡ accepted a → parse R t ≡ accepted b → wrongPlace item replica ≡ false
+  lead-found : (a b : Knowledge) → parse R s ≡ accepted a → parse R t ≡ accepted b → wrongIds item replica ≡ false
       → LeadSays R s t item replica (D.Ahead (leadOf a b (idOf 24 item) (idOf 16 replica)))
 
 -- the equation of each case
 module _ (R : Rules) (s t item replica : List ℕ) where
   lead-of : (p q : Parsed Knowledge) → parse R s ≡ p → parse R t ≡ q
-      → leadAnswer R s t item replica ≡ refusedOr D.Refused (D.Ahead (leadOf (readAs p) (readAs q) (idOf 24 item) (idOf 16 replica))) (two p q (wrongPlace item replica))
-  unfolding leadAnswer two
-  lead-of p q e f = ap₂ (λ p q. refusedOr D.Refused (D.Ahead (leadOf (readAs p) (readAs q) (idOf 24 item) (idOf 16 replica))) (two p q (wrongPlace item replica))) e f
+      → leadAnswer R s t item replica
+      ≡ firstFault D.Refused (ownFault p ∷ ownFault q ∷ line 17 (wrongIds item replica) ∷ []) (D.Ahead (leadOf (readAs p) (readAs q) (idOf 24 item) (idOf 16 replica)))
+  unfolding leadAnswer
+  lead-of p q e f =
+      ap₂ (λ p q. firstFault D.Refused (ownFault p ∷ ownFault q ∷ line 17 (wrongIds item replica) ∷ []) (D.Ahead (leadOf (readAs p) (readAs q) (idOf 24 item) (idOf 16 replica)))) e f
 
   lead-is-first : (n : ℕ) → parse R s ≡ refused n → leadAnswer R s t item replica ≡ D.Refused n
-  lead-is-first n e = lead-of (refused n) (parse R t) e refl ∙ refused-is D.Refused _ _ n (two-first n (parse R t) (wrongPlace item replica))
+  lead-is-first n e = lead-of (refused n) (parse R t) e refl ∙ two-first D.Refused (wrongIds item replica) _ n (parse R t)
 
   lead-is-second : (a : Knowledge) (n : ℕ) → parse R s ≡ accepted a → parse R t ≡ refused n → leadAnswer R s t item replica ≡ D.Refused n
-  lead-is-second a n e f = lead-of (accepted a) (refused n) e f ∙ refused-is D.Refused _ _ n (two-second a n (wrongPlace item replica))
+  lead-is-second a n e f = lead-of (accepted a) (refused n) e f ∙ two-later D.Refused (wrongIds item replica) _ a (refused n) ∙ one-refused D.Refused (wrongIds item replica) _ n
 
-  lead-is-17 : (a b : Knowledge) → parse R s ≡ accepted a → parse R t ≡ accepted b → wrongPlace item replica ≡ true → leadAnswer R s t item replica ≡ D.Refused 17
+  lead-is-17 : (a b : Knowledge) → parse R s ≡ accepted a → parse R t ≡ accepted b → wrongIds item replica ≡ true → leadAnswer R s t item replica ≡ D.Refused 17
   lead-is-17 a b e f g =
-      lead-of (accepted a) (accepted b) e f ∙ refused-is D.Refused _ _ 17 (two-accepted a b (wrongPlace item replica) ∙ last-wrong (wrongPlace item replica) g)
+      lead-of (accepted a) (accepted b) e f ∙ two-later D.Refused (wrongIds item replica) _ a (accepted b) ∙ one-wrong D.Refused (wrongIds item replica) _ b g
 
-  lead-is-found : (a b : Knowledge) → parse R s ≡ accepted a → parse R t ≡ accepted b → wrongPlace item replica ≡ false
+  lead-is-found : (a b : Knowledge) → parse R s ≡ accepted a → parse R t ≡ accepted b → wrongIds item replica ≡ false
       → leadAnswer R s t item replica ≡ D.Ahead (leadOf a b (idOf 24 item) (idOf 16 replica))
   unfolding readOr
   lead-is-found a b e f g =
-      lead-of (accepted a) (accepted b) e f ∙ found-is D.Refused _ _ (two-accepted a b (wrongPlace item replica) ∙ last-right (wrongPlace item replica) g)
+      lead-of (accepted a) (accepted b) e f ∙ two-later D.Refused (wrongIds item replica) _ a (accepted b) ∙ one-right D.Refused (wrongIds item replica) _ b g
 
   pub lead-says : LeadSays R s t item replica (leadAnswer R s t item replica)
-  lead-says = go (parse R s) refl (parse R t) refl (wrongPlace item replica) refl
+  lead-says = go (parse R s) refl (parse R t) refl (wrongIds item replica) refl
     where
-      go : (p : Parsed Knowledge) → parse R s ≡ p → (q : Parsed Knowledge) → parse R t ≡ q → (w : Bool) → wrongPlace item replica ≡ w → LeadSays R s t item replica (leadAnswer R s t item replica)
+      go : (p : Parsed Knowledge) → parse R s ≡ p → (q : Parsed Knowledge) → parse R t ≡ q → (w : Bool) → wrongIds item replica ≡ w → LeadSays R s t item replica (leadAnswer R s t item replica)
       go (refused n) e q f w g = subst (LeadSays R s t item replica) (sym (lead-is-first n e)) (lead-first n e)
       go (accepted a) e (refused n) f w g = subst (LeadSays R s t item replica) (sym (lead-is-second a n e f)) (lead-second a n e f)
       go (accepted a) e (accepted b) f true g = subst (LeadSays R s t item replica) (sym (lead-is-17 a b e f g)) (lead-17 a b e f g)
@@ -269,13 +242,13 @@ module _ (R : Rules) (s t item replica : List ℕ) where
       → (leadNumber (leadAnswer R s t item replica) ≡ 17) × (leadValue (leadAnswer R s t item replica) ≡ pos 0)
   unfolding leadNumber leadValue
   lead-number-17 a b e f g =
-      let q = lead-is-17 a b e f (no-false (wrongPlace item replica) (λ w. g (place-exact item replica .0 w))) in
+      let q = lead-is-17 a b e f (no-false (wrongIds item replica) (λ w. g (wrong-ids-exact item replica .0 w))) in
       (ap leadNumber q, ap leadValue q)
 
   module _ (a b : Knowledge) (e : parse R s ≡ accepted a) (f : parse R t ≡ accepted b) (g : length item ≡ 24) (h : length replica ≡ 16) where
     lead-right : leadAnswer R s t item replica ≡ D.Ahead (leadOf a b (beAt item 24 0) (beAt replica 16 0))
     unfolding idOf
-    lead-right = lead-is-found a b e f (place-exact item replica .1 (g, h))
+    lead-right = lead-is-found a b e f (wrong-ids-exact item replica .1 (g, h))
 
     pub lead-number : leadNumber (leadAnswer R s t item replica) ≡ 0
     unfolding leadNumber
@@ -303,25 +276,27 @@ pub data CoverSays (R : Rules) (s t first last : List ℕ) : Cover → Type 0 wh
 -- the equation of each case
 module _ (R : Rules) (s t first last : List ℕ) where
   cover-of : (p q : Parsed Knowledge) → parse R s ≡ p → parse R t ≡ q
-      → coverAnswer R s t first last ≡ refusedOr E.Refused (coverFound (covers (readAs p) (readAs q) (idOf 24 first) (idOf 24 last))) (two p q (wrongSpan first last))
-  unfolding coverAnswer two
-  cover-of p q e f = ap₂ (λ p q. refusedOr E.Refused (coverFound (covers (readAs p) (readAs q) (idOf 24 first) (idOf 24 last))) (two p q (wrongSpan first last))) e f
+      → coverAnswer R s t first last
+      ≡ firstFault E.Refused (ownFault p ∷ ownFault q ∷ line 17 (wrongSpan first last) ∷ []) (coverFound (covers (readAs p) (readAs q) (idOf 24 first) (idOf 24 last)))
+  unfolding coverAnswer
+  cover-of p q e f =
+      ap₂ (λ p q. firstFault E.Refused (ownFault p ∷ ownFault q ∷ line 17 (wrongSpan first last) ∷ []) (coverFound (covers (readAs p) (readAs q) (idOf 24 first) (idOf 24 last)))) e f
 
   cover-is-first : (n : ℕ) → parse R s ≡ refused n → coverAnswer R s t first last ≡ E.Refused n
-  cover-is-first n e = cover-of (refused n) (parse R t) e refl ∙ refused-is E.Refused _ _ n (two-first n (parse R t) (wrongSpan first last))
+  cover-is-first n e = cover-of (refused n) (parse R t) e refl ∙ two-first E.Refused (wrongSpan first last) _ n (parse R t)
 
   cover-is-second : (a : Knowledge) (n : ℕ) → parse R s ≡ accepted a → parse R t ≡ refused n → coverAnswer R s t first last ≡ E.Refused n
-  cover-is-second a n e f = cover-of (accepted a) (refused n) e f ∙ refused-is E.Refused _ _ n (two-second a n (wrongSpan first last))
+  cover-is-second a n e f = cover-of (accepted a) (refused n) e f ∙ two-later E.Refused (wrongSpan first last) _ a (refused n) ∙ one-refused E.Refused (wrongSpan first last) _ n
 
   cover-is-17 : (a b : Knowledge) → parse R s ≡ accepted a → parse R t ≡ accepted b → wrongSpan first last ≡ true → coverAnswer R s t first last ≡ E.Refused 17
   cover-is-17 a b e f g =
-      cover-of (accepted a) (accepted b) e f ∙ refused-is E.Refused _ _ 17 (two-accepted a b (wrongSpan first last) ∙ last-wrong (wrongSpan first last) g)
+      cover-of (accepted a) (accepted b) e f ∙ two-later E.Refused (wrongSpan first last) _ a (accepted b) ∙ one-wrong E.Refused (wrongSpan first last) _ b g
 
   cover-is-found : (a b : Knowledge) → parse R s ≡ accepted a → parse R t ≡ accepted b → wrongSpan first last ≡ false
       → coverAnswer R s t first last ≡ coverFound (covers a b (idOf 24 first) (idOf 24 last))
   unfolding readOr
   cover-is-found a b e f g =
-      cover-of (accepted a) (accepted b) e f ∙ found-is E.Refused _ _ (two-accepted a b (wrongSpan first last) ∙ last-right (wrongSpan first last) g)
+      cover-of (accepted a) (accepted b) e f ∙ two-later E.Refused (wrongSpan first last) _ a (accepted b) ∙ one-right E.Refused (wrongSpan first last) _ b g
 
   pub cover-says : CoverSays R s t first last (coverAnswer R s t first last)
   cover-says = go (parse R s) refl (parse R t) refl (wrongSpan first last) refl

@@ -1,5 +1,5 @@
--- How many replicas and ranges a result has. Where the conditions of normal form hold and each replica of the map is used, the map
--- is the replicas with a tick somewhere; the bounds are 0 and the items at which ticks change, whatever the order of the map. So
+-- How many replicas and ranges a result has. Where the conditions of normal form hold and each replica of the map is used, the
+-- map is the replicas with a tick somewhere; the bounds are 0 and the items at which ticks change, whatever the map's order. So
 -- normalise and project never give 11, and raise never 12 where those conditions hold.
 use Prim.Native.Nat.{ℕ, zero, suc, _+_, _≤_}
 use mathlib.Core.Path.{_≡_, refl, sym, _∙_, ap, subst}
@@ -14,13 +14,13 @@ use Rattle.layout.specs.Knowledge.{Limits, Element, Range, Knowledge, Distinct,
 use Rattle.ticks.specs.Meaning.{highest, tickAt, vectorAt, known, Formed, EachUsed}
 use Rattle.ticks.specs.Table.{at}
 use Rattle.ticks.specs.Operations.{normalise, merge, project, raise, tooManyReplicas, tooManyRanges}
-use Rattle.ticks.proofs.Lists.{Among, less, same, more, order, among?, all-among, among-left, among-right, rising-distinct, rising-above, in-span, below-span, above-span, inside?}
+use Rattle.ticks.proofs.Lists.{Among, less, same, more, order, among?, all-among, among-left, among-right, rising-distinct, rising-above, side-in, side-below, side-above, span-side}
 use Rattle.ticks.proofs.Equality.{eqb-exact, exact?}
 use Rattle.ticks.proofs.Steps.{stepBounds, Changing, at-lt, at-ge, at-here}
 use Rattle.ticks.proofs.Vectors.{vector-unique, tick-none}
 use Rattle.ticks.proofs.Written.{changing-rising}
 use Rattle.ticks.proofs.Unique.{key-known, vectorAt-in-order, vectorAt-keys, replica-known, known-replica}
-use Rattle.ticks.proofs.Rebuilt.{ownSpans, own-vectorAt, FromZero, formed-from-zero}
+use Rattle.ticks.proofs.Rebuilt.{ownSteps, own-vectorAt, FromZero, formed-from-zero}
 use Rattle.ticks.proofs.Operations.{known-steady, known-normalise, normal-normalise, known-merge, normal-merge, known-project, project-steady, known-project-inside, known-project-below, known-project-above, normal-project, known-raise-own, known-raise-other, normal-raise}
 
 -- Counting
@@ -88,10 +88,10 @@ merge-map a b i p h l =
 
 pub project-map : (first last : ℕ) (k : Knowledge) (i p : ℕ) → i ≤ highest → 1 ≤ known (project first last k) i p → Among p (k .replicas)
 project-map first last k i p h l =
-    elim (inside? first last i) [
-      | in-span m n ↦ known-replica k i p (omega (arith, known-project-inside first last k i p h m n))
-      | below-span m ↦ absurd (omega (arith, known-project-below first last k i p h m))
-      | above-span m ↦ absurd (omega (arith, known-project-above first last k i p h m))
+    elim (span-side first last i) [
+      | side-in m n ↦ known-replica k i p (omega (arith, known-project-inside first last k i p h m n))
+      | side-below m ↦ absurd (omega (arith, known-project-below first last k i p h m))
+      | side-above m ↦ absurd (omega (arith, known-project-above first last k i p h m))
     ]
 
 pub raise-map : (q t : ℕ) (k : Knowledge) (i p : ℕ) → i ≤ highest → 1 ≤ known (raise q t k) i p → Among p (q ∷ k .replicas)
@@ -141,8 +141,8 @@ changing-at hi lo v (x ∷ s) i c (inr m) e =
     let h : suc (x .0) ≤ suc i = rising-above (suc (x .0)) (suc i) (stepBounds s) (changing-rising hi (suc (x .0)) (x .1) s (c .1 .1 .1)) m in
     changing-at hi (suc (x .0)) (x .1) s i (c .1 .1 .1) m (sym (at-ge v x s (suc i) (omega arith)) ∙ e ∙ at-ge v x s i (omega arith))
 
-own-bounds : (vs : List (List Element)) (xs : List Range) → bounds xs ≡ stepBounds (ownSpans vs xs)
-unfolding bounds stepBounds ownSpans
+own-bounds : (vs : List (List Element)) (xs : List Range) → bounds xs ≡ stepBounds (ownSteps vs xs)
+unfolding bounds stepBounds ownSteps
 own-bounds vs [] = refl
 own-bounds vs (x ∷ xs) = ap (λ bs. x .bound ∷ bs) (own-bounds vs xs)
 
@@ -172,7 +172,7 @@ bound-changes k i form m f =
     (sym (here (suc i)) ∙ vector-same k (suc i) i form f ∙ here i))
     among
   where
-    z : FromZero (ownSpans (k .vectors) (k .ranges))
+    z : FromZero (ownSteps (k .vectors) (k .ranges))
     z = formed-from-zero k form
 
     here : (j : ℕ) → vectorAt k j ≡ at (z .value) (z .rest) j

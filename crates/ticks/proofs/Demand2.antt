@@ -17,14 +17,14 @@ use Rattle.ticks.specs.Meaning.{known, contains, Normal}
 use Rattle.ticks.specs.Operations.{normalise, merge, tooManyReplicas, tooManyRanges}
 use Rattle.ticks.specs.declared.Contain.{Contain}
 use Rattle.ticks.specs.declared.Contain.the-variants as C
-use Rattle.ticks.specs.Calls.{idOf, wrongPlace, containFound}
-use Rattle.ticks.specs.Demand2.{SameVersions, Written, Normalised, Merged, Demand2}
+use Rattle.ticks.specs.Calls.{idOf, wrongIds, containFound}
+use Rattle.ticks.specs.Demand2.{SameVersions, NormalBytes, Normalised, Merged, Demand2}
 use Rattle.ticks.proofs.Equality.{clash}
 use Rattle.ticks.proofs.Operations.{normal-normalise, normal-merge}
 use Rattle.ticks.proofs.Algebra.{contains-exact, versions-unique, contains-normalise, contains-merge}
 use Rattle.ticks.proofs.LawfulResults.{lawful-normalise, lawful-merge}
 use Rattle.ticks.proofs.Replies.{read-lawful, ResultSays, over-replicas, over-ranges, result-given, NormaliseSays, normalise-own, normalise-result, normalise-says, MergeSays, merge-first, merge-second, merge-result, merge-says}
-use Rattle.ticks.proofs.Answers.{ContainSays, contain-own, contain-17, contain-found, contain-says, place-exact}
+use Rattle.ticks.proofs.Answers.{ContainSays, contain-own, contain-17, contain-found, contain-says, wrong-ids-exact}
 
 pub gave : (n : ℕ) (bs : List ℕ) {A : Type 0} → refuses n ≡ gives bs → A
 gave n bs e = let z : _≡_ {A = ℕ} 0 1 = cc in absurd (omega arith)
@@ -56,14 +56,14 @@ given-result R k bs (result-given e f) q = record { few = e; short = f; bytes = 
 
 module _ (R : Rules) (permitted : Permitted (R .limits)) where
   -- a lawful normal form that was given reads back
-  pub given-written : (k : Knowledge) (bs : List ℕ) → Given R k bs → Lawful R k → Normal k → Written R bs k
-  given-written k bs g l n = record { bytes = g .bytes; back = ap (parse R) (g .bytes) ∙ read-back R permitted k l; normal = n }
+  pub given-normal : (k : Knowledge) (bs : List ℕ) → Given R k bs → Lawful R k → Normal k → NormalBytes R bs k
+  given-normal k bs g l n = record { bytes = g .bytes; back = ap (parse R) (g .bytes) ∙ read-back R permitted k l; form = n }
 
   versions-of : (s item replica : List ℕ) (t : ℕ) (k : Knowledge) → parse R s ≡ accepted k → length item ≡ 24 → length replica ≡ 16
       → {x : Contain} → ContainSays R s item replica t x → (x ≡ C.Contained) ↔ ((1 ≤ t) × (t ≤ known k (beAt item 24 0) (beAt replica 16 0)))
   unfolding idOf
   versions-of s item replica t k e f g (contain-own n h) = not-refused k n (parse R s) e h
-  versions-of s item replica t k e f g (contain-17 a h w) = clash (wrongPlace item replica) w (place-exact item replica .1 (f, g))
+  versions-of s item replica t k e f g (contain-17 a h w) = clash (wrongIds item replica) w (wrong-ids-exact item replica .1 (f, g))
   versions-of s item replica t k e f g (contain-found a h w) =
       let same : a ≡ k = accepted-same a k (parse R s) h e in
       let c = found-contained (contains a (idOf 24 item) (idOf 16 replica) t) in
@@ -80,7 +80,7 @@ module _ (R : Rules) (permitted : Permitted (R .limits)) where
         given = k;
         result = normalise k;
         read = h;
-        written = given-written (normalise k) bs g (lawful-normalise R k (read-lawful R s k permitted b h) (g .short)) (normal-normalise k);
+        normal = given-normal (normalise k) bs g (lawful-normalise R k (read-lawful R s k permitted b h) (g .short)) (normal-normalise k);
         versions = contains-normalise k;
       }
 
@@ -95,8 +95,8 @@ module _ (R : Rules) (permitted : Permitted (R .limits)) where
         result = merge x y;
         first = h;
         second = f;
-        written =
-            given-written (merge x y) bs g
+        normal =
+            given-normal (merge x y) bs g
             (lawful-merge R x y (read-lawful R s x permitted b h) (read-lawful R t y permitted c f) (g .few) (g .short)) (normal-merge x y);
         versions = λ i p v l. contains-merge x y i p v l;
       }

@@ -1,19 +1,20 @@
--- Lawful knowledges are sound. A knowledge that meets the conditions of normal form but for the map's order, with acceptable ids, ticks
--- at most the largest and counts within the limits, is lawful; so is the result of each operation on lawful knowledges, where its counts
--- are within the limits.
+-- Lawful knowledges are sound. A knowledge that meets the conditions of normal form but for the map's order, with acceptable
+-- ids, ticks at most the largest and counts within the limits, is lawful; so is the result of each operation on lawful
+-- knowledges, where its counts are within the limits.
 use Prim.Native.Nat.{ℕ, zero, suc, _+_, _≤_, _<_, _^_}
 use mathlib.Core.Path.{_≡_, refl, sym, ap, subst}
 use mathlib.Core.Logic.{inl, inr, ⊎-elim}
 use mathlib.Core.Bool.{false}
+use mathlib.Core.Option.{none}
 use mathlib.Core.List.{List, [], _∷_, _++_}
-use native.Mathlib.Omega.{arith}
+use native.Mathlib.Omega.{arith, none}
 use lib.Dec.{eqb}
 use lib.ListN.{length, getD}
 use Rattle.layout.specs.Knowledge.{Rules, largestTick, Element, Range, Knowledge, All, Rising, keys, bounds, Lawful}
 use Rattle.layout.proofs.Parts.{LawfulId, LawfulElement, LawfulVector, LawfulRange, parts, whole}
-use Rattle.ticks.specs.Meaning.{highest, placeBy, tickAt, vectorAt, indexAt, known, indices, Sound, Formed, EachUsed, emptyKnowledge}
+use Rattle.ticks.specs.Meaning.{highest, placeBy, tickAt, vectorAt, known, indices, Sound, Formed, EachUsed, emptyKnowledge, indexFrom}
 use Rattle.ticks.specs.Operations.{normalise, merge, project, raise, tooManyReplicas, tooManyRanges}
-use Rattle.ticks.proofs.Lists.{Among, among?, all-among, among-all, among-cases, rising-distinct, rising-above, in-span, below-span, above-span, inside?}
+use Rattle.ticks.proofs.Lists.{Among, among?, all-among, among-all, among-cases, rising-distinct, rising-above, side-in, side-below, side-above, span-side}
 use Rattle.ticks.proofs.Equality.{eqb-exact, exact?}
 use Rattle.ticks.proofs.Canonical.{highest-suc}
 use Rattle.ticks.proofs.Vectors.{keys-length, tick-nil, tick-same, tick-other}
@@ -21,7 +22,7 @@ use Rattle.ticks.proofs.Numbering.{indices-length}
 use Rattle.ticks.proofs.FirstUse.{met-count}
 use Rattle.ticks.proofs.Written.{known-in, known-out}
 use Rattle.ticks.proofs.Rebuilt.{used-index, order-first}
-use Rattle.ticks.proofs.Unique.{all-get, get-in-order, key-known, index-bound, replica-known}
+use Rattle.ticks.proofs.Unique.{all-get, get-in-order, found-all, key-known, vector-bound, replica-known}
 use Rattle.ticks.proofs.Operations.{known-normalise, normal-normalise, known-merge, normal-merge, known-project-inside, known-project-below, known-project-above, normal-project, known-raise-own, known-raise-other, normal-raise}
 use Rattle.ticks.proofs.Counts.{normalise-map, merge-map, project-map, raise-map, replicas-fit, ranges-fit, normalise-never-11, project-never-11}
 
@@ -61,8 +62,8 @@ lawful-items v (x ∷ xs) a = (below-top (x .bound) (a .0 .size), lawful-items v
 pub lawful-sound : (R : Rules) (k : Knowledge) → Lawful R k → Sound k
 lawful-sound R k l = record {
   distinct = l .distinct;
-  keys = lawful-keys (length (k .replicas)) (k .vectors) (parts R k l .clocks);
-  indices = lawful-indices (length (k .vectors)) (k .ranges) (parts R k l .spans);
+  keysBelow = lawful-keys (length (k .replicas)) (k .vectors) (parts R k l .clocks);
+  indicesBelow = lawful-indices (length (k .vectors)) (k .ranges) (parts R k l .spans);
   rising = l .rising;
   items = lawful-items (length (k .vectors)) (k .ranges) (parts R k l .spans);
 }
@@ -77,10 +78,9 @@ ticks-most r (x ∷ xs) key a =
       | inr n ↦ omega (arith, tick-other x xs key n, ticks-most r xs key (a .1))
     ]
 
-vectors-most : (r : ℕ) (vs : List (List Element)) (n key : ℕ) → All (LawfulVector r) vs → tickAt (getD vs n []) key ≤ largestTick
-vectors-most r [] n key a = omega (arith, tick-nil key)
-vectors-most r (es ∷ vs) zero key a = ticks-most r es key (a .0 .elements)
-vectors-most r (es ∷ vs) (suc n) key a = vectors-most r vs n key (a .1)
+vectors-most : (r : ℕ) (vs : List (List Element)) (key : ℕ) → All (LawfulVector r) vs → All (λ es. tickAt es key ≤ largestTick) vs
+vectors-most r [] key a = tt
+vectors-most r (es ∷ vs) key a = (ticks-most r es key (a .0 .elements), vectors-most r vs key (a .1))
 
 pub lawful-ticks : (R : Rules) (k : Knowledge) (i p : ℕ) → Lawful R k → known k i p ≤ largestTick
 unfolding vectorAt
@@ -90,7 +90,9 @@ lawful-ticks R k i p l =
           omega (
             arith,
             known-in k i p m,
-            vectors-most (length (k .replicas)) (k .vectors) (indexAt (length (k .vectors)) (k .ranges) i) (placeBy eqb p (k .replicas)) (parts R k l .clocks),
+            found-all (λ es. tickAt es (placeBy eqb p (k .replicas)) ≤ largestTick) (k .vectors) (indexFrom none (k .ranges) i)
+                (vectors-most (length (k .replicas)) (k .vectors) (placeBy eqb p (k .replicas)) (parts R k l .clocks))
+                (omega (arith, tick-nil (placeBy eqb p (k .replicas)))),
           )
       | inr n ↦ omega (arith, known-out k i p n)
     ]
@@ -125,22 +127,20 @@ nothing-below : (m : ℕ) (es : List Element) → es ≡ [] → All (λ x. x .ti
 nothing-below m es e = subst (All (λ x. x .tick ≤ m)) (sym e) tt
 
 pub formed-ticks : (k : Knowledge) (m : ℕ) → Formed k → ((i p : ℕ) → i ≤ highest → known k i p ≤ m) → All (All (λ x. x .tick ≤ m)) (k .vectors)
-unfolding vectorAt
 formed-ticks k m form f = all-by-get (All (λ x. x .tick ≤ m)) [] (k .vectors) each
   where
     each : (y : ℕ) → y < length (k .vectors) → All (λ x. x .tick ≤ m) (getD (k .vectors) y [])
     each zero h = nothing-below m (getD (k .vectors) 0 []) (form .emptyFirst)
     each (suc y) h =
-        let w = index-bound 0 (length (k .vectors)) (k .ranges) (suc y) (form .sound .rising) (used-index k (suc y) form (omega arith) h) in
-        let e : vectorAt k (w .0) ≡ getD (k .vectors) (suc y) [] = ap (λ z. getD (k .vectors) z []) (w .1 .1) in
+        let w = vector-bound k (suc y) (form .sound) (used-index k (suc y) form (omega arith) h) in
         let b : w .0 ≤ highest = all-among (λ b. b ≤ highest) (bounds (k .ranges)) (form .sound .items) (w .0) (w .1 .0) in
         elements-most m 0 (getD (k .vectors) (suc y) [])
         (get-in-order k (suc y) form .rising)
         (λ key o.
         let l : key < length (k .replicas) =
         keys-below (length (k .replicas)) (getD (k .vectors) (suc y) []) key
-        (all-get (All (λ x. x .key .0 < length (k .replicas))) [] (k .vectors) (suc y) (form .sound .keys) tt) o in
-        omega (arith, f (w .0) (getD (k .replicas) key 0) b, key-known k (w .0) key (form .sound) l, ap (λ v. tickAt v key) e))
+        (all-get (All (λ x. x .key .0 < length (k .replicas))) [] (k .vectors) (suc y) (form .sound .keysBelow) tt) o in
+        omega (arith, f (w .0) (getD (k .replicas) key 0) b, key-known k (w .0) key (form .sound) l, ap (λ v. tickAt v key) (w .1 .1)))
 
 -- Within the limits it is lawful
 
@@ -201,10 +201,10 @@ lawful-formed R k form ids ticks few short =
       someVector = form .someVector;
       vectors = omega (arith, formed-vectors k form);
       first = form .emptyFirst;
-      clocks = lawful-vectors (length (k .replicas)) (k .vectors) (form .sound .keys) (form .elements) (formed-ticks k largestTick form ticks);
+      clocks = lawful-vectors (length (k .replicas)) (k .vectors) (form .sound .keysBelow) (form .elements) (formed-ticks k largestTick form ticks);
       someRange = some-range (k .ranges) (form .firstRange);
       ranges = g;
-      spans = lawful-ranges (length (k .vectors)) (k .ranges) (form .sound .indices) (form .sound .items);
+      spans = lawful-ranges (length (k .vectors)) (k .ranges) (form .sound .indicesBelow) (form .sound .items);
       rising = form .sound .rising;
     })
 
@@ -239,10 +239,10 @@ lawful-project R first last k l short =
     lawful-formed R (project first last k) (normal-project first last k .formed)
     (from-known R (project first last k) (k .replicas) (normal-project first last k .formed) (normal-project first last k .used) (project-map first last k) (λ p m. lawful-id R k p l m))
     (λ i p h.
-    elim (inside? first last i) [
-      | in-span m n ↦ omega (arith, known-project-inside first last k i p h m n, lawful-ticks R k i p l)
-      | below-span m ↦ omega (arith, known-project-below first last k i p h m)
-      | above-span m ↦ omega (arith, known-project-above first last k i p h m)
+    elim (span-side first last i) [
+      | side-in m n ↦ omega (arith, known-project-inside first last k i p h m n, lawful-ticks R k i p l)
+      | side-below m ↦ omega (arith, known-project-below first last k i p h m)
+      | side-above m ↦ omega (arith, known-project-above first last k i p h m)
     ])
     (project-never-11 (R .limits) first last k (l .replicas)) short
 
