@@ -20,8 +20,8 @@ pub mod Largest
 pub mod Counts
 pub mod LawfulResults
 pub mod ForCover
+pub mod Meaning
 pub mod Replies
 pub mod Answers
 pub mod Demand2
 pub mod Results
-pub mod Meaning

@@ -19,34 +19,35 @@ use Rattle.ticks.specs.declared.Lead.the-variants as D
 use Rattle.ticks.specs.declared.Cover.{Cover}
 use Rattle.ticks.specs.declared.Cover.the-variants as E
 
--- the number of each answer, 0 where nothing is refused, and its value
+-- the number of each answer, 0 where nothing is refused; and its value, from the value before the call, which stays on a
+-- refusal
 unfoldable pub containNumber : Contain → ℕ
 containNumber C.Contained = 0
 containNumber C.Lacking = 0
 containNumber (C.Refused n) = n
 
-unfoldable pub containValue : Contain → ℕ
-containValue C.Contained = 1
-containValue C.Lacking = 0
-containValue (C.Refused n) = 0
+unfoldable pub containValue : Contain → ℕ → ℕ
+containValue C.Contained old = 1
+containValue C.Lacking old = 0
+containValue (C.Refused n) old = old
 
 unfoldable pub leadNumber : Lead → ℕ
 leadNumber (D.Ahead x) = 0
 leadNumber (D.Refused n) = n
 
-unfoldable pub leadValue : Lead → ℤ
-leadValue (D.Ahead x) = x
-leadValue (D.Refused n) = pos 0
+unfoldable pub leadValue : Lead → ℤ → ℤ
+leadValue (D.Ahead x) old = x
+leadValue (D.Refused n) old = old
 
 unfoldable pub coverNumber : Cover → ℕ
 coverNumber E.Covers = 0
 coverNumber E.Lacks = 0
 coverNumber (E.Refused n) = n
 
-unfoldable pub coverValue : Cover → ℕ
-coverValue E.Covers = 1
-coverValue E.Lacks = 0
-coverValue (E.Refused n) = 0
+unfoldable pub coverValue : Cover → ℕ → ℕ
+coverValue E.Covers old = 1
+coverValue E.Lacks old = 0
+coverValue (E.Refused n) old = old
 
 -- an item id of 24 bytes or a replica id of 16, as a number
 unfoldable pub idOf : ℕ → List ℕ → ℕ

@@ -7,8 +7,8 @@ use Rattle.codec.specs.Reply.{gives}
 use Rattle.layout.specs.Knowledge.{Rules, Knowledge, Lawful, encode}
 use Rattle.layout.specs.Parse.{accepted, parse}
 use Rattle.ticks.specs.Meaning.{highest, known, contains, Normal}
-use Rattle.ticks.specs.declared.Contain.the-variants as C
-use Rattle.ticks.specs.Calls.{containAnswer, normaliseReply, mergeReply}
+use Rattle.ticks.specs.Calls.{containNumber, containValue, containAnswer, normaliseReply, mergeReply}
+use Rattle.ticks.specs.Answers.{Decides}
 
 pub record SameVersions (a b : Knowledge) : Type 0 where
   pub both : (i p t : ℕ) → i ≤ highest → contains a i p t ≡ contains b i p t
@@ -44,7 +44,8 @@ pub record Demand2 (R : Rules) : Type 0 where
       → (parse R s ≡ accepted k) ↔ ((s ≡ encode k) × Lawful R k)
   pub versions : (s item replica : List ℕ) (t : ℕ) (k : Knowledge) → parse R s ≡ accepted k
       → length item ≡ 24 → length replica ≡ 16
-      → (containAnswer R s item replica t ≡ C.Contained) ↔ ((1 ≤ t) × (t ≤ known k (beAt item 24 0) (beAt replica 16 0)))
+      → Decides containNumber containValue (containAnswer R s item replica t)
+      ((1 ≤ t) × (t ≤ known k (beAt item 24 0) (beAt replica 16 0)))
   pub equal : (s t : List ℕ) (a b : Knowledge) → Bytes s → Bytes t → parse R s ≡ accepted a → parse R t ≡ accepted b
       → Normal a → Normal b → SameVersions a b ↔ (s ≡ t)
   pub normalised : (s bs : List ℕ) → Bytes s → normaliseReply R s ≡ gives bs → Normalised R s bs
