@@ -76,15 +76,18 @@ module _ (R : Rules) (permitted : Permitted (R .limits)) where
         normal =
             given-normal (merge x y) bs g
             (lawful-merge R x y (read-lawful R s x permitted b h) (read-lawful R t y permitted c f) (g .few) (g .short)) (normal-merge x y);
-        versions = λ i p v l. contains-merge x y i p v l;
+        versions = λ i p v l small. contains-merge x y i p v l;
       }
 
   equal-of : (s t : List ℕ) (a b : Knowledge) → Bytes s → Bytes t → parse R s ≡ accepted a → parse R t ≡ accepted b → Normal a → Normal b
       → SameVersions a b ↔ (s ≡ t)
-  equal-of s t a b x y e f n m = (
-    (λ v. exact R permitted s a x .0 e .0 ∙ ap encode (versions-unique a b n m .0 v) ∙ sym (exact R permitted t b y .0 f .0)),
-    (λ q. versions-unique a b n m .1 (accepted-same a b (parse R t) (ap (parse R) (sym q) ∙ e) f)),
-  )
+  equal-of s t a b x y e f n m =
+      let own = exact R permitted s a x .0 e in
+      let its = exact R permitted t b y .0 f in
+      let law = versions-unique a b (own .1 .ids) (its .1 .ids) n m in (
+        (λ v. own .0 ∙ ap encode (law .0 v) ∙ sym (its .0)),
+        (λ q. law .1 (accepted-same a b (parse R t) (ap (parse R) (sym q) ∙ e) f)),
+      )
 
   pub demand2 : Demand2 R
   demand2 = record {

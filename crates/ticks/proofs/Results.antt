@@ -58,7 +58,7 @@ module _ (R : Rules) (permitted : Permitted (R .limits)) where
             given-normal R permitted k′ bs g
             (lawful-project R (idOf 24 first) (idOf 24 last) k (read-lawful R s k permitted b h) (g .short))
             (normal-project (idOf 24 first) (idOf 24 last) k);
-        ticks = λ i p l. known-project (idOf 24 first) (idOf 24 last) k i p l;
+        ticks = λ i p l small. known-project (idOf 24 first) (idOf 24 last) k i p l;
       }
 
   pub results : Results R

@@ -1,7 +1,7 @@
 -- Demand 2, in its own words: "Knowledge bytes are accepted exactly by the published layout and our limits, and contain
 -- exactly the versions it says. Normal forms are equal exactly when they contain the same versions, and reading one back
 -- gives what was written. Merged knowledge contains a version exactly when either input did."
-use Rattle.codec.specs.Prelude.{ℕ, _≤_, _≡_, _⊎_, _↔_, true, List, length}
+use Rattle.codec.specs.Prelude.{ℕ, _^_, _≤_, _<_, _≡_, _⊎_, _↔_, true, List, length}
 use Rattle.codec.specs.Number.{Bytes, beAt}
 use Rattle.codec.specs.Reply.{gives}
 use Rattle.layout.specs.Knowledge.{Rules, Knowledge, Lawful, encode}
@@ -10,8 +10,9 @@ use Rattle.ticks.specs.Meaning.{highest, known, contains, Normal}
 use Rattle.ticks.specs.Calls.{containNumber, containValue, containAnswer, normaliseReply, mergeReply}
 use Rattle.ticks.specs.Answers.{Decides}
 
+-- the same versions are contained: for every item id of 24 bytes, replica id of 16 bytes and tick
 pub record SameVersions (a b : Knowledge) : Type 0 where
-  pub both : (i p t : ℕ) → i ≤ highest → contains a i p t ≡ contains b i p t
+  pub both : (i p t : ℕ) → i ≤ highest → p < 256 ^ 16 → contains a i p t ≡ contains b i p t
 
 -- bs are the bytes of k, which is in normal form, and reading them back gives k
 pub record NormalBytes (R : Rules) (bs : List ℕ) (k : Knowledge) : Type 0 where
@@ -35,7 +36,7 @@ pub record Merged (R : Rules) (s t bs : List ℕ) : Type 0 where
   pub first : parse R s ≡ accepted one
   pub second : parse R t ≡ accepted other
   pub normal : NormalBytes R bs result
-  pub versions : (i p v : ℕ) → i ≤ highest
+  pub versions : (i p v : ℕ) → i ≤ highest → p < 256 ^ 16
       → (contains result i p v ≡ true) ↔ ((contains one i p v ≡ true) ⊎ (contains other i p v ≡ true))
 
 -- the five claims of the demand, one after the other

@@ -1,6 +1,6 @@
 -- What demand 2 leaves unsaid of the calls that write: what project writes, and that normalise leaves a normal form as it
 -- is.
-use Rattle.codec.specs.Prelude.{ℕ, _≤_, _≡_, _↔_, List}
+use Rattle.codec.specs.Prelude.{ℕ, _^_, _≤_, _<_, _≡_, _↔_, List}
 use Rattle.codec.specs.Number.{Bytes}
 use Rattle.codec.specs.Reply.{gives}
 use Rattle.layout.specs.Knowledge.{Rules, Knowledge}
@@ -16,7 +16,8 @@ pub record Projected (R : Rules) (s first last bs : List ℕ) : Type 0 where
   pub result : Knowledge
   pub read : parse R s ≡ accepted given
   pub normal : NormalBytes R bs result
-  pub ticks : (i p : ℕ) → i ≤ highest → known result i p ≡ knownInside (idOf 24 first) (idOf 24 last) given i p
+  pub ticks : (i p : ℕ) → i ≤ highest → p < 256 ^ 16
+      → known result i p ≡ knownInside (idOf 24 first) (idOf 24 last) given i p
 
 pub record Results (R : Rules) : Type 0 where
   -- being in normal form is being what normalise writes
