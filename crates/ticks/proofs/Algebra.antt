@@ -52,21 +52,33 @@ abbrev pub IdsOf16 : Knowledge → Type 0
 IdsOf16 k = All (λ id. id < 256 ^ 16) (k .replicas)
 
 -- then another number has no tick: only for these ids need two knowledges be compared
-at-most : (a b : Knowledge) (i p : ℕ) → IdsOf16 a → (p < 256 ^ 16 → (t : ℕ) → contains a i p t ≡ contains b i p t) → known a i p ≤ known b i p
-at-most a b i p ids f =
+pub ticks-of-16 : (a b : Knowledge) → IdsOf16 a → IdsOf16 b → ((i p : ℕ) → i ≤ highest → p < 256 ^ 16 → known a i p ≡ known b i p) → SameTicks a b
+ticks-of-16 a b x y f = record {
+  known = λ i p h.
+      elim (order (known a i p) 0) [
+        | less k ↦ absurd (omega arith)
+        | same k ↦
+            elim (order (known b i p) 0) [
+              | less l ↦ absurd (omega arith)
+              | same l ↦ k ∙ sym l
+              | more l ↦ f i p h (all-among (λ id. id < 256 ^ 16) (b .replicas) y p (known-replica b i p l))
+            ]
+        | more k ↦ f i p h (all-among (λ id. id < 256 ^ 16) (a .replicas) x p (known-replica a i p k))
+      ];
+}
+
+at-most : (a b : Knowledge) (i p : ℕ) → ((t : ℕ) → contains a i p t ≡ contains b i p t) → known a i p ≤ known b i p
+at-most a b i p f =
     elim (order (known a i p) 0) [
       | less h ↦ absurd (omega arith)
       | same h ↦ omega arith
-      | more h ↦
-          let small : p < 256 ^ 16 = all-among (λ id. id < 256 ^ 16) (a .replicas) ids p (known-replica a i p h) in
-          contains-exact b i p (known a i p) .0 (sym (f small (known a i p)) ∙ contains-yes a i p (known a i p) h (omega arith)) .1
+      | more h ↦ contains-exact b i p (known a i p) .0 (sym (f (known a i p)) ∙ contains-yes a i p (known a i p) h (omega arith)) .1
     ]
 
 pub versions-ticks : (a b : Knowledge) → IdsOf16 a → IdsOf16 b → SameVersions a b → SameTicks a b
-versions-ticks a b x y s = record {
-  known = λ i p h.
-      omega (arith, at-most a b i p x (λ small t. s .both i p t h small), at-most b a i p y (λ small t. sym (s .both i p t h small)));
-}
+versions-ticks a b x y s =
+    ticks-of-16 a b x y
+    (λ i p h small. omega (arith, at-most a b i p (λ t. s .both i p t h small), at-most b a i p (λ t. sym (s .both i p t h small))))
 
 pub ticks-versions : (a b : Knowledge) → SameTicks a b → SameVersions a b
 unfolding contains

@@ -24,4 +24,5 @@ pub mod Meaning
 pub mod Replies
 pub mod Answers
 pub mod Demand2
+pub mod Settled
 pub mod Results
