@@ -1,5 +1,6 @@
--- What contain, lead and cover answer, case by case: the number and the value of the answer, in the document's own terms: lengths,
--- ids and known ticks. Each table is walked line by line with codec's laws, and what is found is exact by the laws of known ticks.
+-- What contain, lead and cover answer, case by case: the number and the value of the answer, in the document's own terms:
+-- lengths, ids and known ticks. Each table is walked line by line with codec's laws, and what is found is exact by the laws of
+-- known ticks.
 use Prim.Native.Nat.{ℕ, zero, suc, _-_, _≤_, _<_}
 use mathlib.Core.Path.{_≡_, refl, _∙_, ap}
 use mathlib.Core.Logic.{_↔_}
@@ -27,7 +28,7 @@ use Rattle.ticks.specs.declared.Lead.the-variants as D
 use Rattle.ticks.specs.declared.Cover.{Cover}
 use Rattle.ticks.specs.declared.Cover.the-variants as E
 use Rattle.ticks.specs.Calls.{containNumber, containValue, leadNumber, leadValue, coverNumber, coverValue, idOf, readAs, line, ownFault, wrongLength, wrongIds, wrongSpan, containFound, coverFound, containAnswer, leadOf, leadAnswer, coverAnswer}
-use Rattle.ticks.specs.Answers.{RefusedWith, Decides, ContainSays, Difference, LeadSays, AtLeast, CoverSays, Answers}
+use Rattle.ticks.specs.Answers.{RefusedWith, Decides, ContainSays, Difference, LeadSays, AtLeast, ProperIds, ProperSpan, CoverSays, Answers}
 use Rattle.ticks.proofs.Lists.{less, same, more, order}
 use Rattle.ticks.proofs.Equality.{clash}
 use Rattle.ticks.proofs.Replies.{read-lawful}
@@ -45,7 +46,7 @@ pub length-exact : (n : ℕ) (s : List ℕ) → (wrongLength n s ≡ false) ↔ 
 unfolding wrongLength
 length-exact n s = ((λ e. eqb-true (length s) n (not-false (eqb (length s) n) e)), (λ e. ap not (eq-eqb (length s) n e)))
 
-pub wrong-ids-exact : (item replica : List ℕ) → (wrongIds item replica ≡ false) ↔ ((length item ≡ 24) × (length replica ≡ 16))
+pub wrong-ids-exact : (item replica : List ℕ) → (wrongIds item replica ≡ false) ↔ ProperIds item replica
 unfolding wrongIds
 wrong-ids-exact item replica =
     let w = neither (wrongLength 24 item) (wrongLength 16 replica) in (
@@ -53,7 +54,7 @@ wrong-ids-exact item replica =
       (λ e. w .1 (length-exact 24 item .1 (e .0), length-exact 16 replica .1 (e .1))),
     )
 
-pub span-exact : (first last : List ℕ) → (wrongSpan first last ≡ false) ↔ ((length first ≡ 24) × ((length last ≡ 24) × (beAt first 24 0 ≤ beAt last 24 0)))
+pub span-exact : (first last : List ℕ) → (wrongSpan first last ≡ false) ↔ ProperSpan first last
 unfolding wrongSpan idOf
 span-exact first last =
     let v = neither (wrongLength 24 first) (wrongLength 24 last || ltb (beAt last 24 0) (beAt first 24 0)) in
@@ -117,7 +118,8 @@ module _ {A : Type 0} (number : A → ℕ) (value : A → ℕ → ℕ) (found : 
 
 contain-decides : (b : Bool) (P : Type 0) → (b ≡ true) ↔ P → Decides containNumber containValue (containFound b) P
 unfolding containNumber containValue containFound
-contain-decides = decides containNumber containValue containFound (λ b. elim b [ true ↦ refl | false ↦ refl ]) (λ old. refl) (λ old. refl)
+contain-decides =
+    decides containNumber containValue containFound (λ b. elim b [ true ↦ refl | false ↦ refl ]) (λ old. refl) (λ old. refl)
 
 cover-decides : (b : Bool) (P : Type 0) → (b ≡ true) ↔ P → Decides coverNumber coverValue (coverFound b) P
 unfolding coverNumber coverValue coverFound
@@ -152,11 +154,13 @@ module _ (R : Rules) (s item replica : List ℕ) (t : ℕ) where
   contain-says = record {
     own = λ n e. contain-refused _ n (contain-is ∙ one-refused C.Refused (wrongIds item replica) contain-here (parse R s) n e);
     ids = λ k e f.
-        contain-refused _ 17
-        (contain-is ∙ one-wrong C.Refused (wrongIds item replica) contain-here (parse R s) k e (no-false (wrongIds item replica) (λ w. f (wrong-ids-exact item replica .0 w))));
-    found = λ k e f g.
-        rw (contain-is ∙ one-right C.Refused (wrongIds item replica) contain-here (parse R s) k e (wrong-ids-exact item replica .1 (f, g)))
-        (contain-decides (contains k (beAt item 24 0) (beAt replica 16 0) t) ((1 ≤ t) × (t ≤ known k (beAt item 24 0) (beAt replica 16 0)))
+        let wrong = no-false (wrongIds item replica) (λ w. f (wrong-ids-exact item replica .0 w)) in
+        contain-refused _ 17 (contain-is ∙ one-wrong C.Refused (wrongIds item replica) contain-here (parse R s) k e wrong);
+    found = λ k e f.
+        let right = wrong-ids-exact item replica .1 f in
+        rw (contain-is ∙ one-right C.Refused (wrongIds item replica) contain-here (parse R s) k e right)
+        (contain-decides (contains k (beAt item 24 0) (beAt replica 16 0) t)
+        ((1 ≤ t) × (t ≤ known k (beAt item 24 0) (beAt replica 16 0)))
         (contains-exact k (beAt item 24 0) (beAt replica 16 0) t));
   }
 
@@ -191,17 +195,23 @@ module _ (R : Rules) (s t item replica : List ℕ) where
   unfolding leadAnswer two lead-here idOf
   lead-is = refl
 
-  lead-later : (a : Knowledge) → parse R s ≡ accepted a → leadAnswer R s t item replica ≡ one D.Refused (wrongIds item replica) (lead-here a) (parse R t)
+  lead-later : (a : Knowledge) → parse R s ≡ accepted a
+      → leadAnswer R s t item replica ≡ one D.Refused (wrongIds item replica) (lead-here a) (parse R t)
   lead-later a e = lead-is ∙ two-later D.Refused (wrongIds item replica) lead-here (parse R s) (parse R t) a e
 
   pub lead-says : LeadSays R s t item replica (leadAnswer R s t item replica)
   unfolding lead-here
   lead-says = record {
     one = λ n e. lead-refused _ n (lead-is ∙ two-first D.Refused (wrongIds item replica) lead-here (parse R s) (parse R t) n e);
-    other = λ a n e f. lead-refused _ n (lead-later a e ∙ one-refused D.Refused (wrongIds item replica) (lead-here a) (parse R t) n f);
+    other = λ a n e f.
+        lead-refused _ n (lead-later a e ∙ one-refused D.Refused (wrongIds item replica) (lead-here a) (parse R t) n f);
     ids = λ a b e f g.
-        lead-refused _ 17 (lead-later a e ∙ one-wrong D.Refused (wrongIds item replica) (lead-here a) (parse R t) b f (no-false (wrongIds item replica) (λ w. g (wrong-ids-exact item replica .0 w))));
-    found = λ a b e f g h. rw (lead-later a e ∙ one-right D.Refused (wrongIds item replica) (lead-here a) (parse R t) b f (wrong-ids-exact item replica .1 (g, h))) (lead-difference a b (beAt item 24 0) (beAt replica 16 0));
+        let wrong = no-false (wrongIds item replica) (λ w. g (wrong-ids-exact item replica .0 w)) in
+        lead-refused _ 17 (lead-later a e ∙ one-wrong D.Refused (wrongIds item replica) (lead-here a) (parse R t) b f wrong);
+    found = λ a b e f g.
+        let right = wrong-ids-exact item replica .1 g in
+        rw (lead-later a e ∙ one-right D.Refused (wrongIds item replica) (lead-here a) (parse R t) b f right)
+        (lead-difference a b (beAt item 24 0) (beAt replica 16 0));
   }
 
 -- Cover
@@ -229,20 +239,24 @@ module _ (R : Rules) (s t first last : List ℕ) where
   unfolding coverAnswer two cover-here idOf
   cover-is = refl
 
-  cover-later : (a : Knowledge) → parse R s ≡ accepted a → coverAnswer R s t first last ≡ one E.Refused (wrongSpan first last) (cover-here a) (parse R t)
+  cover-later : (a : Knowledge) → parse R s ≡ accepted a
+      → coverAnswer R s t first last ≡ one E.Refused (wrongSpan first last) (cover-here a) (parse R t)
   cover-later a e = cover-is ∙ two-later E.Refused (wrongSpan first last) cover-here (parse R s) (parse R t) a e
 
   pub cover-says : Permitted (R .limits) → CoverSays R s t first last (coverAnswer R s t first last)
   unfolding cover-here
   cover-says permitted = record {
     one = λ n e. cover-refused _ n (cover-is ∙ two-first E.Refused (wrongSpan first last) cover-here (parse R s) (parse R t) n e);
-    other = λ a n e f. cover-refused _ n (cover-later a e ∙ one-refused E.Refused (wrongSpan first last) (cover-here a) (parse R t) n f);
+    other = λ a n e f.
+        cover-refused _ n (cover-later a e ∙ one-refused E.Refused (wrongSpan first last) (cover-here a) (parse R t) n f);
     span = λ a b e f g.
-        cover-refused _ 17 (cover-later a e ∙ one-wrong E.Refused (wrongSpan first last) (cover-here a) (parse R t) b f (no-false (wrongSpan first last) (λ w. g (span-exact first last .0 w))));
+        let wrong = no-false (wrongSpan first last) (λ w. g (span-exact first last .0 w)) in
+        cover-refused _ 17 (cover-later a e ∙ one-wrong E.Refused (wrongSpan first last) (cover-here a) (parse R t) b f wrong);
     found = λ a b octets e f g.
         let c = covers-exact a b (beAt first 24 0) (beAt last 24 0) in
         let d = at-least R a b (beAt first 24 0) (beAt last 24 0) (read-lawful R t b permitted octets f) in
-        rw (cover-later a e ∙ one-right E.Refused (wrongSpan first last) (cover-here a) (parse R t) b f (span-exact first last .1 g))
+        let right = span-exact first last .1 g in
+        rw (cover-later a e ∙ one-right E.Refused (wrongSpan first last) (cover-here a) (parse R t) b f right)
         (cover-decides (covers a b (beAt first 24 0) (beAt last 24 0)) (AtLeast a b (beAt first 24 0) (beAt last 24 0))
         ((λ q. d .0 (c .0 q)), (λ q. c .1 (d .1 q))));
   }

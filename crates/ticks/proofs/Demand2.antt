@@ -92,7 +92,7 @@ module _ (R : Rules) (permitted : Permitted (R .limits)) where
   pub demand2 : Demand2 R
   demand2 = record {
     layout = λ s k b. exact R permitted s k b;
-    versions = λ s item replica t k e f g. contain-says R s item replica t .found k e f g;
+    versions = λ s item replica t k e f g. contain-says R s item replica t .found k e (f, g);
     equal = equal-of;
     normalised = λ s bs b q. normalised-of s bs b (normalise-says R s) q;
     merged = λ s t bs b c q. merged-of s t bs b c (merge-says R s t) q;

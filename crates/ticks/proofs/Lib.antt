@@ -1,4 +1,5 @@
 -- The laws of known ticks, normal form and the operations on knowledge.
+pub mod NotNormal
 pub mod Lists
 pub mod Equality
 pub mod Steps

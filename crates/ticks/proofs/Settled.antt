@@ -9,7 +9,6 @@ use mathlib.Core.Bool.{Bool, true, false}
 use mathlib.Core.List.{List}
 use native.Mathlib.Omega.{arith}
 use lib.Dec.{eqb}
-use lib.ListN.{length}
 use Rattle.codec.specs.Number.{Bytes, beAt}
 use Rattle.layout.specs.Knowledge.{Rules, Knowledge, encode}
 use Rattle.layout.specs.Permitted.{Permitted}
@@ -21,7 +20,7 @@ use Rattle.ticks.specs.Calls.{containNumber, containValue, leadNumber, l
 use Rattle.ticks.specs.declared.Contain.{Contain}
 use Rattle.ticks.specs.declared.Lead.{Lead}
 use Rattle.ticks.specs.declared.Cover.{Cover}
-use Rattle.ticks.specs.Answers.{RefusedWith, Decides, ContainSays, Difference, LeadSays, AtLeast, ProperSpan, CoverSays}
+use Rattle.ticks.specs.Answers.{RefusedWith, Decides, ContainSays, Difference, LeadSays, AtLeast, ProperIds, ProperSpan, CoverSays}
 use Rattle.ticks.specs.Demand2.{SameVersions, NormalBytes, Normalised, Merged}
 use Rattle.ticks.specs.Results.{Projected}
 use Rattle.ticks.proofs.Equality.{clash, eqb-exact, exact?}
@@ -47,18 +46,21 @@ versions-settle a b c d e f g = record {
 }
 
 abbrev Either : Knowledge → Knowledge → Knowledge → Type 0
-Either a c d = (i p t : ℕ) → i ≤ highest → p < 256 ^ 16 → (contains a i p t ≡ true) ↔ ((contains c i p t ≡ true) ⊎ (contains d i p t ≡ true))
+Either a c d = (i p t : ℕ) → i ≤ highest → p < 256 ^ 16
+    → (contains a i p t ≡ true) ↔ ((contains c i p t ≡ true) ⊎ (contains d i p t ≡ true))
 
 either-settle : (a b c d : Knowledge) → Either a c d → Either b c d → SameVersions a b
 either-settle a b c d f g = record {
   both = λ i p t h small.
-      same-truth (contains a i p t) (contains b i p t) ((contains c i p t ≡ true) ⊎ (contains d i p t ≡ true)) (f i p t h small) (g i p t h small);
+      same-truth (contains a i p t) (contains b i p t) ((contains c i p t ≡ true) ⊎ (contains d i p t ≡ true))
+      (f i p t h small) (g i p t h small);
 }
 
 abbrev Inside : ℕ → ℕ → Knowledge → Knowledge → Type 0
 Inside first last a c = (i p : ℕ) → i ≤ highest → p < 256 ^ 16 → known a i p ≡ knownInside first last c i p
 
-inside-settle : (first last : ℕ) (a b c : Knowledge) → IdsOf16 a → IdsOf16 b → Inside first last a c → Inside first last b c → SameTicks a b
+inside-settle : (first last : ℕ) (a b c : Knowledge) → IdsOf16 a → IdsOf16 b
+    → Inside first last a c → Inside first last b c → SameTicks a b
 inside-settle first last a b c x y f g = ticks-of-16 a b x y (λ i p h small. f i p h small ∙ sym (g i p h small))
 
 module _ (R : Rules) (permitted : Permitted (R .limits)) where
@@ -71,9 +73,10 @@ module _ (R : Rules) (permitted : Permitted (R .limits)) where
 
   pub normalised-settled : (s bs cs : List ℕ) → Normalised R s bs → Normalised R s cs → bs ≡ cs
   normalised-settled s bs cs x y =
+      let e : x .given ≡ y .given = accepted-same (x .given) (y .given) (parse R s) (x .read) (y .read) in
       same-bytes bs cs (x .result) (y .result) (x .normal) (y .normal)
       (versions-ticks (x .result) (y .result) (back-ids bs (x .result) (x .normal)) (back-ids cs (y .result) (y .normal))
-      (versions-settle (x .result) (y .result) (x .given) (y .given) (accepted-same (x .given) (y .given) (parse R s) (x .read) (y .read)) (x .versions) (y .versions)))
+      (versions-settle (x .result) (y .result) (x .given) (y .given) e (x .versions) (y .versions)))
 
   pub merged-settled : (s t bs cs : List ℕ) → Merged R s t bs → Merged R s t cs → bs ≡ cs
   merged-settled s t bs cs x y =
@@ -101,10 +104,12 @@ gives-back : {P Q : Type 0} → P ↔ Q → Q → P
 gives-back e = e .1
 
 module _ {A : Type 0} (number : A → ℕ) (x y : A) where
-  refused-settle : {B : Type 0} (value : A → B → B) (n : ℕ) → RefusedWith number value x n → RefusedWith number value y n → SameAnswer number value x y
+  refused-settle : {B : Type 0} (value : A → B → B) (n : ℕ) → RefusedWith number value x n → RefusedWith number value y n
+      → SameAnswer number value x y
   refused-settle value n f g = record { numbers = f .told ∙ sym (g .told); values = λ old. f .stays old ∙ sym (g .stays old) }
 
-  decides-settle : (value : A → ℕ → ℕ) (P : Type 0) → Decides number value x P → Decides number value y P → SameAnswer number value x y
+  decides-settle : (value : A → ℕ → ℕ) (P : Type 0) → Decides number value x P → Decides number value y P
+      → SameAnswer number value x y
   decides-settle value P f g = record {
     numbers = f .fine ∙ sym (g .fine);
     values = λ old.
@@ -114,33 +119,23 @@ module _ {A : Type 0} (number : A → ℕ) (x y : A) where
         ];
   }
 
--- a condition of lengths, and what it decides
-ids-or : (item replica : List ℕ) → ((length item ≡ 24) × (length replica ≡ 16)) ⊎ ((length item ≡ 24) × (length replica ≡ 16) → ⊥)
-ids-or item replica = go (wrongIds item replica) refl
-  where
-    go : (w : Bool) → wrongIds item replica ≡ w → ((length item ≡ 24) × (length replica ≡ 16)) ⊎ ((length item ≡ 24) × (length replica ≡ 16) → ⊥)
-    go true e = inr (λ q. clash (wrongIds item replica) e (wrong-ids-exact item replica .1 q))
-    go false e = inl (wrong-ids-exact item replica .0 e)
-
-span-or : (first last : List ℕ) → ProperSpan first last ⊎ (ProperSpan first last → ⊥)
-span-or first last = go (wrongSpan first last) refl
-  where
-    go : (w : Bool) → wrongSpan first last ≡ w → ProperSpan first last ⊎ (ProperSpan first last → ⊥)
-    go true e = inr (λ q. clash (wrongSpan first last) e (span-exact first last .1 q))
-    go false e = inl (span-exact first last .0 e)
+-- 17's condition holds or not
+or-not : (w : Bool) (P : Type 0) → (w ≡ false) ↔ P → P ⊎ (P → ⊥)
+or-not true P e = inr (λ q. clash true refl (e .1 q))
+or-not false P e = inl (e .0 refl)
 
 module _ (R : Rules) where
-  pub contain-settled : (s item replica : List ℕ) (t : ℕ) (x y : Contain) → ContainSays R s item replica t x → ContainSays R s item replica t y
-      → SameAnswer containNumber containValue x y
-  contain-settled s item replica t x y f g = go (parse R s) refl (ids-or item replica)
+  pub contain-settled : (s item replica : List ℕ) (t : ℕ) (x y : Contain)
+      → ContainSays R s item replica t x → ContainSays R s item replica t y → SameAnswer containNumber containValue x y
+  contain-settled s item replica t x y f g = go (parse R s) refl (or-not (wrongIds item replica) (ProperIds item replica) (wrong-ids-exact item replica))
     where
-      go : (p : Parsed Knowledge) → parse R s ≡ p → ((length item ≡ 24) × (length replica ≡ 16)) ⊎ ((length item ≡ 24) × (length replica ≡ 16) → ⊥)
+      go : (p : Parsed Knowledge) → parse R s ≡ p → ProperIds item replica ⊎ (ProperIds item replica → ⊥)
           → SameAnswer containNumber containValue x y
       go (refused n) e w = refused-settle containNumber x y containValue n (f .own n e) (g .own n e)
       go (accepted k) e (inr w) = refused-settle containNumber x y containValue 17 (f .ids k e w) (g .ids k e w)
       go (accepted k) e (inl w) =
           decides-settle containNumber x y containValue ((1 ≤ t) × (t ≤ known k (beAt item 24 0) (beAt replica 16 0)))
-          (f .found k e (w .0) (w .1)) (g .found k e (w .0) (w .1))
+          (f .found k e w) (g .found k e w)
 
   difference-settle : (a b : ℕ) (x y : Lead) → Difference x a b → Difference y a b → SameAnswer leadNumber leadValue x y
   difference-settle a b x y f g = record {
@@ -155,25 +150,27 @@ module _ (R : Rules) where
 
   pub lead-settled : (s t item replica : List ℕ) (x y : Lead) → LeadSays R s t item replica x → LeadSays R s t item replica y
       → SameAnswer leadNumber leadValue x y
-  lead-settled s t item replica x y f g = go (parse R s) refl (parse R t) refl (ids-or item replica)
+  lead-settled s t item replica x y f g = go (parse R s) refl (parse R t) refl (or-not (wrongIds item replica) (ProperIds item replica) (wrong-ids-exact item replica))
     where
       go : (p : Parsed Knowledge) → parse R s ≡ p → (q : Parsed Knowledge) → parse R t ≡ q
-          → ((length item ≡ 24) × (length replica ≡ 16)) ⊎ ((length item ≡ 24) × (length replica ≡ 16) → ⊥) → SameAnswer leadNumber leadValue x y
+          → ProperIds item replica ⊎ (ProperIds item replica → ⊥) → SameAnswer leadNumber leadValue x y
       go (refused n) e q h w = refused-settle leadNumber x y leadValue n (f .one n e) (g .one n e)
       go (accepted a) e (refused n) h w = refused-settle leadNumber x y leadValue n (f .other a n e h) (g .other a n e h)
       go (accepted a) e (accepted b) h (inr w) = refused-settle leadNumber x y leadValue 17 (f .ids a b e h w) (g .ids a b e h w)
       go (accepted a) e (accepted b) h (inl w) =
           difference-settle (known a (beAt item 24 0) (beAt replica 16 0)) (known b (beAt item 24 0) (beAt replica 16 0)) x y
-          (f .found a b e h (w .0) (w .1)) (g .found a b e h (w .0) (w .1))
+          (f .found a b e h w) (g .found a b e h w)
 
-  pub cover-settled : (s t first last : List ℕ) (x y : Cover) → Bytes t → CoverSays R s t first last x → CoverSays R s t first last y
-      → SameAnswer coverNumber coverValue x y
-  cover-settled s t first last x y octets f g = go (parse R s) refl (parse R t) refl (span-or first last)
+  pub cover-settled : (s t first last : List ℕ) (x y : Cover) → Bytes t
+      → CoverSays R s t first last x → CoverSays R s t first last y → SameAnswer coverNumber coverValue x y
+  cover-settled s t first last x y octets f g = go (parse R s) refl (parse R t) refl (or-not (wrongSpan first last) (ProperSpan first last) (span-exact first last))
     where
-      go : (p : Parsed Knowledge) → parse R s ≡ p → (q : Parsed Knowledge) → parse R t ≡ q → ProperSpan first last ⊎ (ProperSpan first last → ⊥)
-          → SameAnswer coverNumber coverValue x y
+      go : (p : Parsed Knowledge) → parse R s ≡ p → (q : Parsed Knowledge) → parse R t ≡ q
+          → ProperSpan first last ⊎ (ProperSpan first last → ⊥) → SameAnswer coverNumber coverValue x y
       go (refused n) e q h w = refused-settle coverNumber x y coverValue n (f .one n e) (g .one n e)
       go (accepted a) e (refused n) h w = refused-settle coverNumber x y coverValue n (f .other a n e h) (g .other a n e h)
-      go (accepted a) e (accepted b) h (inr w) = refused-settle coverNumber x y coverValue 17 (f .span a b e h w) (g .span a b e h w)
+      go (accepted a) e (accepted b) h (inr w) =
+          refused-settle coverNumber x y coverValue 17 (f .span a b e h w) (g .span a b e h w)
       go (accepted a) e (accepted b) h (inl w) =
-          decides-settle coverNumber x y coverValue (AtLeast a b (beAt first 24 0) (beAt last 24 0)) (f .found a b octets e h w) (g .found a b octets e h w)
+          decides-settle coverNumber x y coverValue (AtLeast a b (beAt first 24 0) (beAt last 24 0))
+          (f .found a b octets e h w) (g .found a b octets e h w)

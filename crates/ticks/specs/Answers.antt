@@ -23,12 +23,16 @@ pub record Decides {A : Type 0} (number : A → ℕ) (value : A → ℕ → ℕ)
   pub yes : (old : ℕ) → (value answer old ≡ 1) ↔ P
   pub no : (old : ℕ) → (value answer old ≡ 0) ↔ (P → ⊥)
 
+-- ids that 17 does not refuse: an item id of 24 bytes and a replica id of 16
+abbrev pub ProperIds : List ℕ → List ℕ → Type 0
+ProperIds item replica = (length item ≡ 24) × (length replica ≡ 16)
+
 -- "is a version contained": the tick is 1 or more and at most the known one
 pub record ContainSays (R : Rules) (s item replica : List ℕ) (t : ℕ) (answer : Contain) : Type 0 where
   pub own : (n : ℕ) → parse R s ≡ refused n → RefusedWith containNumber containValue answer n
-  pub ids : (k : Knowledge) → parse R s ≡ accepted k → ((length item ≡ 24) × (length replica ≡ 16) → ⊥)
+  pub ids : (k : Knowledge) → parse R s ≡ accepted k → (ProperIds item replica → ⊥)
       → RefusedWith containNumber containValue answer 17
-  pub found : (k : Knowledge) → parse R s ≡ accepted k → length item ≡ 24 → length replica ≡ 16
+  pub found : (k : Knowledge) → parse R s ≡ accepted k → ProperIds item replica
       → Decides containNumber containValue answer ((1 ≤ t) × (t ≤ known k (beAt item 24 0) (beAt replica 16 0)))
 
 -- "the first's tick minus the second's, a signed number": a − b where b is at most a, and else −(b − a)
@@ -41,9 +45,9 @@ pub record LeadSays (R : Rules) (s t item replica : List ℕ) (answer : Lead) : 
   pub one : (n : ℕ) → parse R s ≡ refused n → RefusedWith leadNumber leadValue answer n
   pub other : (a : Knowledge) (n : ℕ) → parse R s ≡ accepted a → parse R t ≡ refused n
       → RefusedWith leadNumber leadValue answer n
-  pub ids : (a b : Knowledge) → parse R s ≡ accepted a → parse R t ≡ accepted b
-      → ((length item ≡ 24) × (length replica ≡ 16) → ⊥) → RefusedWith leadNumber leadValue answer 17
-  pub found : (a b : Knowledge) → parse R s ≡ accepted a → parse R t ≡ accepted b → length item ≡ 24 → length replica ≡ 16
+  pub ids : (a b : Knowledge) → parse R s ≡ accepted a → parse R t ≡ accepted b → (ProperIds item replica → ⊥)
+      → RefusedWith leadNumber leadValue answer 17
+  pub found : (a b : Knowledge) → parse R s ≡ accepted a → parse R t ≡ accepted b → ProperIds item replica
       → Difference answer (known a (beAt item 24 0) (beAt replica 16 0)) (known b (beAt item 24 0) (beAt replica 16 0))
 
 -- "does one knowledge know at least as much as another throughout a span", for every replica id of 16 bytes
