@@ -2,4 +2,5 @@
 pub mod Given
 pub mod Spelled
 pub mod Table
+pub mod NotNormal
 pub mod Listed

@@ -1,4 +1,5 @@
 -- The laws of the layout: bytes are accepted exactly where they are the encoding of a lawful knowledge.
+pub mod NotNormal
 pub mod Chain
 pub mod Parts
 pub mod Runs

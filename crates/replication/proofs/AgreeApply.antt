@@ -23,7 +23,8 @@ use Rattle.ticks.proofs.Search.{covers-exact}
 use Rattle.replication.specs.Formats.{Store, encodeStore, Batch, find}
 use Rattle.replication.specs.Valid.{LawfulStore}
 use Rattle.replication.specs.Reading.{both}
-use Rattle.replication.specs.OpenBatch.{inSpan, lacksChange}
+use Rattle.replication.specs.OpenBatch.{lacksChange}
+use Rattle.ticks.specs.Table.{inSpan}
 use Rattle.replication.specs.Operate.{join, applied}
 use Rattle.replication.specs.Machine.{Ticks, Remembered, State, holds, greatest, learns, withTicks, applies}
 use Rattle.replication.specs.Lists.{World, putAt}
@@ -31,7 +32,8 @@ use Rattle.replication.proofs.Best.{Mem, Contained, holds-contained, co
 use Rattle.replication.proofs.MachineGreatest.{greater, greatest-equal, greatest-larger, greatest-covered, greatest-nothing}
 use Rattle.replication.proofs.MachineSteps.{with-same, with-other, learns-below, learns-above, learns-inside}
 use Rattle.replication.proofs.MachineLaws.{Good}
-use Rattle.replication.proofs.Tables.{in-span, both-holds}
+use Rattle.replication.proofs.Tables.{both-holds}
+use Rattle.ticks.proofs.Lists.{in-span}
 use Rattle.replication.proofs.TablesJoin.{joined, joined-left, joined-right, joined-both, find-join}
 use Rattle.replication.proofs.TablesSelected.{kept, kept-none, kept-in, kept-out}
 use Rattle.replication.proofs.AgreeLines.{ApplyMet}

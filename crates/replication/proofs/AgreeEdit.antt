@@ -16,7 +16,6 @@ use Rattle.layout.specs.Knowledge.{Limits, anyId, largestTick, Knowledge, Risin
 use Rattle.layout.specs.Permitted.{Permitted}
 use Rattle.ticks.specs.Meaning.{highest, known, Normal}
 use Rattle.ticks.specs.Operations.{raise, largest}
-use Rattle.ticks.proofs.Unique.{normal-sound}
 use Rattle.ticks.proofs.Operations.{known-raise-own, known-raise-other}
 use Rattle.ticks.proofs.Largest.{largest-bounds, largest-attained}
 use Rattle.ticks.proofs.LawfulResults.{top-below, below-top}
@@ -114,7 +113,7 @@ pub largest-same : (kn : Knowledge) (k : Ticks) → Normal kn → ((i q : ℕ) �
 largest-same kn k f same zero-out =
     largest-known-is k (largest kn)
     (λ i p a b. rw (← same i p (below-top i a)) (largest-bounds kn i p))
-    (⊎-elim (λ e. inl e) (λ z. near (z .0) (z .1 .0) (z .1 .1 .0) (z .1 .1 .1)) (largest-attained kn (normal-sound kn f)))
+    (⊎-elim (λ e. inl e) (λ z. near (z .0) (z .1 .0) (z .1 .1 .0) (z .1 .1 .1)) (largest-attained kn (f .formed .sound)))
   where
     near : (i p : ℕ) → i ≤ highest → known kn i p ≡ largest kn → (largest kn ≡ 0) ⊎ ((i : ℕ) × (p : ℕ) × (i < 256 ^ 24) × (p < 256 ^ 16) × (k i p ≡ largest kn))
     near i p h e = go (ltb p (256 ^ 16)) refl

@@ -17,7 +17,6 @@ use Rattle.layout.specs.Permitted.{Permitted}
 use Rattle.ticks.specs.Meaning.{highest, known}
 use Rattle.ticks.specs.Operations.{raise, largest}
 use Rattle.ticks.specs.Calls.{idOf}
-use Rattle.ticks.proofs.Unique.{normal-sound}
 use Rattle.ticks.proofs.Operations.{known-raise-own, known-raise-other, normal-raise}
 use Rattle.ticks.proofs.Largest.{largest-bounds, largest-attained}
 use Rattle.ticks.proofs.LawfulResults.{below-top, lawful-raise}
@@ -181,7 +180,7 @@ module _ (L : Limits) (st : Store) (v : LawfulStore L st) (content : Content) (i
   unfolding nextTick
   next-least =
       ⊎-elim (λ e. inl (omega (arith, e))) (λ w. inr (w .0, (w .1 .0, (w .1 .1 .0, omega (arith, w .1 .1 .1)))))
-      (largest-attained (st .knowledge) (normal-sound (st .knowledge) (v .normal)))
+      (largest-attained (st .knowledge) (v .normal .formed .sound))
 
   abbrev next : Rec
   next = changedRec content item (st .own) (nextTick st) (find item (st .records))

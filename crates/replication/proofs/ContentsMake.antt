@@ -28,11 +28,13 @@ use Rattle.replication.specs.Formats.{Store, Batch, encodeBatch, find}
 use Rattle.replication.specs.Valid.{LawfulRec, ContainedIn, LawfulStore, LawfulBatch}
 use Rattle.replication.specs.Reading.{both}
 use Rattle.replication.specs.OpenStore.{openStore}
-use Rattle.replication.specs.OpenBatch.{inSpan, lacksChange, openBatch}
+use Rattle.replication.specs.OpenBatch.{lacksChange, openBatch}
+use Rattle.ticks.specs.Table.{inSpan}
 use Rattle.replication.specs.Operate.{selected, made}
 use Rattle.replication.specs.Calls.{makeReply}
 use Rattle.replication.specs.Lists.{outcome}
-use Rattle.replication.proofs.Tables.{find-item, find-all, both-parts, both-holds, in-span}
+use Rattle.replication.proofs.Tables.{find-item, find-all, both-parts, both-holds}
+use Rattle.ticks.proofs.Lists.{in-span}
 use Rattle.replication.proofs.TablesSelected.{kept, kept-some, kept-in, selected-rising, find-selected, all-selected, selected-meets}
 use Rattle.replication.proofs.AgreeLines.{gives-outcome, make-met}
 use Rattle.replication.proofs.Arguments.{id-below}

@@ -18,7 +18,6 @@ use Rattle.ticks.specs.Meaning.{highest, known, contains}
 use Rattle.ticks.specs.Operations.{project}
 use Rattle.ticks.specs.Written.{eqKnowledge}
 use Rattle.ticks.proofs.Equality.{eqKnowledge-sound, eqKnowledge-self}
-use Rattle.ticks.proofs.Unique.{normal-sound}
 use Rattle.ticks.proofs.Operations.{normal-test}
 use Rattle.ticks.proofs.Algebra.{contains-yes, contains-more, contains-exact, project-outside, project-same}
 use Rattle.ticks.proofs.Largest.{alike-exact}
@@ -27,8 +26,10 @@ use Rattle.replication.specs.Formats.{Store, encodeStore, Batch, encodeB
 use Rattle.replication.specs.Valid.{LawfulRec, ContainedIn, LawfulStore, LawfulBatch}
 use Rattle.replication.specs.Reading.{both}
 use Rattle.replication.specs.OpenStore.{decodeStore, versionsIn, validStore, ifValid, openStore}
-use Rattle.replication.specs.OpenBatch.{decodeBatch, inSpan, lacksChange, carried, validBatch, ifValidBatch, openBatch}
-use Rattle.replication.proofs.Tables.{ValidRec, valid-recs, both-parts, both-holds, in-span}
+use Rattle.replication.specs.OpenBatch.{decodeBatch, lacksChange, carried, validBatch, ifValidBatch, openBatch}
+use Rattle.ticks.specs.Table.{inSpan}
+use Rattle.replication.proofs.Tables.{ValidRec, valid-recs, both-parts, both-holds}
+use Rattle.ticks.proofs.Lists.{in-span}
 use Rattle.replication.proofs.RecordBytes.{FitsRec}
 use Rattle.replication.proofs.StoreBytes.{store-open, store-opened, valid-store}
 use Rattle.replication.proofs.BatchBytes.{batch-open, batch-opened, valid-batch}
@@ -147,7 +148,7 @@ module _ (L : Limits) (permitted : Permitted L) (st : Store) where
           own = o .1 .0 .own;
           lawful = o .1 .0 .knowledge;
           normal = n;
-          alike = alike-exact (st .knowledge) (st .own) (normal-sound (st .knowledge) n) .0 (v .alike) .known;
+          alike = alike-exact (st .knowledge) (st .own) (n .formed .sound) .0 (v .alike) .known;
           count = v .count;
           rising = rs .0;
           records =
@@ -170,7 +171,7 @@ module _ (L : Limits) (permitted : Permitted L) (st : Store) where
       (valid-store L st .1 (record {
         count = l .count;
         normal = normal-test (st .knowledge) .1 (l .normal);
-        alike = alike-exact (st .knowledge) (st .own) (normal-sound (st .knowledge) (l .normal)) .1 (record { known = l .alike });
+        alike = alike-exact (st .knowledge) (st .own) (l .normal .formed .sound) .1 (record { known = l .alike });
         records =
             valid-recs (versionsIn (st .knowledge)) 0 (st .records) .1 (
               l .rising,

@@ -27,7 +27,8 @@ use Rattle.codec.specs.Reply.{gives, refuses}
 use Rattle.codec.proofs.Numbers.{put-length, put-be}
 use Rattle.codec.proofs.Replies.{fault-later, fault-none}
 use Rattle.replication.specs.OpenStore.{openStore}
-use Rattle.replication.specs.OpenBatch.{inSpan, lacksChange, openBatch}
+use Rattle.replication.specs.OpenBatch.{lacksChange, openBatch}
+use Rattle.ticks.specs.Table.{inSpan}
 use Rattle.replication.specs.Calls.{newReply, applyReply, ownAhead}
 use Rattle.replication.specs.Lists.{World, start, outcome, batchNumber}
 use Rattle.replication.specs.Machine.{Ticks, Remembered, State, initial, greatest, applies}
@@ -36,7 +37,8 @@ use Rattle.replication.specs.Batches.{Carries, BatchAgrees, Batches}
 use Rattle.replication.proofs.Best.{holds-contained, greatest-top}
 use Rattle.replication.proofs.MachineGreatest.{greatest-equal}
 use Rattle.replication.proofs.MachineSteps.{numbered-mem, applies-commute, applies-twice}
-use Rattle.replication.proofs.Tables.{find-item, find-all, tables-equal, both-holds, in-span}
+use Rattle.replication.proofs.Tables.{find-item, find-all, tables-equal, both-holds}
+use Rattle.ticks.proofs.Lists.{in-span}
 use Rattle.replication.proofs.TablesSelected.{kept, kept-in, kept-some}
 use Rattle.replication.proofs.ContentsValid.{store-exact, batch-exact, lacks-exact}
 use Rattle.replication.proofs.StoreBytes.{store-bytes}

@@ -20,7 +20,6 @@ use Rattle.ticks.specs.Meaning.{highest, known, Normal}
 use Rattle.ticks.specs.Operations.{raise, normalise, largest}
 use Rattle.ticks.proofs.Lists.{Among, less, same, more, order}
 use Rattle.ticks.proofs.Operations.{normal-test, normal-raise, known-raise-own, known-raise-other}
-use Rattle.ticks.proofs.Unique.{normal-sound}
 use Rattle.ticks.proofs.Largest.{alike-all}
 use Rattle.ticks.proofs.Counts.{distinct-count, replicas-are, raise-map, raise-replicas, raise-ranges, normalise-replicas, project-replicas}
 use Rattle.replication.specs.Record.{Rec, Content}
@@ -47,9 +46,9 @@ all-apart q (x ∷ xs) n = ((λ e. n (inl e)), all-apart q xs (λ m. n (inr m)))
 raise-old : (q t : ℕ) (k : Knowledge) → Among q (k .replicas) → length (raise q t k .replicas) ≤ length (k .replicas)
 raise-old q t k m =
     let n = normal-raise q t k in
-    distinct-count (raise q t k .replicas) (k .replicas) (normal-sound (raise q t k) n .distinct)
+    distinct-count (raise q t k .replicas) (k .replicas) (n .formed .sound .distinct)
     (λ p a.
-    let w = replicas-are (raise q t k) p n .0 a in
+    let w = replicas-are (raise q t k) p (n .formed) (n .used) .0 a in
     ⊎-elim (λ (e : p ≡ q). rw e m) (λ b. b) (raise-map q t k (w .0) p (w .1 .0) (w .1 .1)))
 
 -- and of one that is not in the map adds it
@@ -58,16 +57,16 @@ raise-new q t k n one out =
     omega (
       arith,
       raise-replicas q t k,
-      distinct-count (q ∷ k .replicas) (raise q t k .replicas) (all-apart q (k .replicas) out, normal-sound k n .distinct) there,
+      distinct-count (q ∷ k .replicas) (raise q t k .replicas) (all-apart q (k .replicas) out, n .formed .sound .distinct) there,
     )
   where
     known-there : (i p : ℕ) → i ≤ highest → 1 ≤ known (raise q t k) i p → Among p (raise q t k .replicas)
-    known-there i p h l = replicas-are (raise q t k) p (normal-raise q t k) .1 (i, (h, l))
+    known-there i p h l = replicas-are (raise q t k) p (normal-raise q t k .formed) (normal-raise q t k .used) .1 (i, (h, l))
 
     there : (p : ℕ) → Among p (q ∷ k .replicas) → Among p (raise q t k .replicas)
     there p (inl e) = known-there 0 p (omega arith) (omega (arith, known-raise-own q t k 0 p (omega arith) e))
     there p (inr m) =
-        let w = replicas-are k p n .0 m in
+        let w = replicas-are k p (n .formed) (n .used) .0 m in
         known-there (w .0) p (w .1 .0) (omega (arith, w .1 .1, known-raise-other q t k (w .0) p (w .1 .0) (λ (e : p ≡ q). out (rw (← e) m))))
 
 -- ---- records
@@ -118,11 +117,11 @@ module _ (L : Limits) (permitted : Permitted L) (s : List ℕ) (octets : Bytes s
 
   -- the own id is in the map where the own tick is 1 or more
   own-in : 1 ≤ known (st .knowledge) 0 (st .own) → Among (st .own) (st .knowledge .replicas)
-  own-in h = replicas-are (st .knowledge) (st .own) normal .1 (0, (omega arith, h))
+  own-in h = replicas-are (st .knowledge) (st .own) (normal .formed) (normal .used) .1 (0, (omega arith, h))
 
   own-out : known (st .knowledge) 0 (st .own) ≡ 0 → Among (st .own) (st .knowledge .replicas) → ⊥
   own-out z m =
-      let w = replicas-are (st .knowledge) (st .own) normal .0 m in
+      let w = replicas-are (st .knowledge) (st .own) (normal .formed) (normal .used) .0 m in
       omega (arith, w .1 .1, alike-all (st .knowledge) (st .own) (w .0) (valid .alike))
 
   module _ (content : Content) (i : ℕ) where
@@ -136,7 +135,7 @@ module _ (L : Limits) (permitted : Permitted L) (s : List ℕ) (octets : Bytes s
 
     changed-ranges : length (changed content i st .knowledge .ranges) ≤ L .ranges
     unfolding changed nextTick
-    changed-ranges = omega (arith, lawful .ranges, raise-ranges (st .own) (1 + largest (st .knowledge)) (st .knowledge) normal)
+    changed-ranges = omega (arith, lawful .ranges, raise-ranges (st .own) (1 + largest (st .knowledge)) (st .knowledge) (normal .formed))
 
     changed-found : (r : Rec) → find i (st .records) ≡ some r → length (changed content i st .records) ≤ L .records
     unfolding changed

@@ -16,7 +16,7 @@ use Rattle.layout.specs.Knowledge.{largestTick, All, Rising}
 use Rattle.ticks.proofs.Lists.{less, same, more, order}
 use Rattle.replication.specs.Formats.{items, find}
 use Rattle.replication.specs.Reading.{both, tagKept, validRec, validRecs}
-use Rattle.replication.specs.OpenBatch.{inSpan}
+use Rattle.ticks.specs.Table.{inSpan}
 use Rattle.replication.specs.Operate.{replace}
 use Rattle.replication.specs.Record.{Rec, Content}
 
@@ -291,13 +291,6 @@ both-parts false b e =
 
 pub both-holds : (a b : Bool) → a ≡ true → b ≡ true → both a b ≡ true
 both-holds a b p q = rw p q
-
-pub in-span : (f l i : ℕ) → (inSpan f l i ≡ true) ↔ ((f ≤ i) × (i ≤ l))
-unfolding inSpan
-in-span f l i = (
-  λ e. let p = both-parts (leb f i) (leb i l) e in (leb-true f i (p .0), leb-true i l (p .1)),
-  λ p. both-holds (leb f i) (leb i l) (le-leb f i (p .0)) (le-leb i l (p .1)),
-)
 
 pub record ValidRec (r : Rec) : Type 0 where
   pub created : 1 ≤ r .createTick

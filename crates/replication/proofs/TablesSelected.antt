@@ -11,7 +11,8 @@ use lib.ListN.{length}
 use Rattle.layout.specs.Knowledge.{All, Rising, Knowledge}
 use Rattle.replication.specs.Formats.{items, find}
 use Rattle.replication.specs.Reading.{both}
-use Rattle.replication.specs.OpenBatch.{inSpan, lacksChange}
+use Rattle.replication.specs.OpenBatch.{lacksChange}
+use Rattle.ticks.specs.Table.{inSpan}
 use Rattle.replication.specs.Operate.{selected}
 use Rattle.replication.proofs.Tables.{rising-cons, rising-low, rising-rest, rising-down, find-nil, find-here, find-there, here, there, finds, find-below, both-parts}
 use Rattle.replication.specs.Record.{Rec}

@@ -6,6 +6,7 @@ use Rattle.layout.specs.Knowledge.{Limits, anyId, Knowledge}
 use Rattle.layout.specs.Parse.{Parsed, accepted, refused, parse}
 use Rattle.ticks.specs.Meaning.{contains}
 use Rattle.ticks.specs.Written.{isNormal, eqKnowledge}
+use Rattle.ticks.specs.Table.{inSpan}
 use Rattle.ticks.specs.Operations.{project}
 use Rattle.replication.specs.Record.{Rec}
 use Rattle.replication.specs.Formats.{Batch}
@@ -59,10 +60,6 @@ decodeBatch L s =
       ]
       | false ↦ none
     ]
-
--- an item id inside a span, both ends included
-unfoldable pub inSpan : ℕ → ℕ → ℕ → Bool
-inSpan first last i = both (leb first i) (leb i last)
 
 -- a change version that a knowledge lacks
 unfoldable pub lacksChange : Knowledge → Rec → Bool

@@ -5,7 +5,8 @@ use Rattle.ticks.specs.Operations.{normalise, merge, project, raise, largest}
 use Rattle.replication.specs.Record.{Content, Rec}
 use Rattle.replication.specs.Formats.{find, Store, Batch}
 use Rattle.replication.specs.Reading.{both}
-use Rattle.replication.specs.OpenBatch.{inSpan, lacksChange}
+use Rattle.replication.specs.OpenBatch.{lacksChange}
+use Rattle.ticks.specs.Table.{inSpan}
 
 -- the table with a record in its place, instead of the one of the same item
 unfoldable pub replace : Rec → List Rec → List Rec

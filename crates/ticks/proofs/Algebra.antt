@@ -1,19 +1,19 @@
 -- What follows from ticks alone: containment, normal forms known by the versions they contain, and the algebra of merge
 -- and project.
-use Prim.Native.Nat.{ℕ, _≤_, _<_, max}
+use Prim.Native.Nat.{ℕ, _^_, _≤_, _<_, max}
 use mathlib.Core.Path.{_≡_, sym, _∙_, ap}
 use mathlib.Core.Logic.{_⊎_, inl, inr, ⊎-elim, _↔_}
 use mathlib.Core.Bool.{true, false}
 use native.Mathlib.Omega.{arith}
 use lib.Dec.{leb}
 use borrow.Author.Tests.{le-leb, lt-leb}
-use Rattle.layout.specs.Knowledge.{Knowledge}
+use Rattle.layout.specs.Knowledge.{Knowledge, All}
 use Rattle.ticks.specs.Meaning.{highest, known, contains, Normal, emptyKnowledge}
 use Rattle.ticks.specs.Operations.{normalise, merge, project}
 use Rattle.ticks.specs.Demand2.{SameVersions}
-use Rattle.ticks.proofs.Lists.{less, same, more, order, in-span, below-span, above-span, inside?}
+use Rattle.ticks.proofs.Lists.{all-among, less, same, more, order, side-in, side-below, side-above, span-side}
 use Rattle.ticks.proofs.Equality.{clash}
-use Rattle.ticks.proofs.Unique.{SameTicks, normal-unique}
+use Rattle.ticks.proofs.Unique.{known-replica, SameTicks, normal-unique}
 use Rattle.ticks.proofs.Operations.{known-normalise, normal-normalise, normalise-normal, known-merge, normal-merge, known-project-inside, known-project-below, known-project-above, normal-project, known-empty}
 
 -- Containment
@@ -47,6 +47,26 @@ contains-exact k i p t = (there, λ h. contains-yes k i p t (h .0) (h .1))
               ]
         ]
 
+-- the replica ids of a map are of 16 bytes each
+abbrev pub IdsOf16 : Knowledge → Type 0
+IdsOf16 k = All (λ id. id < 256 ^ 16) (k .replicas)
+
+-- then another number has no tick: only for these ids need two knowledges be compared
+pub ticks-of-16 : (a b : Knowledge) → IdsOf16 a → IdsOf16 b → ((i p : ℕ) → i ≤ highest → p < 256 ^ 16 → known a i p ≡ known b i p) → SameTicks a b
+ticks-of-16 a b x y f = record {
+  known = λ i p h.
+      elim (order (known a i p) 0) [
+        | less k ↦ absurd (omega arith)
+        | same k ↦
+            elim (order (known b i p) 0) [
+              | less l ↦ absurd (omega arith)
+              | same l ↦ k ∙ sym l
+              | more l ↦ f i p h (all-among (λ id. id < 256 ^ 16) (b .replicas) y p (known-replica b i p l))
+            ]
+        | more k ↦ f i p h (all-among (λ id. id < 256 ^ 16) (a .replicas) x p (known-replica a i p k))
+      ];
+}
+
 at-most : (a b : Knowledge) (i p : ℕ) → ((t : ℕ) → contains a i p t ≡ contains b i p t) → known a i p ≤ known b i p
 at-most a b i p f =
     elim (order (known a i p) 0) [
@@ -55,19 +75,21 @@ at-most a b i p f =
       | more h ↦ contains-exact b i p (known a i p) .0 (sym (f (known a i p)) ∙ contains-yes a i p (known a i p) h (omega arith)) .1
     ]
 
-pub versions-ticks : (a b : Knowledge) → SameVersions a b → SameTicks a b
-versions-ticks a b s = record {
-  known = λ i p h. omega (arith, at-most a b i p (λ t. s .both i p t h), at-most b a i p (λ t. sym (s .both i p t h)));
-}
+pub versions-ticks : (a b : Knowledge) → IdsOf16 a → IdsOf16 b → SameVersions a b → SameTicks a b
+versions-ticks a b x y s =
+    ticks-of-16 a b x y
+    (λ i p h small. omega (arith, at-most a b i p (λ t. s .both i p t h small), at-most b a i p (λ t. sym (s .both i p t h small))))
 
 pub ticks-versions : (a b : Knowledge) → SameTicks a b → SameVersions a b
 unfolding contains
-ticks-versions a b s = record { both = λ i p t h. ap (λ n. elim (leb 1 t) [ true ↦ leb t n | false ↦ false ]) (s .known i p h) }
+ticks-versions a b s = record { both = λ i p t h small. ap (λ n. elim (leb 1 t) [ true ↦ leb t n | false ↦ false ]) (s .known i p h) }
 
 -- normal forms that contain the same versions are equal
-pub versions-unique : (a b : Knowledge) → Normal a → Normal b → SameVersions a b ↔ (a ≡ b)
-versions-unique a b n m =
-    ((λ s. normal-unique a b n m (versions-ticks a b s .known)), (λ e. record { both = λ i p t h. ap (λ k. contains k i p t) e }))
+pub versions-unique : (a b : Knowledge) → IdsOf16 a → IdsOf16 b → Normal a → Normal b → SameVersions a b ↔ (a ≡ b)
+versions-unique a b x y n m = (
+  (λ s. normal-unique a b n m (versions-ticks a b x y s .known)),
+  (λ e. record { both = λ i p t h small. ap (λ k. contains k i p t) e }),
+)
 
 -- normalising keeps the versions
 pub contains-normalise : (k : Knowledge) → SameVersions (normalise k) k
@@ -137,10 +159,10 @@ pub project-again : (first last : ℕ) (k : Knowledge) → project first last (p
 project-again first last k =
     normal-unique (project first last (project first last k)) (project first last k) (normal-project first last (project first last k)) (normal-project first last k)
     (λ i p h.
-    elim (inside? first last i) [
-      | in-span l m ↦ known-project-inside first last (project first last k) i p h l m
-      | below-span l ↦ known-project-below first last (project first last k) i p h l ∙ sym (known-project-below first last k i p h l)
-      | above-span l ↦ known-project-above first last (project first last k) i p h l ∙ sym (known-project-above first last k i p h l)
+    elim (span-side first last i) [
+      | side-in l m ↦ known-project-inside first last (project first last k) i p h l m
+      | side-below l ↦ known-project-below first last (project first last k) i p h l ∙ sym (known-project-below first last k i p h l)
+      | side-above l ↦ known-project-above first last (project first last k) i p h l ∙ sym (known-project-above first last k i p h l)
     ])
 
 -- a knowledge in normal form is unchanged by projecting exactly when it knows nothing outside the span
@@ -149,10 +171,10 @@ pub project-same : (first last : ℕ) (k : Knowledge) → Normal k
 project-same first last k n f =
     normal-unique (project first last k) k (normal-project first last k) n
     (λ i p h.
-    elim (inside? first last i) [
-      | in-span l m ↦ known-project-inside first last k i p h l m
-      | below-span l ↦ known-project-below first last k i p h l ∙ sym (f i p h (inl l))
-      | above-span l ↦ known-project-above first last k i p h l ∙ sym (f i p h (inr l))
+    elim (span-side first last i) [
+      | side-in l m ↦ known-project-inside first last k i p h l m
+      | side-below l ↦ known-project-below first last k i p h l ∙ sym (f i p h (inl l))
+      | side-above l ↦ known-project-above first last k i p h l ∙ sym (f i p h (inr l))
     ])
 
 pub project-outside : (first last : ℕ) (k : Knowledge) (i p : ℕ) → project first last k ≡ k → i ≤ highest → (i < first) ⊎ (last < i) → known k i p ≡ 0

@@ -1,7 +1,8 @@
--- What contain, lead and cover come to, case by case: the refusals in the order of document 01's table, or what is found;
--- and the number and the value of the answer in each case, in the document's own terms: lengths, ids and known ticks.
+-- What contain, lead and cover answer, case by case: the number and the value of the answer, in the document's own terms:
+-- lengths, ids and known ticks. Each table is walked line by line with codec's laws, and what is found is exact by the laws of
+-- known ticks.
 use Prim.Native.Nat.{ℕ, zero, suc, _-_, _≤_, _<_}
-use mathlib.Core.Path.{_≡_, refl, sym, _∙_, ap, ap₂, subst}
+use mathlib.Core.Path.{_≡_, refl, _∙_, ap}
 use mathlib.Core.Logic.{_↔_}
 use mathlib.Core.Bool.{Bool, true, false, not, _||_}
 use mathlib.Core.List.{List, [], _∷_}
@@ -12,10 +13,12 @@ use lib.IntN.{pos, negsuc, _-ℤ_}
 use borrow.Author.Tests.{lt-ltb, le-ltb, ltb-false, eq-eqb, eqb-true, not-false}
 use Rattle.codec.specs.Number.{beAt}
 use Rattle.codec.specs.Parsed.{readOr}
-use Rattle.codec.specs.Reply.{Reply, gives, refuses, firstFault}
-use Rattle.codec.proofs.Replies.{fault-here, fault-none}
-use Rattle.layout.specs.Knowledge.{Rules, Knowledge}
+use Rattle.codec.specs.Reply.{firstFault}
+use Rattle.codec.proofs.Replies.{fault-here, fault-none, read-fault, read-fine}
+use Rattle.layout.specs.Knowledge.{Rules, Knowledge, Lawful, basic}
+use Rattle.layout.specs.Permitted.{Permitted}
 use Rattle.layout.specs.Parse.{Parsed, accepted, refused, parse}
+use Rattle.layout.proofs.Exact.{base-permitted}
 use Rattle.ticks.specs.Meaning.{known, contains}
 use Rattle.ticks.specs.Operations.{covers}
 use Rattle.ticks.specs.declared.Contain.{Contain}
@@ -24,11 +27,14 @@ use Rattle.ticks.specs.declared.Lead.{Lead}
 use Rattle.ticks.specs.declared.Lead.the-variants as D
 use Rattle.ticks.specs.declared.Cover.{Cover}
 use Rattle.ticks.specs.declared.Cover.the-variants as E
-use Rattle.ticks.specs.Calls.{containNumber, containValue, leadNumber, leadValue, coverNumber, coverValue, idOf, readAs, line, ownFault, wrongLength, wrongPlace, wrongSpan, refusedOr, containFound, coverFound, containAnswer, leadOf, leadAnswer, coverAnswer}
+use Rattle.ticks.specs.Calls.{containNumber, containValue, leadNumber, leadValue, coverNumber, coverValue, idOf, readAs, line, ownFault, wrongLength, wrongIds, wrongSpan, containFound, coverFound, containAnswer, leadOf, leadAnswer, coverAnswer}
+use Rattle.ticks.specs.Answers.{RefusedWith, Decides, ContainSays, Difference, LeadSays, AtLeast, ProperIds, ProperSpan, CoverSays, Answers}
+use Rattle.ticks.proofs.Lists.{less, same, more, order}
 use Rattle.ticks.proofs.Equality.{clash}
+use Rattle.ticks.proofs.Replies.{read-lawful}
+use Rattle.ticks.proofs.Meaning.{known-id}
 use Rattle.ticks.proofs.Algebra.{contains-exact}
 use Rattle.ticks.proofs.Search.{Covers, covers-exact}
-use Rattle.codec.proofs.Replies.{read-fault, read-fine}
 
 -- 17: what it is that none of its conditions holds
 
@@ -40,15 +46,15 @@ pub length-exact : (n : ℕ) (s : List ℕ) → (wrongLength n s ≡ false) ↔ 
 unfolding wrongLength
 length-exact n s = ((λ e. eqb-true (length s) n (not-false (eqb (length s) n) e)), (λ e. ap not (eq-eqb (length s) n e)))
 
-pub place-exact : (item replica : List ℕ) → (wrongPlace item replica ≡ false) ↔ ((length item ≡ 24) × (length replica ≡ 16))
-unfolding wrongPlace
-place-exact item replica =
+pub wrong-ids-exact : (item replica : List ℕ) → (wrongIds item replica ≡ false) ↔ ProperIds item replica
+unfolding wrongIds
+wrong-ids-exact item replica =
     let w = neither (wrongLength 24 item) (wrongLength 16 replica) in (
       (λ e. (length-exact 24 item .0 (w .0 e .0), length-exact 16 replica .0 (w .0 e .1))),
       (λ e. w .1 (length-exact 24 item .1 (e .0), length-exact 16 replica .1 (e .1))),
     )
 
-pub span-exact : (first last : List ℕ) → (wrongSpan first last ≡ false) ↔ ((length first ≡ 24) × ((length last ≡ 24) × (beAt first 24 0 ≤ beAt last 24 0)))
+pub span-exact : (first last : List ℕ) → (wrongSpan first last ≡ false) ↔ ProperSpan first last
 unfolding wrongSpan idOf
 span-exact first last =
     let v = neither (wrongLength 24 first) (wrongLength 24 last || ltb (beAt last 24 0) (beAt first 24 0)) in
@@ -60,140 +66,103 @@ span-exact first last =
       (λ e. v .1 (length-exact 24 first .1 (e .0), w .1 (length-exact 24 last .1 (e .1 .0), le-ltb (beAt last 24 0) (beAt first 24 0) (e .1 .1)))),
     )
 
--- the lines of a call on one knowledge, and of one on two, with 17 after them
-one : Parsed Knowledge → Bool → Reply
-one p w = firstFault refuses (ownFault p ∷ line 17 w ∷ []) (gives [])
+-- the table of a call on one knowledge, and of one on two, with 17 as the last line
+module _ {A : Type 0} (refusal : ℕ → A) (w : Bool) (found : Knowledge → A) where
+  one : Parsed Knowledge → A
+  one p = firstFault refusal (ownFault p ∷ line 17 w ∷ []) (found (readAs p))
 
-two : Parsed Knowledge → Parsed Knowledge → Bool → Reply
-two p q w = firstFault refuses (ownFault p ∷ ownFault q ∷ line 17 w ∷ []) (gives [])
+  one-refused : (p : Parsed Knowledge) (n : ℕ) → p ≡ refused n → one p ≡ refusal n
+  unfolding one
+  one-refused p n e = ap one e ∙ read-fault Knowledge refusal n (line 17 w ∷ []) _
 
-last-line : (w : Bool) → Reply
-last-line w = firstFault refuses (line 17 w ∷ []) (gives [])
+  one-wrong : (p : Parsed Knowledge) (k : Knowledge) → p ≡ accepted k → w ≡ true → one p ≡ refusal 17
+  unfolding one
+  one-wrong p k e f = ap one e ∙ read-fine refusal k (line 17 w ∷ []) _ ∙ fault-here refusal (line 17 w) [] _ f
 
-last-wrong : (w : Bool) → w ≡ true → last-line w ≡ refuses 17
-unfolding last-line
-last-wrong w e = fault-here refuses (line 17 w) [] (gives []) e
+  one-right : (p : Parsed Knowledge) (k : Knowledge) → p ≡ accepted k → w ≡ false → one p ≡ found k
+  unfolding one readOr
+  one-right p k e f = ap one e ∙ read-fine refusal k (line 17 w ∷ []) _ ∙ fault-none refusal (line 17 w ∷ []) _ (f, tt)
 
-last-right : (w : Bool) → w ≡ false → last-line w ≡ gives []
-unfolding last-line
-last-right w e = fault-none refuses (line 17 w ∷ []) (gives []) (e, tt)
+module _ {A : Type 0} (refusal : ℕ → A) (w : Bool) (found : Knowledge → Knowledge → A) where
+  two : Parsed Knowledge → Parsed Knowledge → A
+  two p q = firstFault refusal (ownFault p ∷ ownFault q ∷ line 17 w ∷ []) (found (readAs p) (readAs q))
 
-one-refused : (n : ℕ) (w : Bool) → one (refused n) w ≡ refuses n
-unfolding one
-one-refused n w = read-fault Knowledge refuses n (line 17 w ∷ []) (gives [])
+  two-first : (p q : Parsed Knowledge) (n : ℕ) → p ≡ refused n → two p q ≡ refusal n
+  unfolding two
+  two-first p q n e = ap (λ p. two p q) e ∙ read-fault Knowledge refusal n (ownFault q ∷ line 17 w ∷ []) _
 
-one-accepted : (k : Knowledge) (w : Bool) → one (accepted k) w ≡ last-line w
-unfolding one last-line
-one-accepted k w = read-fine refuses k (line 17 w ∷ []) (gives [])
-
-two-first : (n : ℕ) (q : Parsed Knowledge) (w : Bool) → two (refused n) q w ≡ refuses n
-unfolding two
-two-first n q w = read-fault Knowledge refuses n (ownFault q ∷ line 17 w ∷ []) (gives [])
-
-two-second : (a : Knowledge) (n : ℕ) (w : Bool) → two (accepted a) (refused n) w ≡ refuses n
-unfolding two
-two-second a n w = read-fine refuses a (ownFault (refused n) ∷ line 17 w ∷ []) (gives []) ∙ read-fault Knowledge refuses n (line 17 w ∷ []) (gives [])
-
-two-accepted : (a b : Knowledge) (w : Bool) → two (accepted a) (accepted b) w ≡ last-line w
-unfolding two last-line
-two-accepted a b w = read-fine refuses a (ownFault (accepted b) ∷ line 17 w ∷ []) (gives []) ∙ read-fine refuses b (line 17 w ∷ []) (gives [])
-
-module _ {A : Type 0} (bad : ℕ → A) (found : A) where
-  refused-is : (r : Reply) (n : ℕ) → r ≡ refuses n → refusedOr bad found r ≡ bad n
-  unfolding refusedOr
-  refused-is r n e = ap (refusedOr bad found) e
-
-  found-is : (r : Reply) → r ≡ gives [] → refusedOr bad found r ≡ found
-  unfolding refusedOr
-  found-is r e = ap (refusedOr bad found) e
+  -- with the first accepted, it is the table of the second alone
+  two-later : (p q : Parsed Knowledge) (a : Knowledge) → p ≡ accepted a → two p q ≡ one refusal w (found a) q
+  unfolding one two readOr
+  two-later p q a e = ap (λ p. two p q) e ∙ read-fine refusal a (ownFault q ∷ line 17 w ∷ []) _
 
 -- a test that is not one of its two values is the other
 no-false : (b : Bool) → (b ≡ false → ⊥) → b ≡ true
 no-false true h = refl
 no-false false h = absurd (h refl)
 
-no-true : (b : Bool) → (b ≡ true → ⊥) → b ≡ false
-no-true true h = absurd (h refl)
-no-true false h = refl
+-- the answer of a test says whether what the test is exact for holds
+module _ {A : Type 0} (number : A → ℕ) (value : A → ℕ → ℕ) (found : Bool → A) (fine : (b : Bool) → number (found b) ≡ 0)
+    (one : (old : ℕ) → value (found true) old ≡ 1) (none : (old : ℕ) → value (found false) old ≡ 0) where
+  decides : (b : Bool) (P : Type 0) → (b ≡ true) ↔ P → Decides number value (found b) P
+  decides true P e = record {
+    fine = fine true;
+    yes = λ old. ((λ q. e .0 refl), (λ p. one old));
+    no = λ old. ((λ q. absurd (omega (arith, one old))), (λ n. absurd (n (e .0 refl))));
+  }
+  decides false P e = record {
+    fine = fine false;
+    yes = λ old. ((λ q. absurd (omega (arith, none old))), (λ p. clash false (e .1 p) refl));
+    no = λ old. ((λ q p. clash false (e .1 p) refl), (λ n. none old));
+  }
 
--- what contain and cover find has the number 0
-contain-found-number : (b : Bool) → containNumber (containFound b) ≡ 0
-unfolding containNumber containFound
-contain-found-number true = refl
-contain-found-number false = refl
+contain-decides : (b : Bool) (P : Type 0) → (b ≡ true) ↔ P → Decides containNumber containValue (containFound b) P
+unfolding containNumber containValue containFound
+contain-decides =
+    decides containNumber containValue containFound (λ b. elim b [ true ↦ refl | false ↦ refl ]) (λ old. refl) (λ old. refl)
 
-cover-found-number : (b : Bool) → coverNumber (coverFound b) ≡ 0
-unfolding coverNumber coverFound
-cover-found-number true = refl
-cover-found-number false = refl
+cover-decides : (b : Bool) (P : Type 0) → (b ≡ true) ↔ P → Decides coverNumber coverValue (coverFound b) P
+unfolding coverNumber coverValue coverFound
+cover-decides = decides coverNumber coverValue coverFound (λ b. elim b [ true ↦ refl | false ↦ refl ]) (λ old. refl) (λ old. refl)
+
+-- a refusal: its number, and the old value
+contain-refused : (x : Contain) (n : ℕ) → x ≡ C.Refused n → RefusedWith containNumber containValue x n
+unfolding containNumber containValue
+contain-refused x n e = record { told = ap containNumber e; stays = λ old. ap (λ y. containValue y old) e }
+
+lead-refused : (x : Lead) (n : ℕ) → x ≡ D.Refused n → RefusedWith leadNumber leadValue x n
+unfolding leadNumber leadValue
+lead-refused x n e = record { told = ap leadNumber e; stays = λ old. ap (λ y. leadValue y old) e }
+
+cover-refused : (x : Cover) (n : ℕ) → x ≡ E.Refused n → RefusedWith coverNumber coverValue x n
+unfolding coverNumber coverValue
+cover-refused x n e = record { told = ap coverNumber e; stays = λ old. ap (λ y. coverValue y old) e }
 
 -- Contain
 
-pub data ContainSays (R : Rules) (s item replica : List ℕ) (t : ℕ) : Contain → Type 0 where
-  contain-own : (n : ℕ) → parse R s ≡ refused n → ContainSays R s item replica t (C.Refused n)
-  contain-17 : (k : Knowledge) → parse R s ≡ accepted k → wrongPlace item replica ≡ true → ContainSays R s item replica t (C.Refused 17)
-  contain-found : (k : Knowledge) → parse R s ≡ accepted k → wrongPlace item replica ≡ false
-      → ContainSays R s item replica t (containFound (contains k (idOf 24 item) (idOf 16 replica) t))
-
--- the equation of each case
 module _ (R : Rules) (s item replica : List ℕ) (t : ℕ) where
-  contain-of : (p : Parsed Knowledge) → parse R s ≡ p
-      → containAnswer R s item replica t ≡ refusedOr C.Refused (containFound (contains (readAs p) (idOf 24 item) (idOf 16 replica) t)) (one p (wrongPlace item replica))
-  unfolding containAnswer one
-  contain-of p e = ap (λ p. refusedOr C.Refused (containFound (contains (readAs p) (idOf 24 item) (idOf 16 replica) t)) (one p (wrongPlace item replica))) e
+  -- what is found for a knowledge
+  contain-here : Knowledge → Contain
+  contain-here k = containFound (contains k (beAt item 24 0) (beAt replica 16 0) t)
 
-  contain-is-own : (n : ℕ) → parse R s ≡ refused n → containAnswer R s item replica t ≡ C.Refused n
-  contain-is-own n e = contain-of (refused n) e ∙ refused-is C.Refused _ _ n (one-refused n (wrongPlace item replica))
-
-  contain-is-17 : (k : Knowledge) → parse R s ≡ accepted k → wrongPlace item replica ≡ true → containAnswer R s item replica t ≡ C.Refused 17
-  contain-is-17 k e f =
-      contain-of (accepted k) e ∙ refused-is C.Refused _ _ 17 (one-accepted k (wrongPlace item replica) ∙ last-wrong (wrongPlace item replica) f)
-
-  contain-is-found : (k : Knowledge) → parse R s ≡ accepted k → wrongPlace item replica ≡ false
-      → containAnswer R s item replica t ≡ containFound (contains k (idOf 24 item) (idOf 16 replica) t)
-  unfolding readOr
-  contain-is-found k e f =
-      contain-of (accepted k) e ∙ found-is C.Refused _ _ (one-accepted k (wrongPlace item replica) ∙ last-right (wrongPlace item replica) f)
+  contain-is : containAnswer R s item replica t ≡ one C.Refused (wrongIds item replica) contain-here (parse R s)
+  unfolding containAnswer one contain-here idOf
+  contain-is = refl
 
   pub contain-says : ContainSays R s item replica t (containAnswer R s item replica t)
-  contain-says = go (parse R s) refl (wrongPlace item replica) refl
-    where
-      go : (p : Parsed Knowledge) → parse R s ≡ p → (w : Bool) → wrongPlace item replica ≡ w → ContainSays R s item replica t (containAnswer R s item replica t)
-      go (refused n) e w f = subst (ContainSays R s item replica t) (sym (contain-is-own n e)) (contain-own n e)
-      go (accepted k) e true f = subst (ContainSays R s item replica t) (sym (contain-is-17 k e f)) (contain-17 k e f)
-      go (accepted k) e false f = subst (ContainSays R s item replica t) (sym (contain-is-found k e f)) (contain-found k e f)
-
-  -- the number and the value of the answer: the knowledge's own number; 17 where the item id is not 24 bytes long or
-  -- the replica id not 16; else 0, and 1 exactly where the tick is 1 or more and at most the known tick
-  pub contain-number-own : (n : ℕ) → parse R s ≡ refused n
-      → (containNumber (containAnswer R s item replica t) ≡ n) × (containValue (containAnswer R s item replica t) ≡ 0)
-  unfolding containNumber containValue
-  contain-number-own n e = (ap containNumber (contain-is-own n e), ap containValue (contain-is-own n e))
-
-  pub contain-number-17 : (k : Knowledge) → parse R s ≡ accepted k → ((length item ≡ 24) × (length replica ≡ 16) → ⊥)
-      → (containNumber (containAnswer R s item replica t) ≡ 17) × (containValue (containAnswer R s item replica t) ≡ 0)
-  unfolding containNumber containValue
-  contain-number-17 k e f =
-      let q : containAnswer R s item replica t ≡ C.Refused 17 = contain-is-17 k e (no-false (wrongPlace item replica) (λ w. f (place-exact item replica .0 w))) in
-      (ap containNumber q, ap containValue q)
-
-  module _ (k : Knowledge) (e : parse R s ≡ accepted k) (f : length item ≡ 24) (g : length replica ≡ 16) where
-    contain-right : containAnswer R s item replica t ≡ containFound (contains k (beAt item 24 0) (beAt replica 16 0) t)
-    unfolding idOf
-    contain-right = contain-is-found k e (place-exact item replica .1 (f, g))
-
-    pub contain-number : containNumber (containAnswer R s item replica t) ≡ 0
-    contain-number = ap containNumber contain-right ∙ contain-found-number (contains k (beAt item 24 0) (beAt replica 16 0) t)
-
-    pub contain-value-yes : 1 ≤ t → t ≤ known k (beAt item 24 0) (beAt replica 16 0) → containValue (containAnswer R s item replica t) ≡ 1
-    unfolding containValue containFound
-    contain-value-yes l h = ap containValue (contain-right ∙ ap containFound (contains-exact k (beAt item 24 0) (beAt replica 16 0) t .1 (l, h)))
-
-    pub contain-value-no : ((1 ≤ t) × (t ≤ known k (beAt item 24 0) (beAt replica 16 0)) → ⊥) → containValue (containAnswer R s item replica t) ≡ 0
-    unfolding containValue containFound
-    contain-value-no h =
-        let c = contains-exact k (beAt item 24 0) (beAt replica 16 0) t in
-        ap containValue (contain-right ∙ ap containFound (no-true (contains k (beAt item 24 0) (beAt replica 16 0) t) (λ y. h (c .0 y))))
+  unfolding contain-here
+  contain-says = record {
+    own = λ n e. contain-refused _ n (contain-is ∙ one-refused C.Refused (wrongIds item replica) contain-here (parse R s) n e);
+    ids = λ k e f.
+        let wrong = no-false (wrongIds item replica) (λ w. f (wrong-ids-exact item replica .0 w)) in
+        contain-refused _ 17 (contain-is ∙ one-wrong C.Refused (wrongIds item replica) contain-here (parse R s) k e wrong);
+    found = λ k e f.
+        let right = wrong-ids-exact item replica .1 f in
+        rw (contain-is ∙ one-right C.Refused (wrongIds item replica) contain-here (parse R s) k e right)
+        (contain-decides (contains k (beAt item 24 0) (beAt replica 16 0) t)
+        ((1 ≤ t) × (t ≤ known k (beAt item 24 0) (beAt replica 16 0)))
+        (contains-exact k (beAt item 24 0) (beAt replica 16 0) t));
+  }
 
 -- Lead
 
@@ -214,156 +183,91 @@ pub lead-behind : (a b : Knowledge) (i p : ℕ) → known a i p < known b i p �
 unfolding leadOf
 lead-behind a b i p h = sub-behind (known a i p) (known b i p) h
 
-pub data LeadSays (R : Rules) (s t item replica : List ℕ) : Lead → Type 0 where
-  lead-first : (n : ℕ) → parse R s ≡ refused n → LeadSays R s t item replica (D.Refused n)
-  lead-second : (a : Knowledge) (n : ℕ) → parse R s ≡ accepted a → parse R t ≡ refused n → LeadSays R s t item replica (D.Refused n)
-  lead-17 : (a b : Knowledge) → parse R s ≡ accepted a → parse R t ≡ accepted b → wrongPlace item replica ≡ true
-      → LeadSays R s t item replica (D.Refused 17)
-  lead-found : (a b : Knowledge) → parse R s ≡ accepted a → parse R t ≡ accepted b → wrongPlace item replica ≡ false
-      → LeadSays R s t item replica (D.Ahead (leadOf a b (idOf 24 item) (idOf 16 replica)))
+lead-difference : (a b : Knowledge) (i p : ℕ) → Difference (D.Ahead (leadOf a b i p)) (known a i p) (known b i p)
+unfolding leadNumber leadValue
+lead-difference a b i p = record { fine = refl; ahead = λ h old. lead-ahead a b i p h; behind = λ h old. lead-behind a b i p h }
 
--- the equation of each case
 module _ (R : Rules) (s t item replica : List ℕ) where
-  lead-of : (p q : Parsed Knowledge) → parse R s ≡ p → parse R t ≡ q
-      → leadAnswer R s t item replica ≡ refusedOr D.Refused (D.Ahead (leadOf (readAs p) (readAs q) (idOf 24 item) (idOf 16 replica))) (two p q (wrongPlace item replica))
-  unfolding leadAnswer two
-  lead-of p q e f = ap₂ (λ p q. refusedOr D.Refused (D.Ahead (leadOf (readAs p) (readAs q) (idOf 24 item) (idOf 16 replica))) (two p q (wrongPlace item replica))) e f
+  lead-here : Knowledge → Knowledge → Lead
+  lead-here a b = D.Ahead (leadOf a b (beAt item 24 0) (beAt replica 16 0))
 
-  lead-is-first : (n : ℕ) → parse R s ≡ refused n → leadAnswer R s t item replica ≡ D.Refused n
-  lead-is-first n e = lead-of (refused n) (parse R t) e refl ∙ refused-is D.Refused _ _ n (two-first n (parse R t) (wrongPlace item replica))
+  lead-is : leadAnswer R s t item replica ≡ two D.Refused (wrongIds item replica) lead-here (parse R s) (parse R t)
+  unfolding leadAnswer two lead-here idOf
+  lead-is = refl
 
-  lead-is-second : (a : Knowledge) (n : ℕ) → parse R s ≡ accepted a → parse R t ≡ refused n → leadAnswer R s t item replica ≡ D.Refused n
-  lead-is-second a n e f = lead-of (accepted a) (refused n) e f ∙ refused-is D.Refused _ _ n (two-second a n (wrongPlace item replica))
-
-  lead-is-17 : (a b : Knowledge) → parse R s ≡ accepted a → parse R t ≡ accepted b → wrongPlace item replica ≡ true → leadAnswer R s t item replica ≡ D.Refused 17
-  lead-is-17 a b e f g =
-      lead-of (accepted a) (accepted b) e f ∙ refused-is D.Refused _ _ 17 (two-accepted a b (wrongPlace item replica) ∙ last-wrong (wrongPlace item replica) g)
-
-  lead-is-found : (a b : Knowledge) → parse R s ≡ accepted a → parse R t ≡ accepted b → wrongPlace item replica ≡ false
-      → leadAnswer R s t item replica ≡ D.Ahead (leadOf a b (idOf 24 item) (idOf 16 replica))
-  unfolding readOr
-  lead-is-found a b e f g =
-      lead-of (accepted a) (accepted b) e f ∙ found-is D.Refused _ _ (two-accepted a b (wrongPlace item replica) ∙ last-right (wrongPlace item replica) g)
+  lead-later : (a : Knowledge) → parse R s ≡ accepted a
+      → leadAnswer R s t item replica ≡ one D.Refused (wrongIds item replica) (lead-here a) (parse R t)
+  lead-later a e = lead-is ∙ two-later D.Refused (wrongIds item replica) lead-here (parse R s) (parse R t) a e
 
   pub lead-says : LeadSays R s t item replica (leadAnswer R s t item replica)
-  lead-says = go (parse R s) refl (parse R t) refl (wrongPlace item replica) refl
-    where
-      go : (p : Parsed Knowledge) → parse R s ≡ p → (q : Parsed Knowledge) → parse R t ≡ q → (w : Bool) → wrongPlace item replica ≡ w → LeadSays R s t item replica (leadAnswer R s t item replica)
-      go (refused n) e q f w g = subst (LeadSays R s t item replica) (sym (lead-is-first n e)) (lead-first n e)
-      go (accepted a) e (refused n) f w g = subst (LeadSays R s t item replica) (sym (lead-is-second a n e f)) (lead-second a n e f)
-      go (accepted a) e (accepted b) f true g = subst (LeadSays R s t item replica) (sym (lead-is-17 a b e f g)) (lead-17 a b e f g)
-      go (accepted a) e (accepted b) f false g = subst (LeadSays R s t item replica) (sym (lead-is-found a b e f g)) (lead-found a b e f g)
-
-  -- the number and the value of the answer: the first knowledge's own number, then the second's; 17 where the item id is
-  -- not 24 bytes long or the replica id not 16; else 0, and the first's tick minus the second's
-  pub lead-number-first : (n : ℕ) → parse R s ≡ refused n → (leadNumber (leadAnswer R s t item replica) ≡ n) × (leadValue (leadAnswer R s t item replica) ≡ pos 0)
-  unfolding leadNumber leadValue
-  lead-number-first n e = (ap leadNumber (lead-is-first n e), ap leadValue (lead-is-first n e))
-
-  pub lead-number-second : (a : Knowledge) (n : ℕ) → parse R s ≡ accepted a → parse R t ≡ refused n
-      → (leadNumber (leadAnswer R s t item replica) ≡ n) × (leadValue (leadAnswer R s t item replica) ≡ pos 0)
-  unfolding leadNumber leadValue
-  lead-number-second a n e f = (ap leadNumber (lead-is-second a n e f), ap leadValue (lead-is-second a n e f))
-
-  pub lead-number-17 : (a b : Knowledge) → parse R s ≡ accepted a → parse R t ≡ accepted b → ((length item ≡ 24) × (length replica ≡ 16) → ⊥)
-      → (leadNumber (leadAnswer R s t item replica) ≡ 17) × (leadValue (leadAnswer R s t item replica) ≡ pos 0)
-  unfolding leadNumber leadValue
-  lead-number-17 a b e f g =
-      let q = lead-is-17 a b e f (no-false (wrongPlace item replica) (λ w. g (place-exact item replica .0 w))) in
-      (ap leadNumber q, ap leadValue q)
-
-  module _ (a b : Knowledge) (e : parse R s ≡ accepted a) (f : parse R t ≡ accepted b) (g : length item ≡ 24) (h : length replica ≡ 16) where
-    lead-right : leadAnswer R s t item replica ≡ D.Ahead (leadOf a b (beAt item 24 0) (beAt replica 16 0))
-    unfolding idOf
-    lead-right = lead-is-found a b e f (place-exact item replica .1 (g, h))
-
-    pub lead-number : leadNumber (leadAnswer R s t item replica) ≡ 0
-    unfolding leadNumber
-    lead-number = ap leadNumber lead-right
-
-    pub lead-value-ahead : known b (beAt item 24 0) (beAt replica 16 0) ≤ known a (beAt item 24 0) (beAt replica 16 0)
-        → leadValue (leadAnswer R s t item replica) ≡ pos (known a (beAt item 24 0) (beAt replica 16 0) - known b (beAt item 24 0) (beAt replica 16 0))
-    unfolding leadValue
-    lead-value-ahead l = ap leadValue lead-right ∙ lead-ahead a b (beAt item 24 0) (beAt replica 16 0) l
-
-    pub lead-value-behind : known a (beAt item 24 0) (beAt replica 16 0) < known b (beAt item 24 0) (beAt replica 16 0)
-        → leadValue (leadAnswer R s t item replica) ≡ negsuc (known b (beAt item 24 0) (beAt replica 16 0) - suc (known a (beAt item 24 0) (beAt replica 16 0)))
-    unfolding leadValue
-    lead-value-behind l = ap leadValue lead-right ∙ lead-behind a b (beAt item 24 0) (beAt replica 16 0) l
+  unfolding lead-here
+  lead-says = record {
+    one = λ n e. lead-refused _ n (lead-is ∙ two-first D.Refused (wrongIds item replica) lead-here (parse R s) (parse R t) n e);
+    other = λ a n e f.
+        lead-refused _ n (lead-later a e ∙ one-refused D.Refused (wrongIds item replica) (lead-here a) (parse R t) n f);
+    ids = λ a b e f g.
+        let wrong = no-false (wrongIds item replica) (λ w. g (wrong-ids-exact item replica .0 w)) in
+        lead-refused _ 17 (lead-later a e ∙ one-wrong D.Refused (wrongIds item replica) (lead-here a) (parse R t) b f wrong);
+    found = λ a b e f g.
+        let right = wrong-ids-exact item replica .1 g in
+        rw (lead-later a e ∙ one-right D.Refused (wrongIds item replica) (lead-here a) (parse R t) b f right)
+        (lead-difference a b (beAt item 24 0) (beAt replica 16 0));
+  }
 
 -- Cover
 
-pub data CoverSays (R : Rules) (s t first last : List ℕ) : Cover → Type 0 where
-  cover-first : (n : ℕ) → parse R s ≡ refused n → CoverSays R s t first last (E.Refused n)
-  cover-second : (a : Knowledge) (n : ℕ) → parse R s ≡ accepted a → parse R t ≡ refused n → CoverSays R s t first last (E.Refused n)
-  cover-17 : (a b : Knowledge) → parse R s ≡ accepted a → parse R t ≡ accepted b → wrongSpan first last ≡ true → CoverSays R s t first last (E.Refused 17)
-  cover-found : (a b : Knowledge) → parse R s ≡ accepted a → parse R t ≡ accepted b → wrongSpan first last ≡ false
-      → CoverSays R s t first last (coverFound (covers a b (idOf 24 first) (idOf 24 last)))
+-- knowing at least as much for the replica ids of 16 bytes is knowing at least as much for all: no other is in a lawful map
+at-least : (R : Rules) (a b : Knowledge) (first last : ℕ) → Lawful R b → Covers a b first last ↔ AtLeast a b first last
+at-least R a b first last l = (
+  (λ c. record { known = λ i p h k small. c .known i p h k }),
+  (λ c.
+      record {
+        known = λ i p h k.
+            elim (order (known b i p) 0) [
+              | less z ↦ absurd (omega arith)
+              | same z ↦ omega arith
+              | more z ↦ c .known i p h k (known-id R b l i p z)
+            ];
+      }),
+)
 
--- the equation of each case
 module _ (R : Rules) (s t first last : List ℕ) where
-  cover-of : (p q : Parsed Knowledge) → parse R s ≡ p → parse R t ≡ q
-      → coverAnswer R s t first last ≡ refusedOr E.Refused (coverFound (covers (readAs p) (readAs q) (idOf 24 first) (idOf 24 last))) (two p q (wrongSpan first last))
-  unfolding coverAnswer two
-  cover-of p q e f = ap₂ (λ p q. refusedOr E.Refused (coverFound (covers (readAs p) (readAs q) (idOf 24 first) (idOf 24 last))) (two p q (wrongSpan first last))) e f
+  cover-here : Knowledge → Knowledge → Cover
+  cover-here a b = coverFound (covers a b (beAt first 24 0) (beAt last 24 0))
 
-  cover-is-first : (n : ℕ) → parse R s ≡ refused n → coverAnswer R s t first last ≡ E.Refused n
-  cover-is-first n e = cover-of (refused n) (parse R t) e refl ∙ refused-is E.Refused _ _ n (two-first n (parse R t) (wrongSpan first last))
+  cover-is : coverAnswer R s t first last ≡ two E.Refused (wrongSpan first last) cover-here (parse R s) (parse R t)
+  unfolding coverAnswer two cover-here idOf
+  cover-is = refl
 
-  cover-is-second : (a : Knowledge) (n : ℕ) → parse R s ≡ accepted a → parse R t ≡ refused n → coverAnswer R s t first last ≡ E.Refused n
-  cover-is-second a n e f = cover-of (accepted a) (refused n) e f ∙ refused-is E.Refused _ _ n (two-second a n (wrongSpan first last))
+  cover-later : (a : Knowledge) → parse R s ≡ accepted a
+      → coverAnswer R s t first last ≡ one E.Refused (wrongSpan first last) (cover-here a) (parse R t)
+  cover-later a e = cover-is ∙ two-later E.Refused (wrongSpan first last) cover-here (parse R s) (parse R t) a e
 
-  cover-is-17 : (a b : Knowledge) → parse R s ≡ accepted a → parse R t ≡ accepted b → wrongSpan first last ≡ true → coverAnswer R s t first last ≡ E.Refused 17
-  cover-is-17 a b e f g =
-      cover-of (accepted a) (accepted b) e f ∙ refused-is E.Refused _ _ 17 (two-accepted a b (wrongSpan first last) ∙ last-wrong (wrongSpan first last) g)
+  pub cover-says : Permitted (R .limits) → CoverSays R s t first last (coverAnswer R s t first last)
+  unfolding cover-here
+  cover-says permitted = record {
+    one = λ n e. cover-refused _ n (cover-is ∙ two-first E.Refused (wrongSpan first last) cover-here (parse R s) (parse R t) n e);
+    other = λ a n e f.
+        cover-refused _ n (cover-later a e ∙ one-refused E.Refused (wrongSpan first last) (cover-here a) (parse R t) n f);
+    span = λ a b e f g.
+        let wrong = no-false (wrongSpan first last) (λ w. g (span-exact first last .0 w)) in
+        cover-refused _ 17 (cover-later a e ∙ one-wrong E.Refused (wrongSpan first last) (cover-here a) (parse R t) b f wrong);
+    found = λ a b octets e f g.
+        let c = covers-exact a b (beAt first 24 0) (beAt last 24 0) in
+        let d = at-least R a b (beAt first 24 0) (beAt last 24 0) (read-lawful R t b permitted octets f) in
+        let right = span-exact first last .1 g in
+        rw (cover-later a e ∙ one-right E.Refused (wrongSpan first last) (cover-here a) (parse R t) b f right)
+        (cover-decides (covers a b (beAt first 24 0) (beAt last 24 0)) (AtLeast a b (beAt first 24 0) (beAt last 24 0))
+        ((λ q. d .0 (c .0 q)), (λ q. c .1 (d .1 q))));
+  }
 
-  cover-is-found : (a b : Knowledge) → parse R s ≡ accepted a → parse R t ≡ accepted b → wrongSpan first last ≡ false
-      → coverAnswer R s t first last ≡ coverFound (covers a b (idOf 24 first) (idOf 24 last))
-  unfolding readOr
-  cover-is-found a b e f g =
-      cover-of (accepted a) (accepted b) e f ∙ found-is E.Refused _ _ (two-accepted a b (wrongSpan first last) ∙ last-right (wrongSpan first last) g)
+pub answers : (R : Rules) → Permitted (R .limits) → Answers R
+answers R permitted = record {
+  contains = contain-says R;
+  leads = lead-says R;
+  covers = λ s t first last. cover-says R s t first last permitted;
+}
 
-  pub cover-says : CoverSays R s t first last (coverAnswer R s t first last)
-  cover-says = go (parse R s) refl (parse R t) refl (wrongSpan first last) refl
-    where
-      go : (p : Parsed Knowledge) → parse R s ≡ p → (q : Parsed Knowledge) → parse R t ≡ q → (w : Bool) → wrongSpan first last ≡ w → CoverSays R s t first last (coverAnswer R s t first last)
-      go (refused n) e q f w g = subst (CoverSays R s t first last) (sym (cover-is-first n e)) (cover-first n e)
-      go (accepted a) e (refused n) f w g = subst (CoverSays R s t first last) (sym (cover-is-second a n e f)) (cover-second a n e f)
-      go (accepted a) e (accepted b) f true g = subst (CoverSays R s t first last) (sym (cover-is-17 a b e f g)) (cover-17 a b e f g)
-      go (accepted a) e (accepted b) f false g = subst (CoverSays R s t first last) (sym (cover-is-found a b e f g)) (cover-found a b e f g)
-
-  -- the number and the value of the answer: the first knowledge's own number, then the second's; 17 where an id is not
-  -- 24 bytes long or the first is above the last; else 0, and 1 exactly where the first knowledge covers the second
-  pub cover-number-first : (n : ℕ) → parse R s ≡ refused n → (coverNumber (coverAnswer R s t first last) ≡ n) × (coverValue (coverAnswer R s t first last) ≡ 0)
-  unfolding coverNumber coverValue
-  cover-number-first n e = (ap coverNumber (cover-is-first n e), ap coverValue (cover-is-first n e))
-
-  pub cover-number-second : (a : Knowledge) (n : ℕ) → parse R s ≡ accepted a → parse R t ≡ refused n
-      → (coverNumber (coverAnswer R s t first last) ≡ n) × (coverValue (coverAnswer R s t first last) ≡ 0)
-  unfolding coverNumber coverValue
-  cover-number-second a n e f = (ap coverNumber (cover-is-second a n e f), ap coverValue (cover-is-second a n e f))
-
-  pub cover-number-17 : (a b : Knowledge) → parse R s ≡ accepted a → parse R t ≡ accepted b → ((length first ≡ 24) × ((length last ≡ 24) × (beAt first 24 0 ≤ beAt last 24 0)) → ⊥)
-      → (coverNumber (coverAnswer R s t first last) ≡ 17) × (coverValue (coverAnswer R s t first last) ≡ 0)
-  unfolding coverNumber coverValue
-  cover-number-17 a b e f g =
-      let q = cover-is-17 a b e f (no-false (wrongSpan first last) (λ w. g (span-exact first last .0 w))) in
-      (ap coverNumber q, ap coverValue q)
-
-  module _
-      (a b : Knowledge) (e : parse R s ≡ accepted a) (f : parse R t ≡ accepted b) (g : length first ≡ 24) (h : length last ≡ 24) (l : beAt first 24 0 ≤ beAt last 24 0)
-    where
-      cover-right : coverAnswer R s t first last ≡ coverFound (covers a b (beAt first 24 0) (beAt last 24 0))
-      unfolding idOf
-      cover-right = cover-is-found a b e f (span-exact first last .1 (g, (h, l)))
-
-      pub cover-number : coverNumber (coverAnswer R s t first last) ≡ 0
-      cover-number = ap coverNumber cover-right ∙ cover-found-number (covers a b (beAt first 24 0) (beAt last 24 0))
-
-      pub cover-value-yes : Covers a b (beAt first 24 0) (beAt last 24 0) → coverValue (coverAnswer R s t first last) ≡ 1
-      unfolding coverValue coverFound
-      cover-value-yes c = ap coverValue (cover-right ∙ ap coverFound (covers-exact a b (beAt first 24 0) (beAt last 24 0) .1 c))
-
-      pub cover-value-no : (Covers a b (beAt first 24 0) (beAt last 24 0) → ⊥) → coverValue (coverAnswer R s t first last) ≡ 0
-      unfolding coverValue coverFound
-      cover-value-no c = ap coverValue (cover-right ∙ ap coverFound (no-true (covers a b (beAt first 24 0) (beAt last 24 0)) (λ y. c (covers-exact a b (beAt first 24 0) (beAt last 24 0) .0 y))))
+-- with document 01's limits
+pub answers-basic : Answers basic
+answers-basic = answers basic base-permitted

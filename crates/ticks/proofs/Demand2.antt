@@ -1,30 +1,26 @@
 -- Demand 2 holds. The layout is exact; containment is read off the known ticks; normal forms are known by their ticks, so by
 -- their versions; a result within the limits is lawful, so its bytes read back; and merge's known tick is the larger.
-use Prim.Native.Nat.{ℕ, _≤_}
-use mathlib.Core.Path.{_≡_, refl, sym, _∙_, ap}
+use Prim.Native.Nat.{ℕ}
+use mathlib.Core.Path.{_≡_, sym, _∙_, ap}
 use mathlib.Core.Logic.{_↔_}
-use mathlib.Core.Bool.{Bool, true, false}
+use mathlib.Core.Bool.{false}
 use mathlib.Core.List.{List}
 use native.Mathlib.Omega.{arith}
-use lib.ListN.{length}
-use Rattle.codec.specs.Number.{Bytes, beAt}
+use Rattle.codec.specs.Number.{Bytes}
 use Rattle.codec.specs.Reply.{Reply, gives, refuses}
 use Rattle.layout.specs.Knowledge.{Rules, basic, Knowledge, Lawful, encode}
 use Rattle.layout.specs.Permitted.{Permitted}
 use Rattle.layout.specs.Parse.{Parsed, accepted, refused, parse}
 use Rattle.layout.proofs.Exact.{exact, read-back, base-permitted}
-use Rattle.ticks.specs.Meaning.{known, contains, Normal}
+use Rattle.ticks.specs.Meaning.{Normal}
 use Rattle.ticks.specs.Operations.{normalise, merge, tooManyReplicas, tooManyRanges}
-use Rattle.ticks.specs.declared.Contain.{Contain}
 use Rattle.ticks.specs.declared.Contain.the-variants as C
-use Rattle.ticks.specs.Calls.{idOf, wrongPlace, containFound}
-use Rattle.ticks.specs.Demand2.{SameVersions, Written, Normalised, Merged, Demand2}
-use Rattle.ticks.proofs.Equality.{clash}
+use Rattle.ticks.specs.Demand2.{SameVersions, NormalBytes, Normalised, Merged, Demand2}
 use Rattle.ticks.proofs.Operations.{normal-normalise, normal-merge}
-use Rattle.ticks.proofs.Algebra.{contains-exact, versions-unique, contains-normalise, contains-merge}
+use Rattle.ticks.proofs.Algebra.{versions-unique, contains-normalise, contains-merge}
 use Rattle.ticks.proofs.LawfulResults.{lawful-normalise, lawful-merge}
 use Rattle.ticks.proofs.Replies.{read-lawful, ResultSays, over-replicas, over-ranges, result-given, NormaliseSays, normalise-own, normalise-result, normalise-says, MergeSays, merge-first, merge-second, merge-result, merge-says}
-use Rattle.ticks.proofs.Answers.{ContainSays, contain-own, contain-17, contain-found, contain-says, place-exact}
+use Rattle.ticks.proofs.Answers.{contain-says}
 
 pub gave : (n : ℕ) (bs : List ℕ) {A : Type 0} → refuses n ≡ gives bs → A
 gave n bs e = let z : _≡_ {A = ℕ} 0 1 = cc in absurd (omega arith)
@@ -37,11 +33,6 @@ accepted-same a b p e f = cc
 
 pub not-refused : (k : Knowledge) (n : ℕ) (p : Parsed Knowledge) {A : Type 0} → p ≡ accepted k → p ≡ refused n → A
 not-refused k n p e f = let z : _≡_ {A = ℕ} 0 1 = cc in absurd (omega arith)
-
-found-contained : (x : Bool) → (containFound x ≡ C.Contained) ↔ (x ≡ true)
-unfolding containFound
-found-contained true = ((λ e. refl), (λ e. refl))
-found-contained false = ((λ e. let z : _≡_ {A = ℕ} 0 1 = cc in absurd (omega arith)), (λ e. clash false e refl))
 
 -- a result that was given
 pub record Given (R : Rules) (k : Knowledge) (bs : List ℕ) : Type 0 where
@@ -56,21 +47,8 @@ given-result R k bs (result-given e f) q = record { few = e; short = f; bytes = 
 
 module _ (R : Rules) (permitted : Permitted (R .limits)) where
   -- a lawful normal form that was given reads back
-  pub given-written : (k : Knowledge) (bs : List ℕ) → Given R k bs → Lawful R k → Normal k → Written R bs k
-  given-written k bs g l n = record { bytes = g .bytes; back = ap (parse R) (g .bytes) ∙ read-back R permitted k l; normal = n }
-
-  versions-of : (s item replica : List ℕ) (t : ℕ) (k : Knowledge) → parse R s ≡ accepted k → length item ≡ 24 → length replica ≡ 16
-      → {x : Contain} → ContainSays R s item replica t x → (x ≡ C.Contained) ↔ ((1 ≤ t) × (t ≤ known k (beAt item 24 0) (beAt replica 16 0)))
-  unfolding idOf
-  versions-of s item replica t k e f g (contain-own n h) = not-refused k n (parse R s) e h
-  versions-of s item replica t k e f g (contain-17 a h w) = clash (wrongPlace item replica) w (place-exact item replica .1 (f, g))
-  versions-of s item replica t k e f g (contain-found a h w) =
-      let same : a ≡ k = accepted-same a k (parse R s) h e in
-      let c = found-contained (contains a (idOf 24 item) (idOf 16 replica) t) in
-      let d = contains-exact k (idOf 24 item) (idOf 16 replica) t in
-      let move : contains a (idOf 24 item) (idOf 16 replica) t ≡ contains k (idOf 24 item) (idOf 16 replica) t =
-      ap (λ l. contains l (idOf 24 item) (idOf 16 replica) t) same in
-      ((λ q. d .0 (sym move ∙ c .0 q)), (λ q. c .1 (move ∙ d .1 q)))
+  pub given-normal : (k : Knowledge) (bs : List ℕ) → Given R k bs → Lawful R k → Normal k → NormalBytes R bs k
+  given-normal k bs g l n = record { bytes = g .bytes; back = ap (parse R) (g .bytes) ∙ read-back R permitted k l; form = n }
 
   normalised-of : (s bs : List ℕ) → Bytes s → {r : Reply} → NormaliseSays R s r → r ≡ gives bs → Normalised R s bs
   normalised-of s bs b (normalise-own n h) q = gave n bs q
@@ -80,7 +58,7 @@ module _ (R : Rules) (permitted : Permitted (R .limits)) where
         given = k;
         result = normalise k;
         read = h;
-        written = given-written (normalise k) bs g (lawful-normalise R k (read-lawful R s k permitted b h) (g .short)) (normal-normalise k);
+        normal = given-normal (normalise k) bs g (lawful-normalise R k (read-lawful R s k permitted b h) (g .short)) (normal-normalise k);
         versions = contains-normalise k;
       }
 
@@ -95,23 +73,26 @@ module _ (R : Rules) (permitted : Permitted (R .limits)) where
         result = merge x y;
         first = h;
         second = f;
-        written =
-            given-written (merge x y) bs g
+        normal =
+            given-normal (merge x y) bs g
             (lawful-merge R x y (read-lawful R s x permitted b h) (read-lawful R t y permitted c f) (g .few) (g .short)) (normal-merge x y);
-        versions = λ i p v l. contains-merge x y i p v l;
+        versions = λ i p v l small. contains-merge x y i p v l;
       }
 
   equal-of : (s t : List ℕ) (a b : Knowledge) → Bytes s → Bytes t → parse R s ≡ accepted a → parse R t ≡ accepted b → Normal a → Normal b
       → SameVersions a b ↔ (s ≡ t)
-  equal-of s t a b x y e f n m = (
-    (λ v. exact R permitted s a x .0 e .0 ∙ ap encode (versions-unique a b n m .0 v) ∙ sym (exact R permitted t b y .0 f .0)),
-    (λ q. versions-unique a b n m .1 (accepted-same a b (parse R t) (ap (parse R) (sym q) ∙ e) f)),
-  )
+  equal-of s t a b x y e f n m =
+      let own = exact R permitted s a x .0 e in
+      let its = exact R permitted t b y .0 f in
+      let law = versions-unique a b (own .1 .ids) (its .1 .ids) n m in (
+        (λ v. own .0 ∙ ap encode (law .0 v) ∙ sym (its .0)),
+        (λ q. law .1 (accepted-same a b (parse R t) (ap (parse R) (sym q) ∙ e) f)),
+      )
 
   pub demand2 : Demand2 R
   demand2 = record {
     layout = λ s k b. exact R permitted s k b;
-    versions = λ s item replica t k e f g. versions-of s item replica t k e f g (contain-says R s item replica t);
+    versions = λ s item replica t k e f g. contain-says R s item replica t .found k e (f, g);
     equal = equal-of;
     normalised = λ s bs b q. normalised-of s bs b (normalise-says R s) q;
     merged = λ s t bs b c q. merged-of s t bs b c (merge-says R s t) q;

@@ -1,9 +1,9 @@
 -- What the lines of a call's table say where they do not hold: ids have their lengths, the span is no empty one, a
 -- knowledge was read, and a result is within the limits. Each is read off its definition by the outcome of its tests.
-use Prim.Native.Nat.{ℕ, _≤_, _<_}
-use mathlib.Core.Path.{_≡_, refl, sym, ap, _∙_}
-use mathlib.Core.Bool.{Bool, true, false, not, _||_}
-use mathlib.Core.List.{List, [], _∷_}
+use Prim.Native.Nat.{ℕ, _≤_}
+use mathlib.Core.Path.{_≡_, refl}
+use mathlib.Core.Bool.{Bool, true, false, _||_}
+use mathlib.Core.List.{List}
 use native.Mathlib.Omega.{arith}
 use lib.Dec.{eqb, ltb}
 use lib.ListN.{length}
@@ -11,9 +11,8 @@ use borrow.Author.Tests.{eqb-true, ltb-false, not-false}
 use Rattle.codec.specs.Number.{beAt}
 use Rattle.codec.proofs.Replies.{None}
 use Rattle.layout.specs.Knowledge.{Limits, Knowledge}
-use Rattle.layout.specs.Parse.{Parsed, accepted, refused}
 use Rattle.ticks.specs.Operations.{tooManyReplicas, tooManyRanges}
-use Rattle.ticks.specs.Calls.{idOf, readAs, ownFault, wrongLength, wrongSpan, resultLines}
+use Rattle.ticks.specs.Calls.{idOf, wrongLength, wrongSpan, resultLines}
 
 pub or-false : (a b : Bool) → (a || b) ≡ false → (a ≡ false) × (b ≡ false)
 or-false false b h = (refl, h)

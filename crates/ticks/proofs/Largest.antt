@@ -4,29 +4,30 @@ use Prim.Native.Nat.{ℕ, _≤_, max}
 use mathlib.Core.Path.{_≡_, refl, sym, _∙_, ap}
 use mathlib.Core.Logic.{_⊎_, inl, inr, ⊎-elim, _↔_}
 use mathlib.Core.Bool.{true, false}
+use mathlib.Core.Option.{Option, none}
 use mathlib.Core.List.{List, [], _∷_}
-use native.Mathlib.Omega.{arith}
+use native.Mathlib.Omega.{arith, none}
 use lib.Dec.{eqb}
-use lib.ListN.{length, getD, List·getD-eq-default}
 use borrow.Author.Tests.{eq-eqb, ne-eqb}
+use Rattle.layout.specs.declared.VectorIndex.{VectorIndex}
 use Rattle.layout.specs.Knowledge.{Range, Knowledge, bounds}
-use Rattle.ticks.specs.Meaning.{highest, placeBy, tickAt, indexAt, vectorAt, known, Sound}
+use Rattle.ticks.specs.Meaning.{highest, placeBy, tickAt, vectorAt, known, Sound, vectorFound, indexFrom}
 use Rattle.ticks.specs.Operations.{largestAt, largestFrom, largest, alikeFrom, ownAlike}
 use Rattle.ticks.proofs.Lists.{Among, less, same, more, order, among?, all-among}
 use Rattle.ticks.proofs.Equality.{clash, eqb-exact, exact?}
 use Rattle.ticks.proofs.Steps.{steady-from}
 use Rattle.ticks.proofs.Vectors.{tick-nil}
-use Rattle.ticks.proofs.Numbering.{index-nil, index-lt}
+use Rattle.ticks.proofs.Numbering.{index-nil, index-lt, found-none}
 use Rattle.ticks.proofs.Written.{known-in, known-out}
 use Rattle.ticks.proofs.Operations.{known-steady, in-map}
 
 -- Every known tick is 0 or known at a bound
 
-index-zero : (none : ℕ) (xs : List Range) → (Among 0 (bounds xs) → ⊥) → indexAt none xs 0 ≡ none
+index-zero : (found : Option VectorIndex) (xs : List Range) → (Among 0 (bounds xs) → ⊥) → indexFrom found xs 0 ≡ found
 unfolding bounds
-index-zero none [] n = index-nil none 0
-index-zero none (x ∷ xs) n =
-    elim (order 0 (x .bound)) [ less k ↦ index-lt none x xs 0 k | same k ↦ absurd (n (inl k)) | more k ↦ absurd (omega arith) ]
+index-zero found [] n = index-nil found 0
+index-zero found (x ∷ xs) n =
+    elim (order 0 (x .bound)) [ less k ↦ index-lt found x xs 0 k | same k ↦ absurd (n (inl k)) | more k ↦ absurd (omega arith) ]
 
 known-zero : (k : Knowledge) (p : ℕ) → (Among 0 (bounds (k .ranges)) → ⊥) → known k 0 p ≡ 0
 unfolding vectorAt
@@ -35,7 +36,7 @@ known-zero k p n =
       | inl m ↦
           known-in k 0 p m
           ∙ ap (λ v. tickAt v (placeBy eqb p (k .replicas)))
-          (ap (λ y. getD (k .vectors) y []) (index-zero (length (k .vectors)) (k .ranges) n) ∙ List·getD-eq-default (k .vectors) [] (omega arith))
+          (ap (vectorFound (k .vectors)) (index-zero none (k .ranges) n) ∙ found-none (k .vectors))
           ∙ tick-nil (placeBy eqb p (k .replicas))
       | inr m ↦ known-out k 0 p m
     ]

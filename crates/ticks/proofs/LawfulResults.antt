@@ -1,18 +1,20 @@
--- Lawful knowledges are sound. A normal form with acceptable ids, ticks at most the largest and counts within the limits is
--- lawful; so is the result of each operation on lawful knowledges, where its counts are within the limits.
+-- Lawful knowledges are sound. A knowledge that meets the conditions of normal form but for the map's order, with acceptable
+-- ids, ticks at most the largest and counts within the limits, is lawful; so is the result of each operation on lawful
+-- knowledges, where its counts are within the limits.
 use Prim.Native.Nat.{ℕ, zero, suc, _+_, _≤_, _<_, _^_}
 use mathlib.Core.Path.{_≡_, refl, sym, ap, subst}
 use mathlib.Core.Logic.{inl, inr, ⊎-elim}
 use mathlib.Core.Bool.{false}
+use mathlib.Core.Option.{none}
 use mathlib.Core.List.{List, [], _∷_, _++_}
-use native.Mathlib.Omega.{arith}
+use native.Mathlib.Omega.{arith, none}
 use lib.Dec.{eqb}
 use lib.ListN.{length, getD}
 use Rattle.layout.specs.Knowledge.{Rules, largestTick, Element, Range, Knowledge, All, Rising, keys, bounds, Lawful}
 use Rattle.layout.proofs.Parts.{LawfulId, LawfulElement, LawfulVector, LawfulRange, parts, whole}
-use Rattle.ticks.specs.Meaning.{highest, placeBy, tickAt, vectorAt, indexAt, known, indices, Sound, Normal, emptyKnowledge}
+use Rattle.ticks.specs.Meaning.{highest, placeBy, tickAt, vectorAt, known, indices, Sound, Formed, EachUsed, emptyKnowledge, indexFrom}
 use Rattle.ticks.specs.Operations.{normalise, merge, project, raise, tooManyReplicas, tooManyRanges}
-use Rattle.ticks.proofs.Lists.{Among, among?, all-among, among-all, among-cases, rising-distinct, rising-above, in-span, below-span, above-span, inside?}
+use Rattle.ticks.proofs.Lists.{Among, among?, all-among, among-all, among-cases, rising-distinct, rising-above, side-in, side-below, side-above, span-side}
 use Rattle.ticks.proofs.Equality.{eqb-exact, exact?}
 use Rattle.ticks.proofs.Canonical.{highest-suc}
 use Rattle.ticks.proofs.Vectors.{keys-length, tick-nil, tick-same, tick-other}
@@ -20,7 +22,7 @@ use Rattle.ticks.proofs.Numbering.{indices-length}
 use Rattle.ticks.proofs.FirstUse.{met-count}
 use Rattle.ticks.proofs.Written.{known-in, known-out}
 use Rattle.ticks.proofs.Rebuilt.{used-index, order-first}
-use Rattle.ticks.proofs.Unique.{all-get, get-in-order, key-known, index-bound, replica-known}
+use Rattle.ticks.proofs.Unique.{all-get, get-in-order, found-all, key-known, vector-bound, replica-known}
 use Rattle.ticks.proofs.Operations.{known-normalise, normal-normalise, known-merge, normal-merge, known-project-inside, known-project-below, known-project-above, normal-project, known-raise-own, known-raise-other, normal-raise}
 use Rattle.ticks.proofs.Counts.{normalise-map, merge-map, project-map, raise-map, replicas-fit, ranges-fit, normalise-never-11, project-never-11}
 
@@ -60,8 +62,8 @@ lawful-items v (x ∷ xs) a = (below-top (x .bound) (a .0 .size), lawful-items v
 pub lawful-sound : (R : Rules) (k : Knowledge) → Lawful R k → Sound k
 lawful-sound R k l = record {
   distinct = l .distinct;
-  keys = lawful-keys (length (k .replicas)) (k .vectors) (parts R k l .clocks);
-  indices = lawful-indices (length (k .vectors)) (k .ranges) (parts R k l .spans);
+  keysBelow = lawful-keys (length (k .replicas)) (k .vectors) (parts R k l .clocks);
+  indicesBelow = lawful-indices (length (k .vectors)) (k .ranges) (parts R k l .spans);
   rising = l .rising;
   items = lawful-items (length (k .vectors)) (k .ranges) (parts R k l .spans);
 }
@@ -76,10 +78,9 @@ ticks-most r (x ∷ xs) key a =
       | inr n ↦ omega (arith, tick-other x xs key n, ticks-most r xs key (a .1))
     ]
 
-vectors-most : (r : ℕ) (vs : List (List Element)) (n key : ℕ) → All (LawfulVector r) vs → tickAt (getD vs n []) key ≤ largestTick
-vectors-most r [] n key a = omega (arith, tick-nil key)
-vectors-most r (es ∷ vs) zero key a = ticks-most r es key (a .0 .elements)
-vectors-most r (es ∷ vs) (suc n) key a = vectors-most r vs n key (a .1)
+vectors-most : (r : ℕ) (vs : List (List Element)) (key : ℕ) → All (LawfulVector r) vs → All (λ es. tickAt es key ≤ largestTick) vs
+vectors-most r [] key a = tt
+vectors-most r (es ∷ vs) key a = (ticks-most r es key (a .0 .elements), vectors-most r vs key (a .1))
 
 pub lawful-ticks : (R : Rules) (k : Knowledge) (i p : ℕ) → Lawful R k → known k i p ≤ largestTick
 unfolding vectorAt
@@ -89,12 +90,14 @@ lawful-ticks R k i p l =
           omega (
             arith,
             known-in k i p m,
-            vectors-most (length (k .replicas)) (k .vectors) (indexAt (length (k .vectors)) (k .ranges) i) (placeBy eqb p (k .replicas)) (parts R k l .clocks),
+            found-all (λ es. tickAt es (placeBy eqb p (k .replicas)) ≤ largestTick) (k .vectors) (indexFrom none (k .ranges) i)
+                (vectors-most (length (k .replicas)) (k .vectors) (placeBy eqb p (k .replicas)) (parts R k l .clocks))
+                (omega (arith, tick-nil (placeBy eqb p (k .replicas)))),
           )
       | inr n ↦ omega (arith, known-out k i p n)
     ]
 
--- Every element of a normal form is a known tick
+-- Every element is a known tick, where the conditions hold
 
 all-by-get : {A : Type 0} (P : A → Type 0) (d : A) (xs : List A) → ((n : ℕ) → n < length xs → P (getD xs n d)) → All P xs
 all-by-get P d [] f = tt
@@ -123,25 +126,23 @@ keys-below r (x ∷ xs) key a (inr m) = keys-below r xs key (a .1) m
 nothing-below : (m : ℕ) (es : List Element) → es ≡ [] → All (λ x. x .tick ≤ m) es
 nothing-below m es e = subst (All (λ x. x .tick ≤ m)) (sym e) tt
 
-pub normal-ticks : (k : Knowledge) (m : ℕ) → Normal k → ((i p : ℕ) → i ≤ highest → known k i p ≤ m) → All (All (λ x. x .tick ≤ m)) (k .vectors)
-unfolding vectorAt
-normal-ticks k m n f = all-by-get (All (λ x. x .tick ≤ m)) [] (k .vectors) each
+pub formed-ticks : (k : Knowledge) (m : ℕ) → Formed k → ((i p : ℕ) → i ≤ highest → known k i p ≤ m) → All (All (λ x. x .tick ≤ m)) (k .vectors)
+formed-ticks k m form f = all-by-get (All (λ x. x .tick ≤ m)) [] (k .vectors) each
   where
     each : (y : ℕ) → y < length (k .vectors) → All (λ x. x .tick ≤ m) (getD (k .vectors) y [])
-    each zero h = nothing-below m (getD (k .vectors) 0 []) (n .over .emptyFirst)
+    each zero h = nothing-below m (getD (k .vectors) 0 []) (form .emptyFirst)
     each (suc y) h =
-        let w = index-bound 0 (length (k .vectors)) (k .ranges) (suc y) (n .over .sound .rising) (used-index (k .replicas) k (suc y) (n .over) (omega arith) h) in
-        let e : vectorAt k (w .0) ≡ getD (k .vectors) (suc y) [] = ap (λ z. getD (k .vectors) z []) (w .1 .1) in
-        let b : w .0 ≤ highest = all-among (λ b. b ≤ highest) (bounds (k .ranges)) (n .over .sound .items) (w .0) (w .1 .0) in
+        let w = vector-bound k (suc y) (form .sound) (used-index k (suc y) form (omega arith) h) in
+        let b : w .0 ≤ highest = all-among (λ b. b ≤ highest) (bounds (k .ranges)) (form .sound .items) (w .0) (w .1 .0) in
         elements-most m 0 (getD (k .vectors) (suc y) [])
-        (get-in-order (k .replicas) k (suc y) (n .over) .rising)
+        (get-in-order k (suc y) form .rising)
         (λ key o.
         let l : key < length (k .replicas) =
         keys-below (length (k .replicas)) (getD (k .vectors) (suc y) []) key
-        (all-get (All (λ x. x .key .0 < length (k .replicas))) [] (k .vectors) (suc y) (n .over .sound .keys) tt) o in
-        omega (arith, f (w .0) (getD (k .replicas) key 0) b, key-known k (w .0) key (n .over .sound) l, ap (λ v. tickAt v key) e))
+        (all-get (All (λ x. x .key .0 < length (k .replicas))) [] (k .vectors) (suc y) (form .sound .keysBelow) tt) o in
+        omega (arith, f (w .0) (getD (k .replicas) key 0) b, key-known k (w .0) key (form .sound) l, ap (λ v. tickAt v key) (w .1 .1)))
 
--- A normal form within the limits is lawful
+-- Within the limits it is lawful
 
 rising-count : (lo r : ℕ) (xs : List ℕ) → Rising lo xs → All (λ x. x < r) xs → lo ≤ r → lo + length xs ≤ r
 rising-count lo r [] s a h = omega arith
@@ -177,34 +178,34 @@ unfolding bounds
 some-range [] z = absurd (omega arith)
 some-range (x ∷ xs) z = omega arith
 
--- a normal form has at most one vector more than ranges
-pub normal-vectors : (k : Knowledge) → Normal k → length (k .vectors) ≤ length (k .ranges) + 1
-normal-vectors k n =
+-- at most one vector more than ranges
+pub formed-vectors : (k : Knowledge) → Formed k → length (k .vectors) ≤ length (k .ranges) + 1
+formed-vectors k form =
     omega (
       arith,
       indices-length (k .ranges),
-      met-count 1 (indices (k .ranges)) (length (k .vectors)) (order-first (k .replicas) k (n .over)),
+      met-count 1 (indices (k .ranges)) (length (k .vectors)) (order-first k form),
     )
 
-pub lawful-normal : (R : Rules) (k : Knowledge) → Normal k
+pub lawful-formed : (R : Rules) (k : Knowledge) → Formed k
     → ((p : ℕ) → Among p (k .replicas) → LawfulId R p)
     → ((i p : ℕ) → i ≤ highest → known k i p ≤ largestTick)
     → tooManyReplicas (R .limits) k ≡ false → tooManyRanges (R .limits) k ≡ false → Lawful R k
-lawful-normal R k n ids ticks few short =
+lawful-formed R k form ids ticks few short =
     let r : length (k .replicas) ≤ R .limits .replicas = replicas-fit (R .limits) k .0 few in
     let g : length (k .ranges) ≤ R .limits .ranges = ranges-fit (R .limits) k .0 short in
     whole R k (record {
       replicas = r;
       ids = among-all (LawfulId R) (k .replicas) ids;
-      distinct = n .over .sound .distinct;
-      someVector = n .over .someVector;
-      vectors = omega (arith, normal-vectors k n);
-      first = n .over .emptyFirst;
-      clocks = lawful-vectors (length (k .replicas)) (k .vectors) (n .over .sound .keys) (n .over .elements) (normal-ticks k largestTick n ticks);
-      someRange = some-range (k .ranges) (n .over .firstRange);
+      distinct = form .sound .distinct;
+      someVector = form .someVector;
+      vectors = omega (arith, formed-vectors k form);
+      first = form .emptyFirst;
+      clocks = lawful-vectors (length (k .replicas)) (k .vectors) (form .sound .keysBelow) (form .elements) (formed-ticks k largestTick form ticks);
+      someRange = some-range (k .ranges) (form .firstRange);
       ranges = g;
-      spans = lawful-ranges (length (k .vectors)) (k .ranges) (n .over .sound .indices) (n .over .sound .items);
-      rising = n .over .sound .rising;
+      spans = lawful-ranges (length (k .vectors)) (k .ranges) (form .sound .indicesBelow) (form .sound .items);
+      rising = form .sound .rising;
     })
 
 -- The results of the operations
@@ -212,22 +213,22 @@ lawful-normal R k n ids ticks few short =
 pub lawful-id : (R : Rules) (k : Knowledge) (p : ℕ) → Lawful R k → Among p (k .replicas) → LawfulId R p
 lawful-id R k p l m = all-among (LawfulId R) (k .replicas) (parts R k l .ids) p m
 
-from-known : (R : Rules) (k : Knowledge) (ids : List ℕ) → Normal k → ((i p : ℕ) → i ≤ highest → 1 ≤ known k i p → Among p ids)
+from-known : (R : Rules) (k : Knowledge) (ids : List ℕ) → Formed k → EachUsed k → ((i p : ℕ) → i ≤ highest → 1 ≤ known k i p → Among p ids)
     → ((p : ℕ) → Among p ids → LawfulId R p) → (p : ℕ) → Among p (k .replicas) → LawfulId R p
-from-known R k ids n f g p m = let w = replica-known k p n m in g p (f (w .0) p (w .1 .0) (w .1 .1))
+from-known R k ids form each f g p m = let w = replica-known k p form each m in g p (f (w .0) p (w .1 .0) (w .1 .1))
 
 pub lawful-normalise : (R : Rules) (k : Knowledge) → Lawful R k → tooManyRanges (R .limits) (normalise k) ≡ false → Lawful R (normalise k)
 lawful-normalise R k l short =
-    lawful-normal R (normalise k) (normal-normalise k)
-    (from-known R (normalise k) (k .replicas) (normal-normalise k) (normalise-map k) (λ p m. lawful-id R k p l m))
+    lawful-formed R (normalise k) (normal-normalise k .formed)
+    (from-known R (normalise k) (k .replicas) (normal-normalise k .formed) (normal-normalise k .used) (normalise-map k) (λ p m. lawful-id R k p l m))
     (λ i p h. omega (arith, known-normalise k i p h, lawful-ticks R k i p l))
     (normalise-never-11 (R .limits) k (l .replicas)) short
 
 pub lawful-merge : (R : Rules) (a b : Knowledge) → Lawful R a → Lawful R b
     → tooManyReplicas (R .limits) (merge a b) ≡ false → tooManyRanges (R .limits) (merge a b) ≡ false → Lawful R (merge a b)
 lawful-merge R a b l m few short =
-    lawful-normal R (merge a b) (normal-merge a b)
-    (from-known R (merge a b) (a .replicas ++ b .replicas) (normal-merge a b) (merge-map a b)
+    lawful-formed R (merge a b) (normal-merge a b .formed)
+    (from-known R (merge a b) (a .replicas ++ b .replicas) (normal-merge a b .formed) (normal-merge a b .used) (merge-map a b)
     (λ p o. ⊎-elim (lawful-id R a p l) (lawful-id R b p m) (among-cases p (a .replicas) (b .replicas) o)))
     (λ i p h. omega (arith, known-merge a b i p h, lawful-ticks R a i p l, lawful-ticks R b i p m))
     few short
@@ -235,21 +236,21 @@ lawful-merge R a b l m few short =
 pub lawful-project : (R : Rules) (first last : ℕ) (k : Knowledge) → Lawful R k
     → tooManyRanges (R .limits) (project first last k) ≡ false → Lawful R (project first last k)
 lawful-project R first last k l short =
-    lawful-normal R (project first last k) (normal-project first last k)
-    (from-known R (project first last k) (k .replicas) (normal-project first last k) (project-map first last k) (λ p m. lawful-id R k p l m))
+    lawful-formed R (project first last k) (normal-project first last k .formed)
+    (from-known R (project first last k) (k .replicas) (normal-project first last k .formed) (normal-project first last k .used) (project-map first last k) (λ p m. lawful-id R k p l m))
     (λ i p h.
-    elim (inside? first last i) [
-      | in-span m n ↦ omega (arith, known-project-inside first last k i p h m n, lawful-ticks R k i p l)
-      | below-span m ↦ omega (arith, known-project-below first last k i p h m)
-      | above-span m ↦ omega (arith, known-project-above first last k i p h m)
+    elim (span-side first last i) [
+      | side-in m n ↦ omega (arith, known-project-inside first last k i p h m n, lawful-ticks R k i p l)
+      | side-below m ↦ omega (arith, known-project-below first last k i p h m)
+      | side-above m ↦ omega (arith, known-project-above first last k i p h m)
     ])
     (project-never-11 (R .limits) first last k (l .replicas)) short
 
 pub lawful-raise : (R : Rules) (q t : ℕ) (k : Knowledge) → Lawful R k → LawfulId R q → t ≤ largestTick
     → tooManyReplicas (R .limits) (raise q t k) ≡ false → tooManyRanges (R .limits) (raise q t k) ≡ false → Lawful R (raise q t k)
 lawful-raise R q t k l a h few short =
-    lawful-normal R (raise q t k) (normal-raise q t k)
-    (from-known R (raise q t k) (q ∷ k .replicas) (normal-raise q t k) (raise-map q t k)
+    lawful-formed R (raise q t k) (normal-raise q t k .formed)
+    (from-known R (raise q t k) (q ∷ k .replicas) (normal-raise q t k .formed) (normal-raise q t k .used) (raise-map q t k)
     (λ p o. ⊎-elim (λ e. subst (LawfulId R) (sym e) a) (lawful-id R k p l) o))
     (λ i p b.
     elim (exact? eqb eqb-exact p q) [

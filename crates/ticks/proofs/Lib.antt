@@ -1,4 +1,5 @@
 -- The laws of known ticks, normal form and the operations on knowledge.
+pub mod NotNormal
 pub mod Lists
 pub mod Equality
 pub mod Steps
@@ -20,8 +21,9 @@ pub mod Largest
 pub mod Counts
 pub mod LawfulResults
 pub mod ForCover
+pub mod Meaning
 pub mod Replies
 pub mod Answers
 pub mod Demand2
+pub mod Settled
 pub mod Results
-pub mod Meaning

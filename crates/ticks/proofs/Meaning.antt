@@ -3,16 +3,18 @@
 use Prim.Native.Nat.{ℕ, zero, suc, _≤_, _<_, _^_}
 use mathlib.Core.Path.{_≡_, refl, sym, _∙_, ap}
 use mathlib.Core.Logic.{_⊎_, inl, inr, ⊎-elim}
+use mathlib.Core.Option.{Option, none, some}
 use mathlib.Core.List.{List, [], _∷_}
-use native.Mathlib.Omega.{arith}
-use lib.ListN.{length, getD, List·getD-eq-default}
+use native.Mathlib.Omega.{arith, none}
+use lib.ListN.{length, getD}
+use Rattle.layout.specs.declared.VectorIndex.{VectorIndex}
 use Rattle.layout.specs.Knowledge.{Rules, largestTick, Element, Range, Knowledge, All, Distinct, Rising, keys, bounds, Lawful}
 use Rattle.layout.proofs.Parts.{LawfulVector, parts}
-use Rattle.ticks.specs.Meaning.{place, tickAt, indexAt, vectorAt, known, Sound}
+use Rattle.ticks.specs.Meaning.{place, tickAt, vectorAt, known, Sound, vectorOf, vectorFound, indexFrom}
 use Rattle.ticks.specs.Operations.{largest}
 use Rattle.ticks.proofs.Lists.{Among, less, same, more, order, among?, all-among, rising-above}
 use Rattle.ticks.proofs.Vectors.{tick-nil, tick-same, tick-other, key-tick}
-use Rattle.ticks.proofs.Numbering.{index-nil, index-lt, index-ge}
+use Rattle.ticks.proofs.Numbering.{index-nil, index-lt, index-ge, found-some, found-none}
 use Rattle.ticks.proofs.Written.{known-in, known-out}
 use Rattle.ticks.proofs.Unique.{key-known, known-replica}
 use Rattle.ticks.proofs.Largest.{largest-attained}
@@ -35,30 +37,31 @@ pub record GreatestAtOrBelow (i : ℕ) (x : Range) (xs : List Range) : Type 0 wh
   pub below : x .bound ≤ i
   pub greatest : (y : Range) → In y xs → y .bound ≤ i → y .bound ≤ x .bound
 
-index-past : (none : ℕ) (xs : List Range) (i : ℕ) → ((y : Range) → In y xs → i < y .bound) → indexAt none xs i ≡ none
-index-past none [] i f = index-nil none i
-index-past none (y ∷ ys) i f = index-lt none y ys i (f y (inl refl))
+index-past : (found : Option VectorIndex) (xs : List Range) (i : ℕ) → ((y : Range) → In y xs → i < y .bound) → indexFrom found xs i ≡ found
+index-past found [] i f = index-nil found i
+index-past found (y ∷ ys) i f = index-lt found y ys i (f y (inl refl))
 
-pub index-greatest : (none lo : ℕ) (xs : List Range) (i : ℕ) (x : Range) → Rising lo (bounds xs) → GreatestAtOrBelow i x xs → indexAt none xs i ≡ x .index .0
+pub index-greatest : (found : Option VectorIndex) (lo : ℕ) (xs : List Range) (i : ℕ) (x : Range) → Rising lo (bounds xs) → GreatestAtOrBelow i x xs
+    → indexFrom found xs i ≡ some (x .index)
 unfolding bounds
-index-greatest none lo [] i x r g = absurd (g .here)
-index-greatest none lo (y ∷ ys) i x r g =
+index-greatest found lo [] i x r g = absurd (g .here)
+index-greatest found lo (y ∷ ys) i x r g =
     ⊎-elim
     (λ e.
     let h : y .bound ≤ i = omega (arith, g .below, ap (λ z. z .bound) e) in
-    index-ge none y ys i h
-    ∙ index-past (y .index .0) ys i
+    index-ge found y ys i h
+    ∙ index-past (some (y .index)) ys i
     (λ z m.
     elim (order i (z .bound)) [
       | less k ↦ k
       | same k ↦ absurd (beyond e z m (omega arith))
       | more k ↦ absurd (beyond e z m (omega arith))
     ])
-    ∙ ap (λ z. z .index .0) (sym e))
+    ∙ ap (λ z. some (z .index)) (sym e))
     (λ m.
     let h : suc (y .bound) ≤ x .bound = rising-above (suc (y .bound)) (x .bound) (bounds ys) (r .1) (in-bounds x ys m) in
-    index-ge none y ys i (omega (arith, g .below))
-    ∙ index-greatest (y .index .0) (suc (y .bound)) ys i x (r .1)
+    index-ge found y ys i (omega (arith, g .below))
+    ∙ index-greatest (some (y .index)) (suc (y .bound)) ys i x (r .1)
     (record { here = m; below = g .below; greatest = λ z n. g .greatest z (inr n) }))
     (g .here)
   where
@@ -66,14 +69,31 @@ index-greatest none lo (y ∷ ys) i x r g =
     beyond e z m h =
         omega (arith, g .greatest z (inr m) h, rising-above (suc (y .bound)) (z .bound) (bounds ys) (r .1) (in-bounds z ys m), ap (λ w. w .bound) e)
 
-pub vectorAt-greatest : (k : Knowledge) (i : ℕ) (x : Range) → Sound k → GreatestAtOrBelow i x (k .ranges) → vectorAt k i ≡ getD (k .vectors) (x .index .0) []
+pub vectorAt-greatest : (k : Knowledge) (i : ℕ) (x : Range) → Sound k → GreatestAtOrBelow i x (k .ranges) → vectorAt k i ≡ vectorOf k (x .index .0)
 unfolding vectorAt
-vectorAt-greatest k i x s g = ap (λ y. getD (k .vectors) y []) (index-greatest (length (k .vectors)) 0 (k .ranges) i x (s .rising) g)
+vectorAt-greatest k i x s g =
+    ap (vectorFound (k .vectors)) (index-greatest none 0 (k .ranges) i x (s .rising) g) ∙ found-some (k .vectors) (x .index)
 
 pub vectorAt-missing : (k : Knowledge) (i : ℕ) → ((y : Range) → In y (k .ranges) → i < y .bound) → vectorAt k i ≡ []
 unfolding vectorAt
-vectorAt-missing k i f =
-    ap (λ y. getD (k .vectors) y []) (index-past (length (k .vectors)) (k .ranges) i f) ∙ List·getD-eq-default (k .vectors) [] (omega arith)
+vectorAt-missing k i f = ap (vectorFound (k .vectors)) (index-past none (k .ranges) i f) ∙ found-none (k .vectors)
+
+-- where two starts have the same vector, so has what the search finds
+found-start : (vs : List (List Element)) (x y : Option VectorIndex) (rs : List Range) (i : ℕ) → vectorFound vs x ≡ vectorFound vs y
+    → vectorFound vs (indexFrom x rs i) ≡ vectorFound vs (indexFrom y rs i)
+found-start vs x y [] i e = ap (vectorFound vs) (index-nil x i) ∙ e ∙ ap (vectorFound vs) (sym (index-nil y i))
+found-start vs x y (r ∷ rs) i e =
+    elim (order i (r .bound)) [
+      | less h ↦ ap (vectorFound vs) (index-lt x r rs i h) ∙ e ∙ ap (vectorFound vs) (sym (index-lt y r rs i h))
+      | same h ↦ ap (vectorFound vs) (index-ge x r rs i (omega arith) ∙ sym (index-ge y r rs i (omega arith)))
+      | more h ↦ ap (vectorFound vs) (index-ge x r rs i (omega arith) ∙ sym (index-ge y r rs i (omega arith)))
+    ]
+
+-- where vector 0 is empty, a search that starts at index 0 finds the same vector as one that starts at none
+pub vectorAt-zero : (k : Knowledge) (i : ℕ) → vectorOf k 0 ≡ [] → vectorFound (k .vectors) (indexFrom (some (record { 0 = 0 })) (k .ranges) i) ≡ vectorAt k i
+unfolding vectorAt
+vectorAt-zero k i e =
+    found-start (k .vectors) (some (record { 0 = 0 })) none (k .ranges) i (found-some (k .vectors) (record { 0 = 0 }) ∙ e ∙ sym (found-none (k .vectors)))
 
 in-keys : (e : Element) (es : List Element) → In e es → Among (e .key .0) (keys es)
 unfolding keys

@@ -8,16 +8,16 @@ use native.Mathlib.Omega.{arith}
 use lib.Dec.{eqb}
 use lib.ListN.{length}
 use Rattle.layout.specs.Knowledge.{All, Distinct, Rising, keys}
-use Rattle.ticks.specs.Meaning.{highest, place, tickAt, vectorAt, known, NormalOver}
+use Rattle.ticks.specs.Meaning.{highest, place, tickAt, vectorAt, known, Formed}
 use Rattle.ticks.specs.Table.{Row, Table, get, at, sorted, rowIds, stepIds, usedIds}
-use Rattle.ticks.specs.Written.{vectorFrom, spansFrom, spans, numbered, written}
+use Rattle.ticks.specs.Written.{vectorFrom, vectorStepsFrom, vectorSteps, indexed, knowledgeOf}
 use Rattle.ticks.proofs.Lists.{Among, less, same, more, order, among?, sorted-in, sorted-rising}
 use Rattle.ticks.proofs.Equality.{eqb-exact, exact?, place-found}
 use Rattle.ticks.proofs.Steps.{Changing, at-nil, at-lt, at-ge}
 use Rattle.ticks.proofs.Rows.{RisingRow, row-unique, get-nil, get-same, get-other}
 use Rattle.ticks.proofs.Canonical.{tableTick, RisingRows, CanonicalTable}
 use Rattle.ticks.proofs.Vectors.{vector-in-order, vector-keys, vector-tick}
-use Rattle.ticks.proofs.Written.{among-place, known-in, known-out, vectorAt-numbered, VectorOver, normal-numbered}
+use Rattle.ticks.proofs.Written.{among-place, known-in, known-out, vectorAt-indexed, VectorOver, formed-indexed}
 
 -- each id with a tick in the row is in the map
 abbrev pub RowOver : List ℕ → Row → Type 0
@@ -42,25 +42,25 @@ vector-injective ids v w r s a b e =
     λ p m. sym (vector-get ids v p m) ∙ ap (λ es. tickAt es (place p ids)) e ∙ vector-get ids w p m in
     row-unique 0 v w r s (λ p. ⊎-elim (found p) (λ y. ⊎-elim (found p) (λ z. y ∙ sym z) (b p)) (a p))
 
-pub spans-nil : (ids : List ℕ) → spansFrom ids [] ≡ []
-unfolding spansFrom
-spans-nil ids = refl
+pub vector-steps-nil : (ids : List ℕ) → vectorStepsFrom ids [] ≡ []
+unfolding vectorStepsFrom
+vector-steps-nil ids = refl
 
-pub spans-cons : (ids : List ℕ) (e : ℕ × Row) (s : List (ℕ × Row)) → spansFrom ids (e ∷ s) ≡ (e .0, vectorFrom 0 ids (e .1)) ∷ spansFrom ids s
-unfolding spansFrom
-spans-cons ids e s = refl
+pub vector-steps-cons : (ids : List ℕ) (e : ℕ × Row) (s : List (ℕ × Row)) → vectorStepsFrom ids (e ∷ s) ≡ (e .0, vectorFrom 0 ids (e .1)) ∷ vectorStepsFrom ids s
+unfolding vectorStepsFrom
+vector-steps-cons ids e s = refl
 
-spans-changing : (hi lo : ℕ) (ids : List ℕ) (v : Row) (s : List (ℕ × Row)) → RisingRow 0 v → RisingRows s → RowOver ids v → RowsOver ids s
-    → Changing hi lo v s → Changing hi lo (vectorFrom 0 ids v) (spansFrom ids s)
-spans-changing hi lo ids v [] r rs o os c = rw spans-nil tt
-spans-changing hi lo ids v (e ∷ s) r rs o os c =
-    rw spans-cons (
+vector-steps-changing : (hi lo : ℕ) (ids : List ℕ) (v : Row) (s : List (ℕ × Row)) → RisingRow 0 v → RisingRows s → RowOver ids v → RowsOver ids s
+    → Changing hi lo v s → Changing hi lo (vectorFrom 0 ids v) (vectorStepsFrom ids s)
+vector-steps-changing hi lo ids v [] r rs o os c = rw vector-steps-nil tt
+vector-steps-changing hi lo ids v (e ∷ s) r rs o os c =
+    rw vector-steps-cons (
       c .0,
       (
         c .1 .0,
         (
           (λ q. c .1 .1 .0 (vector-injective ids (e .1) v (rs .0) r (os .0) o q)),
-          spans-changing hi (suc (e .0)) ids (e .1) s (rs .0) (rs .1) (os .0) (os .1) (c .1 .1 .1),
+          vector-steps-changing hi (suc (e .0)) ids (e .1) s (rs .0) (rs .1) (os .0) (os .1) (c .1 .1 .1),
         ),
       ),
     )
@@ -68,25 +68,25 @@ spans-changing hi lo ids v (e ∷ s) r rs o os c =
 vector-over : (ids : List ℕ) (row : Row) → VectorOver (length ids) (vectorFrom 0 ids row)
 vector-over ids row = record { keys = vector-keys (length ids) 0 ids row (omega arith); order = vector-in-order ids row }
 
-spans-over : (ids : List ℕ) (s : List (ℕ × Row)) → All (λ e. VectorOver (length ids) (e .1)) (spansFrom ids s)
-spans-over ids [] = rw spans-nil tt
-spans-over ids (e ∷ s) = rw spans-cons (vector-over ids (e .1), spans-over ids s)
+vector-steps-over : (ids : List ℕ) (s : List (ℕ × Row)) → All (λ e. VectorOver (length ids) (e .1)) (vectorStepsFrom ids s)
+vector-steps-over ids [] = rw vector-steps-nil tt
+vector-steps-over ids (e ∷ s) = rw vector-steps-cons (vector-over ids (e .1), vector-steps-over ids s)
 
-spans-at : (ids : List ℕ) (v : Row) (s : List (ℕ × Row)) (i : ℕ) → at (vectorFrom 0 ids v) (spansFrom ids s) i ≡ vectorFrom 0 ids (at v s i)
-spans-at ids v [] i =
-    ap (λ s. at (vectorFrom 0 ids v) s i) (spans-nil ids) ∙ at-nil (vectorFrom 0 ids v) i ∙ ap (vectorFrom 0 ids) (sym (at-nil v i))
-spans-at ids v (e ∷ s) i =
-    ap (λ s. at (vectorFrom 0 ids v) s i) (spans-cons ids e s)
+vector-steps-at : (ids : List ℕ) (v : Row) (s : List (ℕ × Row)) (i : ℕ) → at (vectorFrom 0 ids v) (vectorStepsFrom ids s) i ≡ vectorFrom 0 ids (at v s i)
+vector-steps-at ids v [] i =
+    ap (λ s. at (vectorFrom 0 ids v) s i) (vector-steps-nil ids) ∙ at-nil (vectorFrom 0 ids v) i ∙ ap (vectorFrom 0 ids) (sym (at-nil v i))
+vector-steps-at ids v (e ∷ s) i =
+    ap (λ s. at (vectorFrom 0 ids v) s i) (vector-steps-cons ids e s)
     ∙ (elim (order i (e .0)) [
-      | less k ↦ at-lt (vectorFrom 0 ids v) (e .0, vectorFrom 0 ids (e .1)) (spansFrom ids s) i k ∙ ap (vectorFrom 0 ids) (sym (at-lt v e s i k))
-      | same k ↦ onward (omega arith) (spans-at ids (e .1) s i)
-      | more k ↦ onward (omega arith) (spans-at ids (e .1) s i)
+      | less k ↦ at-lt (vectorFrom 0 ids v) (e .0, vectorFrom 0 ids (e .1)) (vectorStepsFrom ids s) i k ∙ ap (vectorFrom 0 ids) (sym (at-lt v e s i k))
+      | same k ↦ onward (omega arith) (vector-steps-at ids (e .1) s i)
+      | more k ↦ onward (omega arith) (vector-steps-at ids (e .1) s i)
     ])
   where
-    onward : e .0 ≤ i → at (vectorFrom 0 ids (e .1)) (spansFrom ids s) i ≡ vectorFrom 0 ids (at (e .1) s i)
-        → at (vectorFrom 0 ids v) ((e .0, vectorFrom 0 ids (e .1)) ∷ spansFrom ids s) i ≡ vectorFrom 0 ids (at v (e ∷ s) i)
+    onward : e .0 ≤ i → at (vectorFrom 0 ids (e .1)) (vectorStepsFrom ids s) i ≡ vectorFrom 0 ids (at (e .1) s i)
+        → at (vectorFrom 0 ids v) ((e .0, vectorFrom 0 ids (e .1)) ∷ vectorStepsFrom ids s) i ≡ vectorFrom 0 ids (at v (e ∷ s) i)
     onward k ih =
-        at-ge (vectorFrom 0 ids v) (e .0, vectorFrom 0 ids (e .1)) (spansFrom ids s) i k ∙ ih ∙ ap (vectorFrom 0 ids) (sym (at-ge v e s i k))
+        at-ge (vectorFrom 0 ids v) (e .0, vectorFrom 0 ids (e .1)) (vectorStepsFrom ids s) i k ∙ ih ∙ ap (vectorFrom 0 ids) (sym (at-ge v e s i k))
 
 -- A table over a replica map in any order
 
@@ -95,33 +95,33 @@ pub record TableOver (ids : List ℕ) (t : Table) : Type 0 where
   pub firstRow : RowOver ids (t .first)
   pub rows : RowsOver ids (t .rest)
 
-pub normal-written : (ids : List ℕ) (t : Table) → Distinct ids → CanonicalTable t → TableOver ids t → NormalOver ids (written ids t)
-unfolding written spans
-normal-written ids t d c o =
-    normal-numbered ids d (vectorFrom 0 ids (t .first)) (spansFrom ids (t .rest)) (vector-over ids (t .first)) (spans-over ids (t .rest))
-    (spans-changing highest 1 ids (t .first) (t .rest) (c .firstRow) (c .rows) (o .firstRow) (o .rows) (c .changing))
+pub formed-knowledge : (ids : List ℕ) (t : Table) → Distinct ids → CanonicalTable t → TableOver ids t → Formed (knowledgeOf ids t)
+unfolding knowledgeOf vectorSteps
+formed-knowledge ids t d c o =
+    formed-indexed ids d (vectorFrom 0 ids (t .first)) (vectorStepsFrom ids (t .rest)) (vector-over ids (t .first)) (vector-steps-over ids (t .rest))
+    (vector-steps-changing highest 1 ids (t .first) (t .rest) (c .firstRow) (c .rows) (o .firstRow) (o .rows) (c .changing))
 
-pub written-replicas : (ids : List ℕ) (t : Table) → written ids t .replicas ≡ ids
-unfolding written numbered
-written-replicas ids t = refl
+pub knowledge-replicas : (ids : List ℕ) (t : Table) → knowledgeOf ids t .replicas ≡ ids
+unfolding knowledgeOf indexed
+knowledge-replicas ids t = refl
 
-pub vectorAt-written : (ids : List ℕ) (t : Table) (i : ℕ) → vectorAt (written ids t) i ≡ vectorFrom 0 ids (at (t .first) (t .rest) i)
-unfolding written spans
-vectorAt-written ids t i =
-    vectorAt-numbered ids ((0, vectorFrom 0 ids (t .first)) ∷ spansFrom ids (t .rest)) i
-    ∙ at-ge [] (0, vectorFrom 0 ids (t .first)) (spansFrom ids (t .rest)) i (omega arith)
-    ∙ spans-at ids (t .first) (t .rest) i
+pub vectorAt-knowledge : (ids : List ℕ) (t : Table) (i : ℕ) → vectorAt (knowledgeOf ids t) i ≡ vectorFrom 0 ids (at (t .first) (t .rest) i)
+unfolding knowledgeOf vectorSteps
+vectorAt-knowledge ids t i =
+    vectorAt-indexed ids ((0, vectorFrom 0 ids (t .first)) ∷ vectorStepsFrom ids (t .rest)) i
+    ∙ at-ge [] (0, vectorFrom 0 ids (t .first)) (vectorStepsFrom ids (t .rest)) i (omega arith)
+    ∙ vector-steps-at ids (t .first) (t .rest) i
 
 -- of a replica in the map the known tick is the table's; of another it is 0
-pub known-written-in : (ids : List ℕ) (t : Table) (i p : ℕ) → Among p ids → known (written ids t) i p ≡ tableTick t i p
+pub known-knowledge-in : (ids : List ℕ) (t : Table) (i p : ℕ) → Among p ids → known (knowledgeOf ids t) i p ≡ tableTick t i p
 unfolding tableTick
-known-written-in ids t i p m =
-    known-in (written ids t) i p (rw (written-replicas ids t) m)
-    ∙ ap₂ tickAt (vectorAt-written ids t i) (ap (place p) (written-replicas ids t))
+known-knowledge-in ids t i p m =
+    known-in (knowledgeOf ids t) i p (rw (knowledge-replicas ids t) m)
+    ∙ ap₂ tickAt (vectorAt-knowledge ids t i) (ap (place p) (knowledge-replicas ids t))
     ∙ vector-get ids (at (t .first) (t .rest) i) p m
 
-pub known-written-out : (ids : List ℕ) (t : Table) (i p : ℕ) → (Among p ids → ⊥) → known (written ids t) i p ≡ 0
-known-written-out ids t i p n = known-out (written ids t) i p (λ m. n (rw (written-replicas ids t) at m))
+pub known-knowledge-out : (ids : List ℕ) (t : Table) (i p : ℕ) → (Among p ids → ⊥) → known (knowledgeOf ids t) i p ≡ 0
+known-knowledge-out ids t i p n = known-out (knowledgeOf ids t) i p (λ m. n (rw (knowledge-replicas ids t) at m))
 
 rows-over-at : (ids : List ℕ) (v : Row) (s : List (ℕ × Row)) (i : ℕ) → RowOver ids v → RowsOver ids s → RowOver ids (at v s i)
 rows-over-at ids v [] i o os p = rw at-nil (o p)
@@ -132,13 +132,13 @@ rows-over-at ids v (e ∷ s) i o os p =
       | more k ↦ rw (at-ge v e s i (omega arith)) (rows-over-at ids (e .1) s i (os .0) (os .1) p)
     ]
 
-pub known-written : (ids : List ℕ) (t : Table) (i p : ℕ) → TableOver ids t → known (written ids t) i p ≡ tableTick t i p
+pub known-knowledge : (ids : List ℕ) (t : Table) (i p : ℕ) → TableOver ids t → known (knowledgeOf ids t) i p ≡ tableTick t i p
 unfolding tableTick
-known-written ids t i p o =
+known-knowledge ids t i p o =
     elim (among? p ids) [
-      | inl m ↦ known-written-in ids t i p m
+      | inl m ↦ known-knowledge-in ids t i p m
       | inr n ↦
-          known-written-out ids t i p n
+          known-knowledge-out ids t i p n
           ∙ ⊎-elim (λ m. absurd (n m)) (λ z. sym z) (rows-over-at ids (t .first) (t .rest) i (o .firstRow) (o .rows) p)
     ]
 

@@ -3,14 +3,16 @@
 use Prim.Native.Nat.{ℕ, zero, suc, _≤_, _<_, max}
 use mathlib.Core.Path.{_≡_, refl, sym, _∙_, ap, ap₂}
 use mathlib.Core.List.{List, [], _∷_, _++_}
+use mathlib.Core.Option.{Option, none, some}
+use Rattle.layout.specs.declared.VectorIndex.{VectorIndex}
 use native.Mathlib.Omega.{arith}
 use lib.ListN.{length, getD, length-append, List·getD-append}
 use lib.Seq.{getD-append-seam}
 use borrow.Author.Tests.{lt-ltb, le-ltb}
 use Rattle.layout.specs.Knowledge.{Element, Range, All, bounds}
-use Rattle.ticks.specs.Meaning.{indexAt, indices}
+use Rattle.ticks.specs.Meaning.{indexFrom, vectorFound, indices}
 use Rattle.ticks.specs.Table.{at}
-use Rattle.ticks.specs.Written.{range, eqVector, numberOf, grown, vectorsOf, rangesOf}
+use Rattle.ticks.specs.Written.{rangeWith, eqVector, vectorNumber, grown, vectorsOf, rangesOf}
 use Rattle.ticks.proofs.Lists.{less, same, more, order}
 use Rattle.ticks.proofs.Equality.{eqVector-exact, place-le, place-found, place-first}
 use Rattle.ticks.proofs.Steps.{stepBounds, Changing, at-nil, at-lt, at-ge}
@@ -23,30 +25,30 @@ Vector = List Element
 pub record Apart (vs : List (List Element)) : Type 0 where
   pub apart : (y z : ℕ) → y < z → z < length vs → getD vs y [] ≡ getD vs z [] → ⊥
 
-pub number-le : (v : List Element) (seen : List (List Element)) → numberOf v seen ≤ length seen
+pub number-le : (v : List Element) (seen : List (List Element)) → vectorNumber v seen ≤ length seen
 number-le v seen = place-le eqVector eqVector-exact v seen
 
-pub grown-old : (seen : List (List Element)) (v : List Element) → numberOf v seen < length seen → grown seen v ≡ seen
+pub grown-old : (seen : List (List Element)) (v : List Element) → vectorNumber v seen < length seen → grown seen v ≡ seen
 unfolding grown
-grown-old seen v h = rw (lt-ltb (numberOf v seen) (length seen) h, grown)
+grown-old seen v h = rw (lt-ltb (vectorNumber v seen) (length seen) h, grown)
 
-pub grown-new : (seen : List (List Element)) (v : List Element) → numberOf v seen ≡ length seen → grown seen v ≡ seen ++ (v ∷ [])
+pub grown-new : (seen : List (List Element)) (v : List Element) → vectorNumber v seen ≡ length seen → grown seen v ≡ seen ++ (v ∷ [])
 unfolding grown
-grown-new seen v h = rw (le-ltb (numberOf v seen) (length seen) (omega arith), grown)
+grown-new seen v h = rw (le-ltb (vectorNumber v seen) (length seen) (omega arith), grown)
 
 -- a vector is met already, or it is new
 pub data Met (seen : List (List Element)) (v : List Element) : Type 0 where
-  old : numberOf v seen < length seen → Met seen v
-  new : numberOf v seen ≡ length seen → Met seen v
+  old : vectorNumber v seen < length seen → Met seen v
+  new : vectorNumber v seen ≡ length seen → Met seen v
 
 pub met? : (seen : List (List Element)) (v : List Element) → Met seen v
 met? seen v =
-    elim (order (numberOf v seen) (length seen)) [ less k ↦ old k | same k ↦ new k | more k ↦ absurd (omega (arith, number-le v seen)) ]
+    elim (order (vectorNumber v seen) (length seen)) [ less k ↦ old k | same k ↦ new k | more k ↦ absurd (omega (arith, number-le v seen)) ]
 
 length-snoc : (seen : List (List Element)) (v : List Element) → length (seen ++ (v ∷ [])) ≡ suc (length seen)
 length-snoc seen v = length-append seen (v ∷ []) ∙ omega arith
 
-pub grown-length : (seen : List (List Element)) (v : List Element) → length (grown seen v) ≡ max (length seen) (suc (numberOf v seen))
+pub grown-length : (seen : List (List Element)) (v : List Element) → length (grown seen v) ≡ max (length seen) (suc (vectorNumber v seen))
 grown-length seen v =
     elim (met? seen v) [
       | old k ↦ ap length (grown-old seen v k) ∙ omega arith
@@ -61,10 +63,10 @@ grown-keeps seen v n h =
     ]
 
 -- the vector stands under its number
-pub grown-number : (seen : List (List Element)) (v : List Element) → getD (grown seen v) (numberOf v seen) [] ≡ v
+pub grown-number : (seen : List (List Element)) (v : List Element) → getD (grown seen v) (vectorNumber v seen) [] ≡ v
 grown-number seen v =
     elim (met? seen v) [
-      | old k ↦ ap (λ s. getD s (numberOf v seen) []) (grown-old seen v k) ∙ place-found eqVector eqVector-exact v [] seen k
+      | old k ↦ ap (λ s. getD s (vectorNumber v seen) []) (grown-old seen v k) ∙ place-found eqVector eqVector-exact v [] seen k
       | new k ↦ ap₂ (λ s n. getD s n []) (grown-new seen v k) k ∙ getD-append-seam seen v [] []
     ]
 
@@ -116,7 +118,7 @@ unfolding rangesOf
 ranges-nil seen = refl
 
 pub ranges-cons : (seen : List (List Element)) (e : ℕ × List Element) (s : List (ℕ × List Element))
-    → rangesOf seen (e ∷ s) ≡ range (e .0) (numberOf (e .1) seen) ∷ rangesOf (grown seen (e .1)) s
+    → rangesOf seen (e ∷ s) ≡ rangeWith (e .0) (vectorNumber (e .1) seen) ∷ rangesOf (grown seen (e .1)) s
 unfolding rangesOf
 ranges-cons seen e s = refl
 
@@ -134,10 +136,10 @@ vectors-keep seen (e ∷ s) n h =
 
 -- the first range's vector stands under its number among all vectors
 pub vectors-number : (seen : List (List Element)) (e : ℕ × List Element) (s : List (ℕ × List Element))
-    → getD (vectorsOf seen (e ∷ s)) (numberOf (e .1) seen) [] ≡ e .1
+    → getD (vectorsOf seen (e ∷ s)) (vectorNumber (e .1) seen) [] ≡ e .1
 vectors-number seen e s =
-    ap (λ vs. getD vs (numberOf (e .1) seen) []) (vectors-cons seen e s)
-    ∙ vectors-keep (grown seen (e .1)) s (numberOf (e .1) seen) (omega (arith, grown-length seen (e .1)))
+    ap (λ vs. getD vs (vectorNumber (e .1) seen) []) (vectors-cons seen e s)
+    ∙ vectors-keep (grown seen (e .1)) s (vectorNumber (e .1) seen) (omega (arith, grown-length seen (e .1)))
     ∙ grown-number seen (e .1)
 
 pub vectors-apart : (seen : List (List Element)) (s : List (ℕ × List Element)) → Apart seen → Apart (vectorsOf seen s)
@@ -161,41 +163,56 @@ ranges-first seen (e ∷ s) =
     rw (ranges-cons, vectors-cons)
     (number-le (e .1) seen, rw (grown-length seen (e .1)) at (ranges-first (grown seen (e .1)) s))
 
-pub index-nil : (none i : ℕ) → indexAt none [] i ≡ none
-unfolding indexAt
-index-nil none i = refl
+pub index-nil : (found : Option VectorIndex) (i : ℕ) → indexFrom found [] i ≡ found
+unfolding indexFrom
+index-nil found i = refl
 
-pub index-lt : (none : ℕ) (x : Range) (xs : List Range) (i : ℕ) → i < x .bound → indexAt none (x ∷ xs) i ≡ none
-unfolding indexAt
-index-lt none x xs i h = rw (lt-ltb i (x .bound) h, indexAt)
+pub index-lt : (found : Option VectorIndex) (x : Range) (xs : List Range) (i : ℕ) → i < x .bound → indexFrom found (x ∷ xs) i ≡ found
+unfolding indexFrom
+index-lt found x xs i h = rw (lt-ltb i (x .bound) h, indexFrom)
 
-pub index-ge : (none : ℕ) (x : Range) (xs : List Range) (i : ℕ) → x .bound ≤ i → indexAt none (x ∷ xs) i ≡ indexAt (x .index .0) xs i
-unfolding indexAt
-index-ge none x xs i h = rw (le-ltb i (x .bound) h, indexAt)
+pub index-ge : (found : Option VectorIndex) (x : Range) (xs : List Range) (i : ℕ) → x .bound ≤ i
+    → indexFrom found (x ∷ xs) i ≡ indexFrom (some (x .index)) xs i
+unfolding indexFrom
+index-ge found x xs i h = rw (le-ltb i (x .bound) h, indexFrom)
+
+pub found-none : (vs : List (List Element)) → vectorFound vs none ≡ []
+unfolding vectorFound
+found-none vs = refl
+
+pub found-some : (vs : List (List Element)) (y : VectorIndex) → vectorFound vs (some y) ≡ getD vs (y .0) []
+unfolding vectorFound
+found-some vs y = refl
 
 -- the vector that a range's index leads to, at an item
-pub ranges-at : (vs seen : List (List Element)) (s : List (ℕ × List Element)) (none i : ℕ) → vectorsOf seen s ≡ vs
-    → getD vs (indexAt none (rangesOf seen s) i) [] ≡ at (getD vs none []) s i
-ranges-at vs seen [] none i e =
-    ap (λ xs. getD vs (indexAt none xs i) []) (ranges-nil seen)
-    ∙ ap (λ n. getD vs n []) (index-nil none i) ∙ sym (at-nil (getD vs none []) i)
-ranges-at vs seen (x ∷ s) none i e =
-    ap (λ xs. getD vs (indexAt none xs i) []) (ranges-cons seen x s)
+pub ranges-at : (vs seen : List (List Element)) (s : List (ℕ × List Element)) (found : Option VectorIndex) (i : ℕ) → vectorsOf seen s ≡ vs
+    → vectorFound vs (indexFrom found (rangesOf seen s) i) ≡ at (vectorFound vs found) s i
+ranges-at vs seen [] found i e =
+    ap (λ xs. vectorFound vs (indexFrom found xs i)) (ranges-nil seen)
+    ∙ ap (vectorFound vs) (index-nil found i) ∙ sym (at-nil (vectorFound vs found) i)
+ranges-at vs seen (x ∷ s) found i e =
+    ap (λ xs. vectorFound vs (indexFrom found xs i)) (ranges-cons seen x s)
     ∙ (elim (order i (x .0)) [
       | less k ↦
-          ap (λ n. getD vs n []) (index-lt none (range (x .0) (numberOf (x .1) seen)) (rangesOf (grown seen (x .1)) s) i k)
-          ∙ sym (at-lt (getD vs none []) x s i k)
-      | same k ↦ onward (omega arith) (ranges-at vs (grown seen (x .1)) s (numberOf (x .1) seen) i (sym (vectors-cons seen x s) ∙ e))
-      | more k ↦ onward (omega arith) (ranges-at vs (grown seen (x .1)) s (numberOf (x .1) seen) i (sym (vectors-cons seen x s) ∙ e))
+          ap (vectorFound vs) (index-lt found (rangeWith (x .0) (vectorNumber (x .1) seen)) (rangesOf (grown seen (x .1)) s) i k)
+          ∙ sym (at-lt (vectorFound vs found) x s i k)
+      | same k ↦ onward (omega arith) (ranges-at vs (grown seen (x .1)) s (some own) i (sym (vectors-cons seen x s) ∙ e))
+      | more k ↦ onward (omega arith) (ranges-at vs (grown seen (x .1)) s (some own) i (sym (vectors-cons seen x s) ∙ e))
     ])
   where
+    own : VectorIndex
+    own = record { 0 = vectorNumber (x .1) seen }
+
+    own-is : vectorFound vs (some own) ≡ x .1
+    own-is = found-some vs own ∙ ap (λ us. getD us (vectorNumber (x .1) seen) []) (sym e) ∙ vectors-number seen x s
+
     onward : x .0 ≤ i
-        → getD vs (indexAt (numberOf (x .1) seen) (rangesOf (grown seen (x .1)) s) i) [] ≡ at (getD vs (numberOf (x .1) seen) []) s i
-        → getD vs (indexAt none (range (x .0) (numberOf (x .1) seen) ∷ rangesOf (grown seen (x .1)) s) i) [] ≡ at (getD vs none []) (x ∷ s) i
+        → vectorFound vs (indexFrom (some own) (rangesOf (grown seen (x .1)) s) i) ≡ at (vectorFound vs (some own)) s i
+        → vectorFound vs (indexFrom found (rangeWith (x .0) (vectorNumber (x .1) seen) ∷ rangesOf (grown seen (x .1)) s) i) ≡ at (vectorFound vs found) (x ∷ s) i
     onward k ih =
-        ap (λ n. getD vs n []) (index-ge none (range (x .0) (numberOf (x .1) seen)) (rangesOf (grown seen (x .1)) s) i k)
-        ∙ ih ∙ ap (λ v. at v s i) (ap (λ us. getD us (numberOf (x .1) seen) []) (sym e) ∙ vectors-number seen x s)
-        ∙ sym (at-ge (getD vs none []) x s i k)
+        ap (vectorFound vs) (index-ge found (rangeWith (x .0) (vectorNumber (x .1) seen)) (rangesOf (grown seen (x .1)) s) i k)
+        ∙ ih ∙ ap (λ v. at v s i) own-is
+        ∙ sym (at-ge (vectorFound vs found) x s i k)
 
 pub indices-length : (xs : List Range) → length (indices xs) ≡ length xs
 unfolding indices
@@ -217,7 +234,7 @@ pub ranges-differ : (hi lo : ℕ) (vs seen : List (List Element)) (v : List Elem
     → getD vs y [] ≡ v → Changing hi lo v s → Differ vs y (rangesOf seen s)
 ranges-differ hi lo vs seen v y [] e p c = rw ranges-nil (λ n h f. omega arith)
 ranges-differ hi lo vs seen v y (x ∷ s) e p c =
-    let q : getD vs (numberOf (x .1) seen) [] ≡ x .1 = ap (λ us. getD us (numberOf (x .1) seen) []) (sym e) ∙ vectors-number seen x s in
+    let q : getD vs (vectorNumber (x .1) seen) [] ≡ x .1 = ap (λ us. getD us (vectorNumber (x .1) seen) []) (sym e) ∙ vectors-number seen x s in
     rw ranges-cons
-    (differ-cons vs y (range (x .0) (numberOf (x .1) seen)) (rangesOf (grown seen (x .1)) s) (λ f. c .1 .1 .0 (sym q ∙ sym f ∙ p))
-    (ranges-differ hi (suc (x .0)) vs (grown seen (x .1)) (x .1) (numberOf (x .1) seen) s (sym (vectors-cons seen x s) ∙ e) q (c .1 .1 .1)))
+    (differ-cons vs y (rangeWith (x .0) (vectorNumber (x .1) seen)) (rangesOf (grown seen (x .1)) s) (λ f. c .1 .1 .0 (sym q ∙ sym f ∙ p))
+    (ranges-differ hi (suc (x .0)) vs (grown seen (x .1)) (x .1) (vectorNumber (x .1) seen) s (sym (vectors-cons seen x s) ∙ e) q (c .1 .1 .1)))

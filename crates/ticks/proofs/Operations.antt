@@ -4,17 +4,18 @@ use Prim.Native.Nat.{ℕ, suc, _≤_, _<_, max}
 use mathlib.Core.Path.{_≡_, refl, sym, _∙_, ap, ap₂, subst}
 use mathlib.Core.Logic.{_⊎_, inl, inr, ⊎-elim, _↔_}
 use mathlib.Core.Bool.{true}
+use mathlib.Core.Option.{Option, none, some}
 use mathlib.Core.List.{List, [], _∷_, _++_}
-use native.Mathlib.Omega.{arith}
+use native.Mathlib.Omega.{arith, none}
 use lib.Dec.{eqb}
-use lib.ListN.{length, getD}
 use borrow.Author.Tests.{eq-eqb, ne-eqb}
+use Rattle.layout.specs.declared.VectorIndex.{VectorIndex}
 use Rattle.layout.specs.Knowledge.{Range, Knowledge, bounds}
-use Rattle.ticks.specs.Meaning.{highest, placeBy, tickAt, indexAt, vectorAt, known, Normal, emptyKnowledge}
-use Rattle.ticks.specs.Table.{get, eqList, eqPair, insert, sorted, inside, within, sample, build, canonical, rowIds, stepIds, usedIds}
-use Rattle.ticks.specs.Written.{vectorFrom, spansFrom, spans, eqElement, grown, vectorsOf, rangesOf, numbered, written, normalOf, eqKnowledge, isNormal}
+use Rattle.ticks.specs.Meaning.{highest, placeBy, tickAt, vectorAt, known, Normal, emptyKnowledge, vectorFound, indexFrom}
+use Rattle.ticks.specs.Table.{get, eqList, eqPair, insert, sorted, inSpan, within, sample, build, canonical, rowIds, stepIds, usedIds}
+use Rattle.ticks.specs.Written.{vectorFrom, vectorStepsFrom, vectorSteps, eqElement, grown, vectorsOf, rangesOf, indexed, knowledgeOf, normalOf, eqKnowledge, isNormal}
 use Rattle.ticks.specs.Operations.{normalise, larger, merge, knownInside, project, knownRaised, raise}
-use Rattle.ticks.proofs.Lists.{Among, less, same, more, order, among?, among-left, among-right, inside-true, inside-below, inside-above, in-span, below-span, above-span, inside?}
+use Rattle.ticks.proofs.Lists.{Among, less, same, more, order, among?, among-left, among-right, in-span, span-below, span-above, side-in, side-below, side-above, span-side}
 use Rattle.ticks.proofs.Equality.{eqb-exact, exact?, eqKnowledge-sound, eqKnowledge-self}
 use Rattle.ticks.proofs.Canonical.{SteadyTicks}
 use Rattle.ticks.proofs.Numbering.{index-nil, index-lt, index-ge}
@@ -24,21 +25,21 @@ use Rattle.ticks.proofs.Unique.{normal-unique}
 
 -- Known ticks change at bounds only
 
-index-steady : (none : ℕ) (xs : List Range) (i : ℕ) → (Among (suc i) (bounds xs) → ⊥) → indexAt none xs (suc i) ≡ indexAt none xs i
+index-steady : (found : Option VectorIndex) (xs : List Range) (i : ℕ) → (Among (suc i) (bounds xs) → ⊥) → indexFrom found xs (suc i) ≡ indexFrom found xs i
 unfolding bounds
-index-steady none [] i n = index-nil none (suc i) ∙ sym (index-nil none i)
-index-steady none (x ∷ xs) i n =
+index-steady found [] i n = index-nil found (suc i) ∙ sym (index-nil found i)
+index-steady found (x ∷ xs) i n =
     elim (order (suc i) (x .bound)) [
-      | less k ↦ index-lt none x xs (suc i) k ∙ sym (index-lt none x xs i (omega arith))
+      | less k ↦ index-lt found x xs (suc i) k ∙ sym (index-lt found x xs i (omega arith))
       | same k ↦ absurd (n (inl k))
       | more k ↦
-          index-ge none x xs (suc i) (omega arith) ∙ index-steady (x .index .0) xs i (λ m. n (inr m))
-          ∙ sym (index-ge none x xs i (omega arith))
+          index-ge found x xs (suc i) (omega arith) ∙ index-steady (some (x .index)) xs i (λ m. n (inr m))
+          ∙ sym (index-ge found x xs i (omega arith))
     ]
 
 vectorAt-steady : (k : Knowledge) (i : ℕ) → (Among (suc i) (bounds (k .ranges)) → ⊥) → vectorAt k (suc i) ≡ vectorAt k i
 unfolding vectorAt
-vectorAt-steady k i n = ap (λ y. getD (k .vectors) y []) (index-steady (length (k .vectors)) (k .ranges) i n)
+vectorAt-steady k i n = ap (vectorFound (k .vectors)) (index-steady none (k .ranges) i n)
 
 pub known-steady : (k : Knowledge) (i p : ℕ) → (Among (suc i) (bounds (k .ranges)) → ⊥) → known k (suc i) p ≡ known k i p
 known-steady k i p n =
@@ -101,34 +102,34 @@ normal-merge a b = normal-normalOf (bounds (a .ranges) ++ bounds (b .ranges)) (a
 
 inside-yes : (first last : ℕ) (k : Knowledge) (i p : ℕ) → first ≤ i → i ≤ last → knownInside first last k i p ≡ known k i p
 unfolding knownInside
-inside-yes first last k i p h l = rw (inside-true first last i h l, knownInside)
+inside-yes first last k i p h l = rw (in-span first last i .1 (h, l), knownInside)
 
 inside-low : (first last : ℕ) (k : Knowledge) (i p : ℕ) → i < first → knownInside first last k i p ≡ 0
 unfolding knownInside
-inside-low first last k i p h = rw (inside-below first last i h, knownInside)
+inside-low first last k i p h = rw (span-below first last i h, knownInside)
 
 inside-high : (first last : ℕ) (k : Knowledge) (i p : ℕ) → last < i → knownInside first last k i p ≡ 0
 unfolding knownInside
-inside-high first last k i p h = rw (inside-above first last i h, knownInside)
+inside-high first last k i p h = rw (span-above first last i h, knownInside)
 
 pub project-steady : (first last : ℕ) (k : Knowledge) → SteadyTicks (first ∷ suc last ∷ bounds (k .ranges)) (k .replicas) (knownInside first last k)
 project-steady first last k i h n p =
-    elim (inside? first last (suc i)) [
-      | in-span l m ↦
+    elim (span-side first last (suc i)) [
+      | side-in l m ↦
           let o : first ≤ i = elim (order first (suc i)) [ less j ↦ omega arith | same j ↦ absurd (n (inl (sym j))) | more j ↦ absurd (omega arith) ] in
           inside-yes first last k (suc i) p l m ∙ known-steady k i p (λ q. n (inr (inr q))) ∙ sym (inside-yes first last k i p o (omega arith))
-      | below-span l ↦ inside-low first last k (suc i) p l ∙ sym (inside-low first last k i p (omega arith))
-      | above-span l ↦
+      | side-below l ↦ inside-low first last k (suc i) p l ∙ sym (inside-low first last k i p (omega arith))
+      | side-above l ↦
           let o : last < i = elim (order last i) [ less j ↦ j | same j ↦ absurd (n (inr (inl (ap suc (sym j))))) | more j ↦ absurd (omega arith) ] in
           inside-high first last k (suc i) p l ∙ sym (inside-high first last k i p o)
     ]
 
 project-map : (first last : ℕ) (k : Knowledge) (i p : ℕ) → Among p (k .replicas) ⊎ (knownInside first last k i p ≡ 0)
 project-map first last k i p =
-    elim (inside? first last i) [
-      | in-span l m ↦ ⊎-elim (λ q. inl q) (λ z. inr (inside-yes first last k i p l m ∙ z)) (in-map k i p)
-      | below-span l ↦ inr (inside-low first last k i p l)
-      | above-span l ↦ inr (inside-high first last k i p l)
+    elim (span-side first last i) [
+      | side-in l m ↦ ⊎-elim (λ q. inl q) (λ z. inr (inside-yes first last k i p l m ∙ z)) (in-map k i p)
+      | side-below l ↦ inr (inside-low first last k i p l)
+      | side-above l ↦ inr (inside-high first last k i p l)
     ]
 
 pub known-project : (first last : ℕ) (k : Knowledge) (i p : ℕ) → i ≤ highest → known (project first last k) i p ≡ knownInside first last k i p
@@ -198,7 +199,7 @@ unfolding emptyKnowledge
 known-empty i p = known-out emptyKnowledge i p (λ m. m)
 
 normalise-empty : normalise emptyKnowledge ≡ emptyKnowledge
-unfolding emptyKnowledge highest placeBy tickAt indexAt vectorAt known get eqList eqPair insert sorted inside within sample build canonical rowIds stepIds usedIds vectorFrom spansFrom spans eqElement grown vectorsOf rangesOf numbered written normalOf normalise bounds
+unfolding emptyKnowledge highest placeBy tickAt indexFrom vectorFound vectorAt known get eqList eqPair insert sorted inSpan within sample build canonical rowIds stepIds usedIds vectorFrom vectorStepsFrom vectorSteps eqElement grown vectorsOf rangesOf indexed knowledgeOf normalOf normalise bounds
 normalise-empty = refl
 
 pub normal-empty : Normal emptyKnowledge

@@ -20,7 +20,7 @@ use Rattle.ticks.proofs.Operations.{normalise-normal, normal-project, k
 use Rattle.ticks.proofs.Counts.{replicas-fit, ranges-fit}
 use Rattle.ticks.proofs.LawfulResults.{lawful-project}
 use Rattle.ticks.proofs.Replies.{read-lawful, ResultSays, over-replicas, over-ranges, result-given, NormaliseSays, normalise-own, normalise-result, normalise-says, ProjectSays, project-own, project-17, project-result, project-says}
-use Rattle.ticks.proofs.Demand2.{gave, accepted-same, not-refused, Given, given-result, given-written, demand2}
+use Rattle.ticks.proofs.Demand2.{gave, accepted-same, not-refused, Given, given-result, given-normal, demand2}
 
 -- a lawful knowledge's own bytes are given
 given-own : (R : Rules) (k : Knowledge) {r : Reply} → Lawful R k → ResultSays (R .limits) k r → r ≡ gives (encode k)
@@ -41,7 +41,7 @@ module _ (R : Rules) (permitted : Permitted (R .limits)) where
     (λ n. written-anew s k b e n (normalise-says R s)),
     (λ q.
         let w : Normalised R s s = demand2 R permitted .normalised s s b q in
-        subst Normal (accepted-same (w .result) k (parse R s) (w .written .back) e) (w .written .normal)),
+        subst Normal (accepted-same (w .result) k (parse R s) (w .normal .back) e) (w .normal .form)),
   )
 
   projected-of : (s first last bs : List ℕ) → Bytes s → {r : Reply} → ProjectSays R s first last r → r ≡ gives bs → Projected R s first last bs
@@ -54,11 +54,11 @@ module _ (R : Rules) (permitted : Permitted (R .limits)) where
         given = k;
         result = k′;
         read = h;
-        written =
-            given-written R permitted k′ bs g
+        normal =
+            given-normal R permitted k′ bs g
             (lawful-project R (idOf 24 first) (idOf 24 last) k (read-lawful R s k permitted b h) (g .short))
             (normal-project (idOf 24 first) (idOf 24 last) k);
-        ticks = λ i p l. known-project (idOf 24 first) (idOf 24 last) k i p l;
+        ticks = λ i p l small. known-project (idOf 24 first) (idOf 24 last) k i p l;
       }
 
   pub results : Results R

@@ -11,7 +11,7 @@ use borrow.Author.Tests.{lt-ltb, le-ltb}
 use Rattle.layout.specs.Knowledge.{Knowledge, Rising, bounds}
 use Rattle.ticks.specs.Meaning.{known}
 use Rattle.ticks.specs.Table.{sorted, within}
-use Rattle.ticks.specs.Operations.{Place, nowhere, here, lackingAt, orElse, lackingFrom, lacking, isNowhere, covers}
+use Rattle.ticks.specs.Operations.{Lack, nowhere, here, lackingAt, orElse, lackingFrom, lacking, isNowhere, covers}
 use Rattle.ticks.proofs.Lists.{Among, less, same, more, order, among-left, among-right, sorted-in, sorted-only, sorted-rising, within-in, within-only, rising-above}
 use Rattle.ticks.proofs.Equality.{clash}
 use Rattle.ticks.proofs.Steps.{Steady, steady-from}
@@ -41,7 +41,7 @@ module _ (a b : Knowledge) where
   from-cons ps i is = refl
 
   -- what the search at one item says
-  abbrev AtSays : ℕ → List ℕ → Place → Type 0
+  abbrev AtSays : ℕ → List ℕ → Lack → Type 0
   AtSays i ps nowhere = (q : ℕ) → Among q ps → known b i q ≤ known a i q
   AtSays i ps (here j p) = (j ≡ i) × (Among p ps × ((known a i p < known b i p) × ((q : ℕ) → Among q ps → q < p → known b i q ≤ known a i q)))
 
@@ -56,13 +56,13 @@ module _ (a b : Knowledge) where
         | more h ↦ rw (at-next i p ps (omega arith)) (onward (omega arith) (lackingAt a b i ps) (at-says (suc p) i ps (r .1)))
       ]
     where
-      onward : known b i p ≤ known a i p → (x : Place) → AtSays i ps x → AtSays i (p ∷ ps) x
+      onward : known b i p ≤ known a i p → (x : Lack) → AtSays i ps x → AtSays i (p ∷ ps) x
       onward h nowhere f = λ q m. ⊎-elim (λ e. rw e h) (f q) m
       onward h (here j y) f =
           (f .0, (inr (f .1 .0), (f .1 .1 .0, λ q m l. ⊎-elim (λ e. rw e h) (λ n. f .1 .1 .1 q n l) m)))
 
   -- what the search at several items says
-  abbrev FromSays : List ℕ → List ℕ → Place → Type 0
+  abbrev FromSays : List ℕ → List ℕ → Lack → Type 0
   FromSays ps is nowhere = (i q : ℕ) → Among i is → Among q ps → known b i q ≤ known a i q
   FromSays ps is (here j p) =
       Among j is × (Among p ps × ((known a j p < known b j p)
@@ -75,7 +75,7 @@ module _ (a b : Knowledge) where
   from-says lo ps (i ∷ is) r s =
       rw from-cons (go (lackingAt a b i ps) (at-says 0 i ps r) (lackingFrom a b ps is) (from-says (suc i) ps is r (s .1)))
     where
-      go : (x : Place) → AtSays i ps x → (y : Place) → FromSays ps is y → FromSays ps (i ∷ is) (orElse x y)
+      go : (x : Lack) → AtSays i ps x → (y : Lack) → FromSays ps is y → FromSays ps (i ∷ is) (orElse x y)
       go nowhere f nowhere g = λ j q m n. ⊎-elim (λ e. rw e (f q n)) (λ o. g j q o n) m
       go nowhere f (here j p) g =
           (inr (g .0), (g .1 .0, (g .1 .1 .0, ((λ k q m l n. ⊎-elim (λ e. rw e (f q n)) (λ o. g .1 .1 .1 .0 k q o l n) m), g .1 .1 .1 .1))))
@@ -174,11 +174,11 @@ pub covers-exact : (a b : Knowledge) (first last : ℕ) → (covers a b first la
 unfolding covers isNowhere
 covers-exact a b first last = (there (lacking a b first last) (lacking-says a b first last), back (lacking a b first last) (lacking-says a b first last))
   where
-    there : (x : Place) → FromSays a b (sorted (b .replicas)) (stops a b first last) x → isNowhere x ≡ true → Covers a b first last
+    there : (x : Lack) → FromSays a b (sorted (b .replicas)) (stops a b first last) x → isNowhere x ≡ true → Covers a b first last
     there nowhere f e = nowhere-covers a b first last f
     there (here i p) f e = clash false e refl
 
-    back : (x : Place) → FromSays a b (sorted (b .replicas)) (stops a b first last) x → Covers a b first last → isNowhere x ≡ true
+    back : (x : Lack) → FromSays a b (sorted (b .replicas)) (stops a b first last) x → Covers a b first last → isNowhere x ≡ true
     back nowhere f c = refl
     back (here i p) f c =
         let w = stops-inside a b first last i (f .0) in

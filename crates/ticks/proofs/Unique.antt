@@ -3,22 +3,24 @@
 use Prim.Native.Nat.{ℕ, zero, suc, _≤_, _<_}
 use mathlib.Core.Path.{_≡_, refl, sym, _∙_, ap, ap₂, subst}
 use mathlib.Core.Logic.{inl, inr}
+use mathlib.Core.Option.{Option, none, some}
 use mathlib.Core.List.{List, [], _∷_}
-use native.Mathlib.Omega.{arith}
+use native.Mathlib.Omega.{arith, none}
 use lib.Dec.{eqb}
 use lib.ListN.{length, getD}
+use Rattle.layout.specs.declared.VectorIndex.{VectorIndex}
 use Rattle.layout.specs.Knowledge.{Element, Range, Knowledge, All, Distinct, Rising, keys, bounds}
-use Rattle.ticks.specs.Meaning.{highest, place, tickAt, indexAt, vectorAt, known, indices, Sound, NormalOver, Normal}
+use Rattle.ticks.specs.Meaning.{highest, place, tickAt, vectorAt, known, indices, Sound, Formed, EachUsed, Normal, vectorFound, indexFrom, vectorOf}
 use Rattle.ticks.specs.Table.{at}
-use Rattle.ticks.specs.Written.{numbered}
+use Rattle.ticks.specs.Written.{indexed}
 use Rattle.ticks.proofs.Lists.{Among, less, same, more, order, among?, all-among, rising-above, rising-unique}
 use Rattle.ticks.proofs.Equality.{eqb-exact, place-first, place-found}
 use Rattle.ticks.proofs.Steps.{Changing, at-ge, before-steps, steps-unique}
 use Rattle.ticks.proofs.Vectors.{ElementsInOrder, vector-unique, tick-none, tick-key}
-use Rattle.ticks.proofs.Numbering.{index-nil, index-lt, index-ge}
+use Rattle.ticks.proofs.Numbering.{index-nil, index-lt, index-ge, found-some}
 use Rattle.ticks.proofs.Written.{among-place, among-get, known-in, known-out}
 use Rattle.ticks.proofs.Used.{used-get}
-use Rattle.ticks.proofs.Rebuilt.{ownSpans, used-index, rebuilt, own-vectorAt, FromZero, normal-from-zero}
+use Rattle.ticks.proofs.Rebuilt.{ownSteps, used-index, rebuilt, own-vectorAt, FromZero, formed-from-zero}
 
 -- Sound knowledges
 
@@ -50,71 +52,88 @@ all-get P d [] n a p = p
 all-get P d (x ∷ xs) zero a p = a .0
 all-get P d (x ∷ xs) (suc n) a p = all-get P d xs n (a .1) p
 
+-- what holds for every vector and the empty one holds for a vector that was found
+pub found-all : (P : List Element → Type 0) (vs : List (List Element)) (found : Option VectorIndex) → All P vs → P [] → P (vectorFound vs found)
+unfolding vectorFound
+found-all P vs none a p = p
+found-all P vs (some y) a p = all-get P [] vs (y .0) a p
+
 -- the vectors of a knowledge that meets the conditions, by their places
-pub get-in-order : (ids : List ℕ) (k : Knowledge) (y : ℕ) → NormalOver ids k → ElementsInOrder (getD (k .vectors) y [])
+pub get-in-order : (k : Knowledge) (y : ℕ) → Formed k → ElementsInOrder (getD (k .vectors) y [])
 unfolding keys
-get-in-order ids k y o = record {
+get-in-order k y o = record {
   rising = all-get (λ es. Rising 0 (keys es)) [] (k .vectors) y (o .elements) tt;
   ticks = all-get (All (λ x. 1 ≤ x .tick)) [] (k .vectors) y (o .ticks) tt;
 }
 
-pub vectorAt-in-order : (ids : List ℕ) (k : Knowledge) (i : ℕ) → NormalOver ids k → ElementsInOrder (vectorAt k i)
+found-in-order : (k : Knowledge) (found : Option VectorIndex) → Formed k → ElementsInOrder (vectorFound (k .vectors) found)
+unfolding vectorFound keys
+found-in-order k none o = record { rising = tt; ticks = tt }
+found-in-order k (some y) o = get-in-order k (y .0) o
+
+pub vectorAt-in-order : (k : Knowledge) (i : ℕ) → Formed k → ElementsInOrder (vectorAt k i)
 unfolding vectorAt
-vectorAt-in-order ids k i o = get-in-order ids k (indexAt (length (k .vectors)) (k .ranges) i) o
+vectorAt-in-order k i o = found-in-order k (indexFrom none (k .ranges) i) o
 
 pub vectorAt-keys : (k : Knowledge) (i : ℕ) → Sound k → All (λ x. x .key .0 < length (k .replicas)) (vectorAt k i)
 unfolding vectorAt
-vectorAt-keys k i s =
-    all-get (All (λ x. x .key .0 < length (k .replicas))) [] (k .vectors) (indexAt (length (k .vectors)) (k .ranges) i) (s .keys) tt
+vectorAt-keys k i s = found-all (All (λ x. x .key .0 < length (k .replicas))) (k .vectors) (indexFrom none (k .ranges) i) (s .keysBelow) tt
 
 -- An index used by a range is the index at that range's bound
 
-index-before : (none : ℕ) (xs : List Range) (lo i : ℕ) → Rising lo (bounds xs) → i < lo → indexAt none xs i ≡ none
+index-before : (found : Option VectorIndex) (xs : List Range) (lo i : ℕ) → Rising lo (bounds xs) → i < lo → indexFrom found xs i ≡ found
 unfolding bounds
-index-before none [] lo i r h = index-nil none i
-index-before none (x ∷ xs) lo i r h = index-lt none x xs i (omega (arith, r .0))
+index-before found [] lo i r h = index-nil found i
+index-before found (x ∷ xs) lo i r h = index-lt found x xs i (omega (arith, r .0))
 
-pub index-bound : (lo none : ℕ) (xs : List Range) (y : ℕ) → Rising lo (bounds xs) → Among y (indices xs)
-    → (b : ℕ) × (Among b (bounds xs) × (indexAt none xs b ≡ y))
+index-bound : (lo : ℕ) (found : Option VectorIndex) (xs : List Range) (y : ℕ) → Rising lo (bounds xs) → Among y (indices xs)
+    → (b : ℕ) × (Among b (bounds xs) × (indexFrom found xs b ≡ some (record { 0 = y })))
 unfolding bounds indices
-index-bound lo none [] y r m = absurd m
-index-bound lo none (x ∷ xs) y r (inl e) = (
+index-bound lo found [] y r m = absurd m
+index-bound lo found (x ∷ xs) y r (inl e) = (
   x .bound,
   (
     inl refl,
-    index-ge none x xs (x .bound) (omega arith) ∙ index-before (x .index .0) xs (suc (x .bound)) (x .bound) (r .1) (omega arith) ∙ sym e,
+    index-ge found x xs (x .bound) (omega arith)
+        ∙ index-before (some (x .index)) xs (suc (x .bound)) (x .bound) (r .1) (omega arith)
+        ∙ ap (λ n. some (record { 0 = n })) (sym e),
   ),
 )
-index-bound lo none (x ∷ xs) y r (inr m) =
-    let w = index-bound (suc (x .bound)) (x .index .0) xs y (r .1) m in
+index-bound lo found (x ∷ xs) y r (inr m) =
+    let w = index-bound (suc (x .bound)) (some (x .index)) xs y (r .1) m in
     let h : suc (x .bound) ≤ w .0 = rising-above (suc (x .bound)) (w .0) (bounds xs) (r .1) (w .1 .0) in
-    (w .0, (inr (w .1 .0), index-ge none x xs (w .0) (omega arith) ∙ w .1 .1))
+    (w .0, (inr (w .1 .0), index-ge found x xs (w .0) (omega arith) ∙ w .1 .1))
+
+-- a vector that a range uses is the one at that range's bound
+pub vector-bound : (k : Knowledge) (y : ℕ) → Sound k → Among y (indices (k .ranges))
+    → (b : ℕ) × (Among b (bounds (k .ranges)) × (vectorAt k b ≡ vectorOf k y))
+unfolding vectorAt
+vector-bound k y s m =
+    let w = index-bound 0 none (k .ranges) y (s .rising) m in
+    (w .0, (w .1 .0, ap (vectorFound (k .vectors)) (w .1 .1) ∙ found-some (k .vectors) (record { 0 = y })))
 
 no-key : (key : ℕ) (es : List Element) → es ≡ [] → Among key (keys es) → ⊥
 unfolding keys
 no-key key es e m = subst (λ fs. Among key (keys fs)) e m
 
 -- a replica of the map has a tick of 1 or more at some item
-pub replica-known : (k : Knowledge) (p : ℕ) → Normal k → Among p (k .replicas) → (i : ℕ) × ((i ≤ highest) × (1 ≤ known k i p))
-unfolding vectorAt
-replica-known k p n m =
+pub replica-known : (k : Knowledge) (p : ℕ) → Formed k → EachUsed k → Among p (k .replicas) → (i : ℕ) × ((i ≤ highest) × (1 ≤ known k i p))
+replica-known k p o each m =
     let key = place p (k .replicas) in
-    let o : NormalOver (k .replicas) k = n .over in
-    let u = used-get key (k .vectors) (n .used key (among-place p (k .replicas) m)) in
-    let some : 1 ≤ u .0 =
+    let u = used-get key (k .vectors) (each key (among-place p (k .replicas) m)) in
+    let above : 1 ≤ u .0 =
     elim (order (u .0) 0) [
       | less h ↦ absurd (omega arith)
       | same h ↦ absurd (no-key key (getD (k .vectors) (u .0) []) (ap (λ y. getD (k .vectors) y []) h ∙ o .emptyFirst) (u .1 .1))
       | more h ↦ h
     ] in
-    let w = index-bound 0 (length (k .vectors)) (k .ranges) (u .0) (o .sound .rising) (used-index (k .replicas) k (u .0) o some (u .1 .0)) in
-    let e : vectorAt k (w .0) ≡ getD (k .vectors) (u .0) [] = ap (λ y. getD (k .vectors) y []) (w .1 .1) in
+    let w = vector-bound k (u .0) (o .sound) (used-index k (u .0) o above (u .1 .0)) in
     let t : 1 ≤ tickAt (getD (k .vectors) (u .0) []) key =
-    tick-key (getD (k .vectors) (u .0) []) key (get-in-order (k .replicas) k (u .0) o .ticks) (u .1 .1) in (
+    tick-key (getD (k .vectors) (u .0) []) key (get-in-order k (u .0) o .ticks) (u .1 .1) in (
       w .0,
       (
         all-among (λ b. b ≤ highest) (bounds (k .ranges)) (o .sound .items) (w .0) (w .1 .0),
-        omega (arith, known-in k (w .0) p m, ap (λ v. tickAt v key) e),
+        omega (arith, known-in k (w .0) p m, ap (λ v. tickAt v key) (w .1 .1)),
       ),
     )
 
@@ -130,28 +149,27 @@ pub record SameTicks (a b : Knowledge) : Type 0 where
 same-map : (a b : Knowledge) → Normal a → Normal b → SameTicks a b → a .replicas ≡ b .replicas
 same-map a b n m f =
     rising-unique 0 (a .replicas) (b .replicas) (n .rising) (m .rising)
-    (λ p h. let w = replica-known a p n h in known-replica b (w .0) p (omega (arith, w .1 .1, f .known (w .0) p (w .1 .0))))
-    (λ p h. let w = replica-known b p m h in known-replica a (w .0) p (omega (arith, w .1 .1, f .known (w .0) p (w .1 .0))))
+    (λ p h. let w = replica-known a p (n .formed) (n .used) h in known-replica b (w .0) p (omega (arith, w .1 .1, f .known (w .0) p (w .1 .0))))
+    (λ p h. let w = replica-known b p (m .formed) (m .used) h in known-replica a (w .0) p (omega (arith, w .1 .1, f .known (w .0) p (w .1 .0))))
 
 -- with one map, the vectors at each item are the same
-pub same-vector : (a b : Knowledge) → NormalOver (a .replicas) a → NormalOver (a .replicas) b → SameTicks a b → (i : ℕ) → i ≤ highest → vectorAt a i ≡ vectorAt b i
-same-vector a b o q f i h =
-    let e : b .replicas ≡ a .replicas = q .replicas in
-    vector-unique (vectorAt a i) (vectorAt b i) (vectorAt-in-order (a .replicas) a i o) (vectorAt-in-order (a .replicas) b i q)
+pub same-vector : (a b : Knowledge) → Formed a → Formed b → b .replicas ≡ a .replicas → SameTicks a b → (i : ℕ) → i ≤ highest → vectorAt a i ≡ vectorAt b i
+same-vector a b o q e f i h =
+    vector-unique (vectorAt a i) (vectorAt b i) (vectorAt-in-order a i o) (vectorAt-in-order b i q)
     (λ key.
     elim (order key (length (a .replicas))) [
-      | less k ↦ found e key k
-      | same k ↦ none e key (omega arith)
-      | more k ↦ none e key (omega arith)
+      | less k ↦ found key k
+      | same k ↦ none key (omega arith)
+      | more k ↦ none key (omega arith)
     ])
   where
-    found : b .replicas ≡ a .replicas → (key : ℕ) → key < length (a .replicas) → tickAt (vectorAt a i) key ≡ tickAt (vectorAt b i) key
-    found e key k =
+    found : (key : ℕ) → key < length (a .replicas) → tickAt (vectorAt a i) key ≡ tickAt (vectorAt b i) key
+    found key k =
         sym (key-known a i key (o .sound) k) ∙ f .known i (getD (a .replicas) key 0) h
         ∙ ap (λ ids. known b i (getD ids key 0)) (sym e) ∙ key-known b i key (q .sound) (omega (arith, ap length e))
 
-    none : b .replicas ≡ a .replicas → (key : ℕ) → length (a .replicas) ≤ key → tickAt (vectorAt a i) key ≡ tickAt (vectorAt b i) key
-    none e key k =
+    none : (key : ℕ) → length (a .replicas) ≤ key → tickAt (vectorAt a i) key ≡ tickAt (vectorAt b i) key
+    none key k =
         tick-none (length (a .replicas)) (vectorAt a i) key (vectorAt-keys a i (o .sound)) k
         ∙ sym (tick-none (length (b .replicas)) (vectorAt b i) key (vectorAt-keys b i (q .sound)) (omega (arith, ap length e)))
 
@@ -165,30 +183,24 @@ from-zero-unique s t v w c d f =
     let d′ : Changing highest 1 v t = rw e d in
     ap₂ (λ u r. (0, u) ∷ r) e (steps-unique highest 1 v s t c d′ (λ i h k. g i k ∙ ap (λ u. at u t i) (sym e)))
 
-pub spans-unique : (ss ts : List (ℕ × List Element)) → FromZero ss → FromZero ts → ((i : ℕ) → i ≤ highest → at [] ss i ≡ at [] ts i) → ss ≡ ts
-spans-unique ss ts x y f =
+pub own-steps-unique : (ss ts : List (ℕ × List Element)) → FromZero ss → FromZero ts → ((i : ℕ) → i ≤ highest → at [] ss i ≡ at [] ts i) → ss ≡ ts
+own-steps-unique ss ts x y f =
     x .is
     ∙ from-zero-unique (x .rest) (y .rest) (x .value) (y .value) (x .changing) (y .changing)
     (λ i h. ap (λ s. at [] s i) (sym (x .is)) ∙ f i h ∙ ap (λ s. at [] s i) (y .is))
     ∙ sym (y .is)
 
 -- over one map
-pub normal-over-unique : (ids : List ℕ) (a b : Knowledge) → NormalOver ids a → NormalOver ids b → SameTicks a b → a ≡ b
-normal-over-unique ids a b o q f =
-    let o′ : NormalOver (a .replicas) a = subst (λ l. NormalOver l a) (sym (o .replicas)) o in
-    let q′ : NormalOver (a .replicas) b = subst (λ l. NormalOver l b) (sym (o .replicas)) q in
-    sym (rebuilt ids a o)
-    ∙ ap (numbered ids)
-    (spans-unique (ownSpans (a .vectors) (a .ranges)) (ownSpans (b .vectors) (b .ranges)) (normal-from-zero ids a o) (normal-from-zero ids b q)
-    (λ i h. own-vectorAt a i ∙ same-vector a b o′ q′ f i h ∙ sym (own-vectorAt b i)))
-    ∙ rebuilt ids b q
+pub formed-unique : (a b : Knowledge) → Formed a → Formed b → b .replicas ≡ a .replicas → SameTicks a b → a ≡ b
+formed-unique a b o q e f =
+    sym (rebuilt a o)
+    ∙ ap₂ indexed (sym e)
+    (own-steps-unique (ownSteps (a .vectors) (a .ranges)) (ownSteps (b .vectors) (b .ranges)) (formed-from-zero a o) (formed-from-zero b q)
+    (λ i h. own-vectorAt a i ∙ same-vector a b o q e f i h ∙ sym (own-vectorAt b i)))
+    ∙ rebuilt b q
 
 -- normal forms with equal ticks are equal
 pub normal-unique : (a b : Knowledge) → Normal a → Normal b → ((i p : ℕ) → i ≤ highest → known a i p ≡ known b i p) → a ≡ b
 normal-unique a b n m f =
     let s : SameTicks a b = record { known = f } in
-    let e : b .replicas ≡ a .replicas = sym (same-map a b n m s) in
-    normal-over-unique (a .replicas) a b (n .over) (subst (λ l. NormalOver l b) e (m .over)) s
-
-pub normal-sound : (k : Knowledge) → Normal k → Sound k
-normal-sound k n = n .over .sound
+    formed-unique a b (n .formed) (m .formed) (sym (same-map a b n m s)) s

@@ -6,21 +6,17 @@ use mathlib.Core.List.{List, [], _∷_}
 use native.Mathlib.Omega.{arith}
 use lib.Dec.{eqb}
 use lib.ListN.{length, getD}
-use Rattle.layout.specs.Knowledge.{Element, All, keys}
-use Rattle.ticks.specs.Meaning.{highest, place, tickAt, known, Normal}
+use Rattle.layout.specs.Knowledge.{Element, keys}
+use Rattle.ticks.specs.Meaning.{highest, place, tickAt, known, Unused, Normal}
 use Rattle.ticks.specs.Table.{Row, Table, get, canonical, rowIds, stepIds, usedIds}
-use Rattle.ticks.specs.Written.{vectorFrom, spansFrom, spans, numberOf, grown, vectorsOf, numbered, written, normalOf}
+use Rattle.ticks.specs.Written.{vectorFrom, vectorStepsFrom, vectorSteps, vectorNumber, grown, vectorsOf, indexed, knowledgeOf, normalOf}
 use Rattle.ticks.proofs.Lists.{less, same, more, order, Among, sorted-only, rising-distinct}
 use Rattle.ticks.proofs.Equality.{eqb-exact, place-le}
 use Rattle.ticks.proofs.Canonical.{RisingRows, CanonicalTable, canonical-table, canonical-ticks, SteadyTicks}
 use Rattle.ticks.proofs.Vectors.{keys-length, vector-tick, key-tick}
 use Rattle.ticks.proofs.Numbering.{grown-length, vectors-cons, vectors-length, vectors-number}
 use Rattle.ticks.proofs.Written.{among-place, place-among, among-get}
-use Rattle.ticks.proofs.NormalForm.{spans-cons, row-ids-only, normal-written, known-written, used-over, used-rising}
-
--- every vector is without the key
-abbrev pub Unused : ℕ → List (List Element) → Type 0
-Unused key vs = All (λ es. place key (keys es) ≡ length es) vs
+use Rattle.ticks.proofs.NormalForm.{vector-steps-cons, row-ids-only, formed-knowledge, known-knowledge, used-over, used-rising}
 
 pub used-at : (key n : ℕ) (vs : List (List Element)) → n < length vs → Among key (keys (getD vs n [])) → Unused key vs → ⊥
 used-at key n [] h m a = omega arith
@@ -40,28 +36,28 @@ used-get key (v ∷ vs) u =
     ]
 
 -- some range's own vector uses the key
-abbrev UsedSpan : ℕ → List (ℕ × List Element) → Type 0
-UsedSpan key [] = ⊥
-UsedSpan key (e ∷ s) = Among key (keys (e .1)) ⊎ UsedSpan key s
+abbrev UsedStep : ℕ → List (ℕ × List Element) → Type 0
+UsedStep key [] = ⊥
+UsedStep key (e ∷ s) = Among key (keys (e .1)) ⊎ UsedStep key s
 
-spans-used : (key : ℕ) (seen : List (List Element)) (s : List (ℕ × List Element)) → UsedSpan key s → Unused key (vectorsOf seen s) → ⊥
-spans-used key seen [] u = absurd u
-spans-used key seen (e ∷ s) (inl m) =
-    used-at key (numberOf (e .1) seen) (vectorsOf seen (e ∷ s))
+vector-steps-used : (key : ℕ) (seen : List (List Element)) (s : List (ℕ × List Element)) → UsedStep key s → Unused key (vectorsOf seen s) → ⊥
+vector-steps-used key seen [] u = absurd u
+vector-steps-used key seen (e ∷ s) (inl m) =
+    used-at key (vectorNumber (e .1) seen) (vectorsOf seen (e ∷ s))
     (omega (arith, ap length (vectors-cons seen e s), grown-length seen (e .1), vectors-length (grown seen (e .1)) s))
     (rw (vectors-number seen e s) m)
-spans-used key seen (e ∷ s) (inr u) = rw vectors-cons (spans-used key (grown seen (e .1)) s u)
+vector-steps-used key seen (e ∷ s) (inr u) = rw vectors-cons (vector-steps-used key (grown seen (e .1)) s u)
 
 vector-used : (ids : List ℕ) (row : Row) (key : ℕ) → key < length ids → 1 ≤ get row (getD ids key 0) → Among key (keys (vectorFrom 0 ids row))
 vector-used ids row key h k =
     let e : 0 + key ≡ key = omega arith in
     key-tick (vectorFrom 0 ids row) key (omega (arith, ap (tickAt (vectorFrom 0 ids row)) e, vector-tick 0 ids row key h))
 
-rest-used : (ids : List ℕ) (s : List (ℕ × Row)) (key : ℕ) → key < length ids → RisingRows s → Among (getD ids key 0) (stepIds s) → UsedSpan key (spansFrom ids s)
+rest-used : (ids : List ℕ) (s : List (ℕ × Row)) (key : ℕ) → key < length ids → RisingRows s → Among (getD ids key 0) (stepIds s) → UsedStep key (vectorStepsFrom ids s)
 unfolding stepIds
 rest-used ids [] key h rs m = absurd m
 rest-used ids (e ∷ s) key h rs m =
-    rw spans-cons
+    rw vector-steps-cons
     (⊎-elim (λ k. inl (vector-used ids (e .1) key h k)) (λ o. inr (rest-used ids s key h (rs .1) o))
     (row-ids-only 0 (e .1) (stepIds s) (getD ids key 0) (rs .0) m))
 
@@ -69,18 +65,18 @@ ids-of : (t : Table) (p : ℕ) → Among p (usedIds t) → Among p (rowIds (t .f
 unfolding usedIds
 ids-of t p m = sorted-only p (rowIds (t .first) (stepIds (t .rest))) m
 
-table-used : (t : Table) (key : ℕ) → CanonicalTable t → key < length (usedIds t) → UsedSpan key (spans (usedIds t) t)
-unfolding spans
+table-used : (t : Table) (key : ℕ) → CanonicalTable t → key < length (usedIds t) → UsedStep key (vectorSteps (usedIds t) t)
+unfolding vectorSteps
 table-used t key c h =
     ⊎-elim (λ k. inl (vector-used (usedIds t) (t .first) key h k)) (λ o. inr (rest-used (usedIds t) (t .rest) key h (c .rows) o))
     (row-ids-only 0 (t .first) (stepIds (t .rest)) (getD (usedIds t) key 0) (c .firstRow) (ids-of t (getD (usedIds t) key 0) (among-get (usedIds t) key h)))
 
-pub normal-table : (t : Table) → CanonicalTable t → Normal (written (usedIds t) t)
-unfolding written numbered
+pub normal-table : (t : Table) → CanonicalTable t → Normal (knowledgeOf (usedIds t) t)
+unfolding knowledgeOf indexed
 normal-table t c = record {
-  over = normal-written (usedIds t) t (rising-distinct 0 (usedIds t) (used-rising t)) c (used-over t);
+  formed = formed-knowledge (usedIds t) t (rising-distinct 0 (usedIds t) (used-rising t)) c (used-over t);
   rising = used-rising t;
-  used = λ key h. spans-used key ([] ∷ []) (spans (usedIds t) t) (table-used t key c h);
+  used = λ key h. vector-steps-used key ([] ∷ []) (vectorSteps (usedIds t) t) (table-used t key c h);
 }
 
 module _ (items ids : List ℕ) (f : ℕ → ℕ → ℕ) where
@@ -93,5 +89,5 @@ module _ (items ids : List ℕ) (f : ℕ → ℕ → ℕ) where
   pub known-normalOf : SteadyTicks items ids f → (i p : ℕ) → i ≤ highest → Among p ids ⊎ (f i p ≡ 0) → known (normalOf items ids f) i p ≡ f i p
   unfolding normalOf
   known-normalOf steady i p h m =
-      known-written (usedIds (canonical items ids f)) (canonical items ids f) i p (used-over (canonical items ids f))
+      known-knowledge (usedIds (canonical items ids f)) (canonical items ids f) i p (used-over (canonical items ids f))
       ∙ canonical-ticks items ids f steady i p h m

@@ -12,7 +12,7 @@ use borrow.Author.Tests.{eq-eqb, ne-eqb}
 use Rattle.layout.specs.Knowledge.{Element, All, Rising, keys}
 use Rattle.ticks.specs.Meaning.{tickAt}
 use Rattle.ticks.specs.Table.{Row, get}
-use Rattle.ticks.specs.Written.{element, vectorFrom}
+use Rattle.ticks.specs.Written.{elementWith, vectorFrom}
 use Rattle.ticks.proofs.Lists.{Among}
 use Rattle.ticks.proofs.Equality.{eqb-exact, exact?}
 use Rattle.ticks.proofs.Rows.{RisingRow, get-before, row-unique}
@@ -34,7 +34,7 @@ asRow (x ∷ xs) = (x .key .0, x .tick) ∷ asRow xs
 
 fromRow : Row → List Element
 fromRow [] = []
-fromRow (e ∷ row) = element (e .0) (e .1) ∷ fromRow row
+fromRow (e ∷ row) = elementWith (e .0) (e .1) ∷ fromRow row
 
 from-as : (es : List Element) → fromRow (asRow es) ≡ es
 unfolding fromRow asRow
@@ -119,7 +119,7 @@ unfolding vectorFrom
 vector-zero key p ids row h = rw (eq-eqb (get row p) 0 h, vectorFrom)
 
 vector-some : (key p : ℕ) (ids : List ℕ) (row : Row) → (get row p ≡ 0 → ⊥)
-    → vectorFrom key (p ∷ ids) row ≡ element key (get row p) ∷ vectorFrom (suc key) ids row
+    → vectorFrom key (p ∷ ids) row ≡ elementWith key (get row p) ∷ vectorFrom (suc key) ids row
 unfolding vectorFrom
 vector-some key p ids row h = rw (ne-eqb (get row p) 0 h, vectorFrom)
 
@@ -160,7 +160,7 @@ vector-tick key (p ∷ ids) row zero h =
           ∙ get-before (suc key) (asRow (vectorFrom (suc key) ids row)) (key + 0) (vector-row (suc key) ids row) (omega arith) ∙ sym z
       | inr z ↦
           ap (λ v. tickAt v (key + 0)) (vector-some key p ids row z)
-          ∙ tick-same (element key (get row p)) (vectorFrom (suc key) ids row) (key + 0) (omega arith)
+          ∙ tick-same (elementWith key (get row p)) (vectorFrom (suc key) ids row) (key + 0) (omega arith)
     ]
 vector-tick key (p ∷ ids) row (suc n) h =
     let e : key + suc n ≡ suc key + n = omega arith in
@@ -170,5 +170,5 @@ vector-tick key (p ∷ ids) row (suc n) h =
       | inl z ↦ ap (λ v. tickAt v (key + suc n)) (vector-zero key p ids row z) ∙ ih
       | inr z ↦
           ap (λ v. tickAt v (key + suc n)) (vector-some key p ids row z)
-          ∙ tick-other (element key (get row p)) (vectorFrom (suc key) ids row) (key + suc n) (λ q. omega arith) ∙ ih
+          ∙ tick-other (elementWith key (get row p)) (vectorFrom (suc key) ids row) (key + suc n) (λ q. omega arith) ∙ ih
     ]

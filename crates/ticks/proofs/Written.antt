@@ -3,20 +3,21 @@
 use Prim.Native.Nat.{ℕ, zero, suc, _≤_, _<_}
 use mathlib.Core.Path.{_≡_, refl, sym, _∙_, ap}
 use mathlib.Core.Logic.{inl, inr, ⊎-elim}
+use mathlib.Core.Option.{none}
 use mathlib.Core.List.{List, [], _∷_}
-use native.Mathlib.Omega.{arith}
+use native.Mathlib.Omega.{arith, none}
 use lib.Dec.{eqb}
-use lib.ListN.{length, getD, List·getD-eq-default}
+use lib.ListN.{length, getD}
 use borrow.Author.Tests.{lt-ltb, le-ltb}
 use Rattle.layout.specs.Knowledge.{Element, Range, Knowledge, All, Distinct, Rising, keys, bounds}
-use Rattle.ticks.specs.Meaning.{highest, place, tickAt, vectorAt, known, Sound, indices, NormalOver}
+use Rattle.ticks.specs.Meaning.{highest, place, tickAt, vectorAt, known, Sound, indices, Formed}
 use Rattle.ticks.specs.Table.{at}
-use Rattle.ticks.specs.Written.{numberOf, grown, vectorsOf, rangesOf, numbered}
+use Rattle.ticks.specs.Written.{vectorNumber, grown, vectorsOf, rangesOf, indexed}
 use Rattle.ticks.proofs.Lists.{Among, less, same, more, order}
 use Rattle.ticks.proofs.Equality.{eqb-exact, exact?, place-same, place-other}
 use Rattle.ticks.proofs.Steps.{stepBounds, Changing}
 use Rattle.ticks.proofs.Vectors.{ElementsInOrder}
-use Rattle.ticks.proofs.Numbering.{Apart, vectors-cons, vectors-length, vectors-keep, vectors-number, vectors-apart, vectors-all, ranges-cons, ranges-bounds, ranges-first, ranges-at, indices-length, ranges-differ}
+use Rattle.ticks.proofs.Numbering.{Apart, vectors-cons, vectors-length, vectors-keep, vectors-number, vectors-apart, vectors-all, ranges-cons, ranges-bounds, ranges-first, ranges-at, indices-length, ranges-differ, found-none}
 use Rattle.ticks.proofs.FirstUse.{FirstUse, first-below, first-used, first-order}
 
 -- Places in a replica map
@@ -59,11 +60,10 @@ known-out k i p n =
 
 -- Ranges with their own vectors
 
-pub vectorAt-numbered : (ids : List ℕ) (s : List (ℕ × List Element)) (i : ℕ) → vectorAt (numbered ids s) i ≡ at [] s i
-unfolding vectorAt numbered
-vectorAt-numbered ids s i =
-    ranges-at (vectorsOf ([] ∷ []) s) ([] ∷ []) s (length (vectorsOf ([] ∷ []) s)) i refl
-    ∙ ap (λ v. at v s i) (List·getD-eq-default (vectorsOf ([] ∷ []) s) [] (omega arith))
+pub vectorAt-indexed : (ids : List ℕ) (s : List (ℕ × List Element)) (i : ℕ) → vectorAt (indexed ids s) i ≡ at [] s i
+unfolding vectorAt indexed
+vectorAt-indexed ids s i =
+    ranges-at (vectorsOf ([] ∷ []) s) ([] ∷ []) s none i refl ∙ ap (λ v. at v s i) (found-none (vectorsOf ([] ∷ []) s))
 
 all-indices : (v : ℕ) (xs : List Range) → All (λ x. x < v) (indices xs) → All (λ x. x .index .0 < v) xs
 unfolding indices
@@ -102,31 +102,31 @@ over-ticks r (e ∷ s) a = (a .0 .order .ticks, over-ticks r s (a .1))
 
 module _ (ids : List ℕ) (distinct : Distinct ids) (w : List Element) (s : List (ℕ × List Element))
     (over : VectorOver (length ids) w) (overs : All (λ e. VectorOver (length ids) (e .1)) s) (changing : Changing highest 1 w s) where
-  numbered-sound : Sound (numbered ids ((0, w) ∷ s))
-  unfolding numbered stepBounds
-  numbered-sound = record {
+  indexed-sound : Sound (indexed ids ((0, w) ∷ s))
+  unfolding indexed stepBounds
+  indexed-sound = record {
     distinct = distinct;
-    keys = vectors-all (All (λ x. x .key .0 < length ids)) ([] ∷ []) ((0, w) ∷ s) (tt, tt) (over .keys, over-keys (length ids) s overs);
-    indices =
+    keysBelow = vectors-all (All (λ x. x .key .0 < length ids)) ([] ∷ []) ((0, w) ∷ s) (tt, tt) (over .keys, over-keys (length ids) s overs);
+    indicesBelow =
         all-indices (length (vectorsOf ([] ∷ []) ((0, w) ∷ s))) (rangesOf ([] ∷ []) ((0, w) ∷ s))
         (first-below 1 (indices (rangesOf ([] ∷ []) ((0, w) ∷ s))) (length (vectorsOf ([] ∷ []) ((0, w) ∷ s))) (ranges-first ([] ∷ []) ((0, w) ∷ s)));
     rising = rw ranges-bounds (omega arith, changing-rising highest 1 w s changing);
     items = rw ranges-bounds (omega arith, changing-top highest 1 w s changing);
   }
 
-  numbered-differ : (n : ℕ) → suc n < length (rangesOf ([] ∷ []) ((0, w) ∷ s))
+  indexed-differ : (n : ℕ) → suc n < length (rangesOf ([] ∷ []) ((0, w) ∷ s))
       → getD (vectorsOf ([] ∷ []) ((0, w) ∷ s)) (getD (indices (rangesOf ([] ∷ []) ((0, w) ∷ s))) n 0) []
       ≡ getD (vectorsOf ([] ∷ []) ((0, w) ∷ s)) (getD (indices (rangesOf ([] ∷ []) ((0, w) ∷ s))) (suc n) 0) [] → ⊥
   unfolding indices
-  numbered-differ =
+  indexed-differ =
       rw (ranges-cons ([] ∷ []) (0, w) s)
       (λ n h.
-      ranges-differ highest 1 (vectorsOf ([] ∷ []) ((0, w) ∷ s)) (grown ([] ∷ []) w) w (numberOf w ([] ∷ [])) s (sym (vectors-cons ([] ∷ []) (0, w) s))
+      ranges-differ highest 1 (vectorsOf ([] ∷ []) ((0, w) ∷ s)) (grown ([] ∷ []) w) w (vectorNumber w ([] ∷ [])) s (sym (vectors-cons ([] ∷ []) (0, w) s))
       (vectors-number ([] ∷ []) (0, w) s) changing n (omega arith))
 
-  pub normal-numbered : NormalOver ids (numbered ids ((0, w) ∷ s))
-  unfolding numbered keys bounds
-  normal-numbered =
+  pub formed-indexed : Formed (indexed ids ((0, w) ∷ s))
+  unfolding indexed keys bounds
+  formed-indexed =
       let vs = vectorsOf ([] ∷ []) ((0, w) ∷ s) in
       let rs = rangesOf ([] ∷ []) ((0, w) ∷ s) in
       let xs = indices rs in
@@ -134,13 +134,12 @@ module _ (ids : List ℕ) (distinct : Distinct ids) (w : List Element) (s : List
       let e : getD vs 0 [] ≡ [] = vectors-keep ([] ∷ []) ((0, w) ∷ s) 0 (omega arith) in
       let a : Apart vs = vectors-apart ([] ∷ []) ((0, w) ∷ s) start-apart in
       record {
-        replicas = refl;
-        sound = numbered-sound;
+        sound = indexed-sound;
         firstRange = rw ranges-cons refl;
-        neighbours = numbered-differ;
+        neighbours = indexed-differ;
         someVector = omega (arith, vectors-length ([] ∷ []) ((0, w) ∷ s));
         emptyFirst = e;
-        firstUse = λ y z h k l. first-order 1 xs (length vs) y z first h k l;
+        inOrder = λ y z h k l. first-order 1 xs (length vs) y z first h k l;
         distinct = λ y z h k l q. a .apart y z k l q;
         notEmpty = λ y h k q. a .apart 0 y h k (e ∙ sym q);
         used = λ y h k. omega (arith, indices-length rs, among-place y xs (first-used 1 xs (length vs) y first h k));

@@ -19,34 +19,35 @@ use Rattle.ticks.specs.declared.Lead.the-variants as D
 use Rattle.ticks.specs.declared.Cover.{Cover}
 use Rattle.ticks.specs.declared.Cover.the-variants as E
 
--- the number of each answer, 0 where nothing is refused, and its value
+-- the number of each answer, 0 where nothing is refused; and its value, from the value before the call, which stays on a
+-- refusal
 unfoldable pub containNumber : Contain → ℕ
 containNumber C.Contained = 0
 containNumber C.Lacking = 0
 containNumber (C.Refused n) = n
 
-unfoldable pub containValue : Contain → ℕ
-containValue C.Contained = 1
-containValue C.Lacking = 0
-containValue (C.Refused n) = 0
+unfoldable pub containValue : Contain → ℕ → ℕ
+containValue C.Contained old = 1
+containValue C.Lacking old = 0
+containValue (C.Refused n) old = old
 
 unfoldable pub leadNumber : Lead → ℕ
 leadNumber (D.Ahead x) = 0
 leadNumber (D.Refused n) = n
 
-unfoldable pub leadValue : Lead → ℤ
-leadValue (D.Ahead x) = x
-leadValue (D.Refused n) = pos 0
+unfoldable pub leadValue : Lead → ℤ → ℤ
+leadValue (D.Ahead x) old = x
+leadValue (D.Refused n) old = old
 
 unfoldable pub coverNumber : Cover → ℕ
 coverNumber E.Covers = 0
 coverNumber E.Lacks = 0
 coverNumber (E.Refused n) = n
 
-unfoldable pub coverValue : Cover → ℕ
-coverValue E.Covers = 1
-coverValue E.Lacks = 0
-coverValue (E.Refused n) = 0
+unfoldable pub coverValue : Cover → ℕ → ℕ
+coverValue E.Covers old = 1
+coverValue E.Lacks old = 0
+coverValue (E.Refused n) old = old
 
 -- an item id of 24 bytes or a replica id of 16, as a number
 unfoldable pub idOf : ℕ → List ℕ → ℕ
@@ -60,16 +61,11 @@ readAs p = readOr emptyKnowledge p
 unfoldable pub wrongLength : ℕ → List ℕ → Bool
 wrongLength n s = not (eqb (length s) n)
 
-unfoldable pub wrongPlace : List ℕ → List ℕ → Bool
-wrongPlace item replica = wrongLength 24 item || wrongLength 16 replica
+unfoldable pub wrongIds : List ℕ → List ℕ → Bool
+wrongIds item replica = wrongLength 24 item || wrongLength 16 replica
 
 unfoldable pub wrongSpan : List ℕ → List ℕ → Bool
 wrongSpan first last = wrongLength 24 first || (wrongLength 24 last || ltb (idOf 24 last) (idOf 24 first))
-
--- the answer of a call that writes nothing: the refusal of its lines, or what it finds
-unfoldable pub refusedOr : {A : Type 0} → (ℕ → A) → A → Reply → A
-refusedOr bad found (gives bs) = found
-refusedOr bad found (refuses n) = bad n
 
 unfoldable pub containFound : Bool → Contain
 containFound true = C.Contained
@@ -83,8 +79,8 @@ coverFound false = E.Lacks
 unfoldable pub containAnswer : Rules → List ℕ → List ℕ → List ℕ → ℕ → Contain
 containAnswer R s item replica t =
     let p = parse R s in
-    refusedOr C.Refused (containFound (contains (readAs p) (idOf 24 item) (idOf 16 replica) t))
-    (firstFault refuses (ownFault p ∷ line 17 (wrongPlace item replica) ∷ []) (gives []))
+    firstFault C.Refused (ownFault p ∷ line 17 (wrongIds item replica) ∷ [])
+    (containFound (contains (readAs p) (idOf 24 item) (idOf 16 replica) t))
 
 -- "Lead: for an item and a replica, the first's tick minus the second's, a signed number, 0 for absent."
 unfoldable pub leadOf : Knowledge → Knowledge → ℕ → ℕ → ℤ
@@ -94,16 +90,16 @@ unfoldable pub leadAnswer : Rules → List ℕ → List ℕ → List ℕ → Lis
 leadAnswer R s t item replica =
     let p = parse R s in
     let q = parse R t in
-    refusedOr D.Refused (D.Ahead (leadOf (readAs p) (readAs q) (idOf 24 item) (idOf 16 replica)))
-    (firstFault refuses (ownFault p ∷ ownFault q ∷ line 17 (wrongPlace item replica) ∷ []) (gives []))
+    firstFault D.Refused (ownFault p ∷ ownFault q ∷ line 17 (wrongIds item replica) ∷ [])
+    (D.Ahead (leadOf (readAs p) (readAs q) (idOf 24 item) (idOf 16 replica)))
 
 -- Cover: does the first knowledge know at least as much as the second throughout the span
 unfoldable pub coverAnswer : Rules → List ℕ → List ℕ → List ℕ → List ℕ → Cover
 coverAnswer R s t first last =
     let p = parse R s in
     let q = parse R t in
-    refusedOr E.Refused (coverFound (covers (readAs p) (readAs q) (idOf 24 first) (idOf 24 last)))
-    (firstFault refuses (ownFault p ∷ ownFault q ∷ line 17 (wrongSpan first last) ∷ []) (gives []))
+    firstFault E.Refused (ownFault p ∷ ownFault q ∷ line 17 (wrongSpan first last) ∷ [])
+    (coverFound (covers (readAs p) (readAs q) (idOf 24 first) (idOf 24 last)))
 
 -- the lines of a result: 11 over the most replicas, 12 over the most ranges
 unfoldable pub resultLines : Limits → Knowledge → List Line

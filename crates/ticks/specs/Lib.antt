@@ -4,5 +4,6 @@ pub mod Table
 pub mod Written
 pub mod Operations
 pub mod Calls
+pub mod Answers
 pub mod Demand2
 pub mod Results

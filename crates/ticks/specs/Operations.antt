@@ -3,8 +3,8 @@
 use Rattle.codec.specs.Prelude.{ℕ, suc, max, Bool, true, false, List, [], _∷_, _++_, eqb, ltb, length}
 use Rattle.layout.specs.Knowledge.{Limits, Range, Knowledge, bounds}
 use Rattle.ticks.specs.Meaning.{known}
-use Rattle.ticks.specs.Table.{inside, within, sorted}
-use Rattle.ticks.specs.Written.{range, normalOf}
+use Rattle.ticks.specs.Table.{inSpan, within, sorted}
+use Rattle.ticks.specs.Written.{normalOf}
 
 unfoldable pub normalise : Knowledge → Knowledge
 normalise k = normalOf (bounds (k .ranges)) (k .replicas) (known k)
@@ -18,7 +18,7 @@ merge a b = normalOf (bounds (a .ranges) ++ bounds (b .ranges)) (a .replicas ++ 
 
 -- "Project onto a span first..last, both ends included: the known ticks inside, 0 outside"
 unfoldable pub knownInside : ℕ → ℕ → Knowledge → ℕ → ℕ → ℕ
-knownInside first last k i p = elim (inside first last i) [ true ↦ known k i p | false ↦ 0 ]
+knownInside first last k i p = elim (inSpan first last i) [ true ↦ known k i p | false ↦ 0 ]
 
 unfoldable pub project : ℕ → ℕ → Knowledge → Knowledge
 project first last k = normalOf (first ∷ suc last ∷ bounds (k .ranges)) (k .replicas) (knownInside first last k)
@@ -30,32 +30,32 @@ knownRaised p t k i q = elim (eqb q p) [ true ↦ t | false ↦ known k i q ]
 unfoldable pub raise : ℕ → ℕ → Knowledge → Knowledge
 raise p t k = normalOf (bounds (k .ranges)) (p ∷ k .replicas) (knownRaised p t k)
 
--- a place, an item and a replica, or none
-pub data Place : Type 0 where
-  nowhere : Place
-  here : ℕ → ℕ → Place
+-- an item and a replica of which a knowledge lacks a tick, or none
+pub data Lack : Type 0 where
+  nowhere : Lack
+  here : ℕ → ℕ → Lack
 
 -- the first of the given replicas of which a knows less than b at item i
-unfoldable pub lackingAt : Knowledge → Knowledge → ℕ → List ℕ → Place
+unfoldable pub lackingAt : Knowledge → Knowledge → ℕ → List ℕ → Lack
 lackingAt a b i [] = nowhere
 lackingAt a b i (p ∷ ps) = elim (ltb (known a i p) (known b i p)) [ true ↦ here i p | false ↦ lackingAt a b i ps ]
 
-unfoldable pub orElse : Place → Place → Place
+unfoldable pub orElse : Lack → Lack → Lack
 orElse nowhere y = y
 orElse (here i p) y = here i p
 
--- the first such place at the given items
-unfoldable pub lackingFrom : Knowledge → Knowledge → List ℕ → List ℕ → Place
+-- the first such item and replica of the given ones
+unfoldable pub lackingFrom : Knowledge → Knowledge → List ℕ → List ℕ → Lack
 lackingFrom a b ps [] = nowhere
 lackingFrom a b ps (i ∷ is) = let y = lackingFrom a b ps is in orElse (lackingAt a b i ps) y
 
--- the first place of the span first..last, by item and then by replica, where a knows less than b: ticks change at
--- bounds only, so it is looked for at `first` and at the bounds inside
-unfoldable pub lacking : Knowledge → Knowledge → ℕ → ℕ → Place
+-- the first of the span first..last, by item and then by replica, where a knows less than b: ticks change at bounds
+-- only, so it is looked for at `first` and at the bounds inside
+unfoldable pub lacking : Knowledge → Knowledge → ℕ → ℕ → Lack
 lacking a b first last =
     lackingFrom a b (sorted (b .replicas)) (sorted (within first last (first ∷ bounds (a .ranges) ++ bounds (b .ranges))))
 
-unfoldable pub isNowhere : Place → Bool
+unfoldable pub isNowhere : Lack → Bool
 isNowhere nowhere = true
 isNowhere (here i p) = false
 
