@@ -2,14 +2,14 @@
 -- computed and the results compared.
 use mathlib.Core.Path.{refl}
 use Rattle.codec.specs.Number.{beFrom, beAt, put}
-use Rattle.codec.specs.Parsed.{readOr}
+use Rattle.codec.specs.Parsed.{readOr, ownFault}
 use Rattle.codec.specs.Reply.{firstFault}
 use Rattle.layout.specs.Knowledge.{putFields, putIds, putElements, putVectors, putRanges, encode, opening, beforeVectors, beforeElements, beforeRanges, closing, bounds}
 use Rattle.layout.specs.Parse.{replicaMap, vectorCount, vectorList, rangeList, ended, checked, told, parse}
 use Rattle.layout.specs.Decode.{idsAt, elementsAt, vectorsAt, afterVectors, rangesAt, decode}
 use Rattle.layout.specs.Read.{repeat, number, same, fields, limit, empty, among, judged, replicaId, tick, element, firstVector, vector, index, range}
 use Rattle.layout.proofs.NotNormal.{tickZero, unusedReplica, unusedVector, equalVectors, emptyTwice, equalNeighbours, firstAbove, laterFirst, replicasFall, keysFall}
-use Rattle.ticks.specs.Calls.{idOf, ownFault, wrongLength, wrongIds, containFound, containAnswer, resultLines, normaliseReply}
+use Rattle.ticks.specs.Calls.{idOf, wrongLength, wrongIds, containFound, containAnswer, resultLines, normaliseReply}
 use Rattle.ticks.specs.Meaning.{highest, placeBy, tickAt, indexFrom, vectorFound, vectorAt, known, contains, emptyKnowledge}
 use Rattle.ticks.specs.Written.{vectorFrom, vectorStepsFrom, vectorSteps, eqElement, grown, vectorsOf, rangesOf, indexed, knowledgeOf, normalOf}
 use Rattle.ticks.specs.Operations.{normalise, tooManyReplicas, tooManyRanges}

@@ -9,7 +9,7 @@ use Rattle.layout.specs.declared.Checked.{Checked}
 use Rattle.layout.specs.declared.Checked.the-variants.{Accepted, Refused}
 use Rattle.layout.specs.Knowledge.{basic, Knowledge, encode}
 use Rattle.layout.specs.Permitted.{base}
-use Rattle.layout.specs.Parse.{Parsed, accepted, refused, checked, parse}
+use Rattle.layout.specs.Parse.{checked, parse}
 use Rattle.ticks.specs.Meaning.{highest, known}
 use Rattle.ticks.specs.Calls.{containAnswer, leadAnswer, mergeReply, projectReply}
 use Rattle.ticks.specs.declared.Contain.{Contain}
@@ -25,6 +25,7 @@ use Rattle.instances.specs.Spelled.{bytesK6, bytesK10, bytesK11}
 use Rattle.instances.specs.Given.{emptyValue, smallest, itemBytes, replicaBytes, tagged, ran, one, two, parts, fresh, again, store, batch, p1, q1, p2, q2}
 use Rattle.replication.specs.declared.Part.{Part}
 use Rattle.replication.specs.declared.Part.the-variants as W
+use Rattle.codec.specs.Parsed.{Parsed, accepted, refused}
 
 pub data Row : Type 0 where
   -- the bytes of a knowledge, and how many they are

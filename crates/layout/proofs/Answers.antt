@@ -14,9 +14,10 @@ use Rattle.layout.specs.declared.Checked.the-variants.{Accepted, Refused
 use Rattle.layout.specs.Knowledge.{Rules, basic, Knowledge}
 use Rattle.layout.specs.Permitted.{Permitted}
 use Rattle.layout.specs.Answer.{checkedNumber, checkedSizes, elements}
-use Rattle.layout.specs.Parse.{accepted, refused, checked, parse}
+use Rattle.layout.specs.Parse.{checked, parse}
 use Rattle.layout.proofs.BackwardRefused.{refused-numbers}
 use Rattle.layout.proofs.Exact.{sizes-exact, refused-exact, base-permitted}
+use Rattle.codec.specs.Parsed.{accepted, refused}
 
 -- the list `new` is `old` with r, v, e and g put over its first four entries, as many as it has
 pub record Sizes (r v e g : ℕ) (old new : List ℕ) : Type 0 where

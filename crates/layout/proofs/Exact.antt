@@ -16,10 +16,11 @@ use lib.Dec.{lit≤}
 use Rattle.layout.specs.Knowledge.{Rules, largestTick, Knowledge, encode, Lawful}
 use Rattle.layout.specs.Permitted.{Permitted, base, longest, mostVectors}
 use Rattle.layout.specs.Answer.{elements}
-use Rattle.layout.specs.Parse.{Parsed, accepted, refused, checked, told, parse}
+use Rattle.layout.specs.Parse.{checked, told, parse}
 use Rattle.layout.specs.Decode.{decode}
 use Rattle.layout.proofs.Forward.{forward, decoded, encode-length, encode-bytes}
 use Rattle.layout.proofs.Backward.{Means, backward}
+use Rattle.codec.specs.Parsed.{Parsed, accepted, refused}
 
 told-refusal : (s : List ℕ) (n : ℕ) → told s (Refused n) ≡ refused n
 unfolding told

@@ -18,7 +18,7 @@ use Rattle.layout.specs.Knowledge.{Rules, Element, Range, Knowledge, ope
 use Rattle.layout.specs.Knowledge.{putFields, putIds, putElements, putVectors, encode, All, keys, Lawful}
 use Rattle.layout.specs.Permitted.{Permitted, mostVectors}
 use Rattle.layout.specs.Read.{_▷_, repeat, number, fields, limit, empty, among, replicaId, element, firstVector, vector, range}
-use Rattle.layout.specs.Parse.{_▶_, replicaMap, vectorCount, vectorList, rangeList, ended, checked, refused, parse}
+use Rattle.layout.specs.Parse.{_▶_, replicaMap, vectorCount, vectorList, rangeList, ended, checked, parse}
 use Rattle.layout.proofs.Parts.{LawfulElement, whole as whole-lawful}
 use Rattle.layout.proofs.Chain.{Stands}
 use Rattle.layout.proofs.ForwardRead.{lowest}
@@ -36,6 +36,7 @@ use Rattle.layout.proofs.Exact.{refused-exact}
 use Rattle.layout.proofs.Appended.{encode-append}
 use Rattle.layout.proofs.FoundSteps.{then-fault, next-fault, repeat-found, fields-found, counted-found, limit-found, empty-found, id-found, element-found, range-found, among-found, hit-map, num-fault, true-false}
 use Rattle.layout.proofs.FoundSteps.{opening-some, beforeVectors-some, beforeElements-some, beforeRanges-some, closing-some}
+use Rattle.codec.specs.Parsed.{refused}
 
 -- what differs from no bound before is below the least that may follow
 low-found : (xs : List Range) (x : ℕ) → x < lowest 0 xs → NotAbove xs x

@@ -1,7 +1,7 @@
 -- The reading of a whole knowledge: document 01's table "Knowledge, left to right, first faulty field", then
 -- "Knowledge, end". `checked` decides and counts; `parse` also gives the value that the accepted bytes stand for.
 use Rattle.codec.specs.Prelude.{ℕ, _+_, _-_, true, false, List, eqb, length}
-pub use Rattle.codec.specs.Parsed.{Parsed, accepted, refused}
+use Rattle.codec.specs.Parsed.{Parsed, accepted, refused}
 use Rattle.layout.specs.declared.Got.{Got}
 use Rattle.layout.specs.declared.Got.the-variants.{Num, Fault}
 use Rattle.layout.specs.declared.Checked.{Checked}

@@ -13,10 +13,10 @@ use borrow.Author.Tests.{leb-true, leb-false, ltb-true, ltb-false, eqb-true, not
 use Rattle.codec.specs.Reply.{Reply, gives, refuses, Line, firstFault}
 use Rattle.codec.proofs.Replies.{None, fault-gives}
 use Rattle.layout.specs.Knowledge.{Limits, Rules, largestTick, Knowledge, anyId}
-use Rattle.layout.specs.Parse.{Parsed, accepted, refused, parse}
+use Rattle.layout.specs.Parse.{parse}
 use Rattle.ticks.specs.Meaning.{emptyKnowledge, highest}
 use Rattle.ticks.specs.Operations.{covers, coversFor, largest, tooManyReplicas, tooManyRanges}
-use Rattle.ticks.specs.Calls.{line, idOf, readAs, ownFault, wrongLength, wrongSpan, resultLines, readOr}
+use Rattle.ticks.specs.Calls.{idOf, readAs, wrongLength, wrongSpan, resultLines}
 use Rattle.ticks.proofs.ForCalls.{or-false, length-right, span-right, Within, within-lines}
 use Rattle.codec.proofs.Replies.{read-accepted, fault-refused}
 use Rattle.replication.specs.Formats.{Store, encodeStore, Batch, encodeBatch, find}
@@ -28,6 +28,7 @@ use Rattle.replication.specs.Lists.{outcome}
 use Rattle.replication.specs.Record.{Rec}
 use Rattle.replication.specs.Call.{Brought}
 use Rattle.replication.specs.Valid.{RightBrought}
+use Rattle.codec.specs.Parsed.{line, ownFault, readOr, Parsed, accepted, refused}
 
 -- ---- the buffer
 

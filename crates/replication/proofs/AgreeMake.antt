@@ -12,7 +12,7 @@ use Rattle.codec.specs.Number.{Bytes, beAt}
 use Rattle.codec.proofs.Numbers.{be-below}
 use Rattle.layout.specs.Knowledge.{Rules, Knowledge, Lawful}
 use Rattle.layout.specs.Permitted.{Permitted}
-use Rattle.layout.specs.Parse.{accepted, parse}
+use Rattle.layout.specs.Parse.{parse}
 use Rattle.layout.proofs.Exact.{exact}
 use Rattle.ticks.specs.Meaning.{highest, known}
 use Rattle.ticks.specs.Operations.{normalise, project}
@@ -32,6 +32,7 @@ use Rattle.replication.proofs.AgreeInvariant.{StoreFollows, BatchFollow
 use Rattle.replication.proofs.MachineLaws.{Good}
 use Rattle.replication.specs.Record.{Rec}
 use Rattle.replication.specs.Call.{make}
+use Rattle.codec.specs.Parsed.{accepted}
 
 paired-add : (R : Rules) (vs : List Rec) (s : List ℕ) (b : Remembered) (ss : List (List ℕ)) (ms : List Remembered) → BatchFollows (R .limits) s vs b → Paired (R .limits) vs ss ms → Paired (R .limits) vs (ss ++ (s ∷ [])) (ms ++ (b ∷ []))
 paired-add R vs s b [] [] f p = (f, tt)

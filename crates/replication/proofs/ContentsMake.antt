@@ -15,7 +15,7 @@ use Rattle.codec.specs.Number.{Bytes, beAt}
 use Rattle.codec.specs.Reply.{Reply, gives}
 use Rattle.layout.specs.Knowledge.{Rules, Knowledge, All, Lawful, anyId}
 use Rattle.layout.specs.Permitted.{Permitted}
-use Rattle.layout.specs.Parse.{accepted, parse}
+use Rattle.layout.specs.Parse.{parse}
 use Rattle.layout.proofs.Parts.{all-map}
 use Rattle.layout.proofs.Exact.{exact}
 use Rattle.ticks.specs.Meaning.{highest, known}
@@ -40,6 +40,7 @@ use Rattle.replication.proofs.AgreeLines.{gives-outcome, make-met}
 use Rattle.replication.proofs.Arguments.{id-below}
 use Rattle.replication.proofs.ContentsValid.{lacks-exact, all-two, store-exact}
 use Rattle.replication.specs.Record.{Rec}
+use Rattle.codec.specs.Parsed.{accepted}
 
 -- ---- the batch written, compared with the store and the given knowledge
 

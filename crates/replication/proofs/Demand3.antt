@@ -17,7 +17,7 @@ use Rattle.layout.specs.Knowledge.{Rules, basic, Knowledge, All, Limits}
 use Rattle.layout.specs.Permitted.{Permitted}
 use Rattle.layout.proofs.Exact.{base-permitted}
 use Rattle.ticks.specs.Meaning.{highest, known}
-use Rattle.ticks.specs.Calls.{line, idOf, wrongLength}
+use Rattle.ticks.specs.Calls.{idOf, wrongLength}
 use Rattle.ticks.proofs.Answers.{length-exact}
 use Rattle.ticks.proofs.ForCalls.{id-is}
 use Rattle.ticks.proofs.ForCover.{covers-for-exact}
@@ -49,7 +49,7 @@ use Rattle.ticks.proofs.Unique.{normal-unique}
 use Rattle.replication.proofs.AgreeInvariant.{StoreFollows, BatchFollows, stored, Follows}
 use Rattle.replication.proofs.AgreeEdit.{put-same, store-moved}
 use Rattle.replication.proofs.AgreeRun.{start-follows, Numbered, paired-number, batch-open-at, apply-step, run-follows}
-use Rattle.codec.specs.Parsed.{accepted}
+use Rattle.codec.specs.Parsed.{accepted, line}
 use Rattle.replication.specs.Record.{Rec}
 use Rattle.replication.specs.Call.{Call, Given}
 

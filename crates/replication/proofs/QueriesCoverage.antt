@@ -16,9 +16,9 @@ use borrow.Author.Tests.{eq-eqb, ne-eqb}
 use Rattle.codec.specs.Reply.{gives, firstFault, refuses}
 use Rattle.codec.proofs.Replies.{fault-here, fault-later, fault-none}
 use Rattle.layout.specs.Knowledge.{Rules, Knowledge}
-use Rattle.layout.specs.Parse.{Parsed, accepted, refused, parse}
+use Rattle.layout.specs.Parse.{parse}
 use Rattle.ticks.specs.Meaning.{emptyKnowledge, known, contains}
-use Rattle.ticks.specs.Calls.{line, readAs, ownFault, readOr}
+use Rattle.ticks.specs.Calls.{readAs}
 use Rattle.ticks.proofs.Algebra.{contains-yes, contains-exact}
 use Rattle.codec.proofs.Replies.{read-accepted}
 use Rattle.codec.proofs.Replies.{read-fault, read-fine}
@@ -29,6 +29,7 @@ use Rattle.replication.specs.Queries.{coverageNumber, coverageContained,
 use Rattle.replication.specs.declared.Coverage.{Coverage}
 use Rattle.replication.specs.declared.Coverage.the-variants as G
 use Rattle.replication.specs.Record.{Rec}
+use Rattle.codec.specs.Parsed.{line, ownFault, readOr, Parsed, accepted, refused}
 
 -- ---- counting
 

@@ -22,7 +22,7 @@ use Rattle.codec.proofs.Replies.{fault-here, fault-later, fault-none, read-fine
 use Rattle.layout.specs.Knowledge.{Limits, anyId, All, encode}
 use Rattle.layout.specs.Permitted.{Permitted}
 use Rattle.layout.proofs.Chain.{Stands}
-use Rattle.ticks.specs.Calls.{line, idOf, wrongLength}
+use Rattle.ticks.specs.Calls.{idOf, wrongLength}
 use Rattle.ticks.proofs.Lists.{less, same, more, order}
 use Rattle.ticks.proofs.ForCalls.{id-is}
 use Rattle.ticks.proofs.Answers.{length-exact}
@@ -37,7 +37,7 @@ use Rattle.replication.specs.MethodTable.{recsOf, tableAt}
 use Rattle.replication.proofs.PartBytes.{part-bytes}
 use Rattle.replication.proofs.RecordBytes.{Whole, whole-back, rec-part}
 use Rattle.replication.proofs.BatchBytes.{batch-read}
-use Rattle.codec.specs.Parsed.{accepted, refused, Parsed, readOr, ownFault}
+use Rattle.codec.specs.Parsed.{accepted, refused, Parsed, readOr, ownFault, line}
 use Rattle.replication.specs.declared.Part.{Part}
 use Rattle.replication.specs.declared.Part.the-variants as P
 use Rattle.replication.specs.Record.{Rec}

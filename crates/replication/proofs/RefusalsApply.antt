@@ -14,7 +14,6 @@ use lib.ListN.{length}
 use Rattle.codec.specs.Reply.{Reply, gives, refuses, Line, firstFault}
 use Rattle.layout.specs.Knowledge.{Limits, anyId}
 use Rattle.ticks.specs.Operations.{merge}
-use Rattle.ticks.specs.Calls.{line}
 use Rattle.ticks.proofs.Lists.{Among}
 use Rattle.replication.specs.Formats.{Store, encodeStore, Batch}
 use Rattle.replication.specs.OpenStore.{openStore}
@@ -23,7 +22,7 @@ use Rattle.replication.specs.Operate.{join, applied}
 use Rattle.replication.specs.Calls.{storeOr, batchOr, uncovered, ownAhead, storeLines, applyLines, applyReply}
 use Rattle.replication.proofs.RefusalsTable.{Rule, rule, Told, told-cons, At, absent, only, refused-at, refused-among, refused-never, given-none, refuses-same}
 use Rattle.replication.proofs.RefusalsTests.{Lacks, Covered, Ahead, Behind, means-18, rule11, rule12, rule13, told-store}
-use Rattle.codec.specs.Parsed.{Parsed, accepted, refused, ownFault, readOr}
+use Rattle.codec.specs.Parsed.{Parsed, accepted, refused, ownFault, readOr, line}
 
 -- ---- the reply, by what opens
 

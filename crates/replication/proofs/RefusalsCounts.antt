@@ -14,7 +14,7 @@ use Rattle.codec.specs.Number.{beAt, Bytes}
 use Rattle.codec.specs.Reply.{refuses}
 use Rattle.layout.specs.Knowledge.{Limits, anyId, Knowledge, All, Rising, Lawful}
 use Rattle.layout.specs.Permitted.{Permitted}
-use Rattle.layout.specs.Parse.{accepted, parse}
+use Rattle.layout.specs.Parse.{parse}
 use Rattle.layout.proofs.Exact.{exact}
 use Rattle.ticks.specs.Meaning.{highest, known, Normal}
 use Rattle.ticks.specs.Operations.{raise, normalise, largest}
@@ -35,6 +35,7 @@ use Rattle.replication.proofs.RefusalsTests.{Present, Unexhausted, open
 use Rattle.replication.proofs.RefusalsEdit.{editedStore, edit-11, edit-12, edit-13, delete-11, delete-12, delete-13}
 use Rattle.replication.proofs.RefusalsMake.{make-11, make-13}
 use Rattle.replication.specs.Call.{Brought}
+use Rattle.codec.specs.Parsed.{accepted}
 
 -- ---- replicas
 

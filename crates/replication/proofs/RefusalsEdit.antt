@@ -14,7 +14,7 @@ use Rattle.codec.specs.Number.{beAt, Bytes}
 use Rattle.codec.specs.Reply.{Reply, gives, refuses, Line, firstFault}
 use Rattle.layout.specs.Knowledge.{Limits, anyId, Lawful}
 use Rattle.layout.specs.Permitted.{Permitted}
-use Rattle.ticks.specs.Calls.{line, wrongLength}
+use Rattle.ticks.specs.Calls.{wrongLength}
 use Rattle.ticks.proofs.Lists.{Among}
 use Rattle.ticks.proofs.ForCalls.{id-is}
 use Rattle.replication.specs.Formats.{Store, encodeStore, find}
@@ -23,7 +23,7 @@ use Rattle.replication.specs.Operate.{changed}
 use Rattle.replication.specs.Calls.{storeOr, gone, exhausted, storeLines, editLines, edited, editReply, deleteLines, deleted, deleteReply, tombstone, liveContent, wrongBrought}
 use Rattle.replication.proofs.RefusalsTable.{Rule, rule, Told, told-cons, At, only, refused-at, refused-among, given-none, refuses-same}
 use Rattle.replication.proofs.RefusalsTests.{Gone, Present, means-19, Exhausted, Unexhausted, means-20, means-length, means-lengths, rule11, rule12, rule13, told-store, opened-lawful}
-use Rattle.codec.specs.Parsed.{accepted, refused, Parsed, ownFault, readOr}
+use Rattle.codec.specs.Parsed.{accepted, refused, Parsed, ownFault, readOr, line}
 use Rattle.replication.specs.Call.{Brought}
 use Rattle.replication.specs.Valid.{RightBrought}
 

@@ -14,12 +14,12 @@ use Rattle.codec.specs.Number.{beAt}
 use Rattle.codec.specs.Reply.{Reply, gives, refuses, Line, firstFault}
 use Rattle.layout.specs.Knowledge.{Rules, Knowledge}
 use Rattle.layout.specs.Permitted.{Permitted}
-use Rattle.layout.specs.Parse.{Parsed, accepted, refused, parse}
+use Rattle.layout.specs.Parse.{parse}
 use Rattle.layout.proofs.Exact.{refused-exact}
 use Rattle.layout.proofs.BackwardRefused.{refused-within}
 use Rattle.ticks.specs.Operations.{normalise, project}
 use Rattle.ticks.specs.Meaning.{emptyKnowledge}
-use Rattle.ticks.specs.Calls.{line, idOf, readAs, ownFault, wrongSpan, resultLines, readOr}
+use Rattle.ticks.specs.Calls.{idOf, readAs, wrongSpan, resultLines}
 use Rattle.ticks.proofs.Lists.{Among}
 use Rattle.ticks.proofs.ForCalls.{id-is}
 use Rattle.codec.proofs.Replies.{read-accepted}
@@ -30,6 +30,7 @@ use Rattle.replication.specs.Operate.{made}
 use Rattle.replication.specs.Calls.{then, storeOr, tooManyRecords, makeLines, makes, makeReply}
 use Rattle.replication.proofs.RefusalsTable.{Rule, rule, Told, told-cons, told-then, At, only, refused-at, refused-pair, refused-among, refused-never, given-none, refuses-same}
 use Rattle.replication.proofs.RefusalsTests.{Span, NoSpan, means-span, rule11, rule12, rule13, told-result, told-records}
+use Rattle.codec.specs.Parsed.{line, ownFault, readOr, Parsed, accepted, refused}
 
 -- ---- the reply, by what opens and is read
 

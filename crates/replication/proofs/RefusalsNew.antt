@@ -7,12 +7,13 @@ use lib.ListN.{length}
 use Rattle.codec.specs.Number.{beAt}
 use Rattle.codec.specs.Reply.{gives, refuses, firstFault}
 use Rattle.ticks.specs.Meaning.{emptyKnowledge}
-use Rattle.ticks.specs.Calls.{line, wrongLength}
+use Rattle.ticks.specs.Calls.{wrongLength}
 use Rattle.ticks.proofs.ForCalls.{id-is}
 use Rattle.replication.specs.Formats.{newStore, encodeStore}
 use Rattle.replication.specs.Calls.{newReply}
 use Rattle.replication.proofs.RefusalsTable.{rule, FirstOf, Told, told-nil, told-cons, refused-first, given-none}
 use Rattle.replication.proofs.RefusalsTests.{means-length}
+use Rattle.codec.specs.Parsed.{line}
 
 module _ (own : List ℕ) where
   -- "New: own id, empty knowledge, no records"

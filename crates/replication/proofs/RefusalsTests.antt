@@ -19,7 +19,7 @@ use Rattle.layout.specs.Knowledge.{Limits, anyId, largestTick, Knowledge, Lawfu
 use Rattle.layout.specs.Permitted.{Permitted}
 use Rattle.ticks.specs.Meaning.{highest, known}
 use Rattle.ticks.specs.Operations.{covers, coversFor, largest, tooManyReplicas, tooManyRanges}
-use Rattle.ticks.specs.Calls.{line, wrongLength, wrongSpan, resultLines}
+use Rattle.ticks.specs.Calls.{wrongLength, wrongSpan, resultLines}
 use Rattle.ticks.proofs.Lists.{Among}
 use Rattle.ticks.proofs.Answers.{length-exact, span-exact}
 use Rattle.ticks.proofs.Replies.{ResultSays, over-replicas, over-ranges, result-given, result-says}
@@ -34,7 +34,7 @@ use Rattle.replication.specs.OpenStore.{openStore}
 use Rattle.replication.specs.Calls.{uncovered, ownAhead, gone, exhausted, tooManyRecords, storeLines, wrongBrought}
 use Rattle.replication.proofs.StoreBytes.{store-opened}
 use Rattle.replication.proofs.RefusalsTable.{Rule, rule, Means, FirstOf, NoneOf, Told, told-nil, told-cons, told-then}
-use Rattle.codec.specs.Parsed.{accepted}
+use Rattle.codec.specs.Parsed.{accepted, line}
 use Rattle.replication.specs.Record.{Rec}
 use Rattle.replication.specs.Call.{Brought}
 use Rattle.replication.specs.Valid.{RightBrought}

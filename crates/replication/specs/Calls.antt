@@ -7,8 +7,8 @@ use Rattle.layout.specs.Knowledge.{Limits, Rules, anyId, largestTick, Knowledge
 use Rattle.layout.specs.Parse.{parse}
 use Rattle.ticks.specs.Meaning.{highest, emptyKnowledge}
 use Rattle.ticks.specs.Operations.{covers, coversFor, largest}
-use Rattle.codec.specs.Parsed.{Parsed, readOr}
-use Rattle.ticks.specs.Calls.{line, idOf, readAs, ownFault, wrongLength, wrongSpan, resultLines}
+use Rattle.codec.specs.Parsed.{Parsed, readOr, line, ownFault}
+use Rattle.ticks.specs.Calls.{idOf, readAs, wrongLength, wrongSpan, resultLines}
 use Rattle.replication.specs.Record.{Content, Rec}
 use Rattle.replication.specs.Call.{Brought}
 use Rattle.replication.specs.Formats.{Store, newStore, encodeStore, Batch, encodeBatch, find}

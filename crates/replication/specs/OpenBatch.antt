@@ -3,7 +3,7 @@
 use Rattle.codec.specs.Prelude.{ℕ, suc, _+_, Bool, true, false, not, List, Option, none, some, eqb, leb, length, take, drop}
 use Rattle.codec.specs.Number.{beAt}
 use Rattle.layout.specs.Knowledge.{Limits, anyId, Knowledge}
-use Rattle.layout.specs.Parse.{Parsed, accepted, refused, parse}
+use Rattle.layout.specs.Parse.{parse}
 use Rattle.ticks.specs.Meaning.{contains}
 use Rattle.ticks.specs.Written.{isNormal, eqKnowledge}
 use Rattle.ticks.specs.Table.{inSpan}
@@ -12,6 +12,7 @@ use Rattle.replication.specs.Record.{Rec}
 use Rattle.replication.specs.Formats.{Batch}
 use Rattle.replication.specs.Reading.{both, recsAt, validRecs}
 use Rattle.replication.specs.OpenStore.{versionsIn}
+use Rattle.codec.specs.Parsed.{Parsed, accepted, refused}
 
 -- the fields of a batch's header, by their places; where its knowledges begin, and its first record
 abbrev pub firstId : List ℕ → ℕ

@@ -3,13 +3,14 @@
 use Rattle.codec.specs.Prelude.{ℕ, _+_, Bool, true, false, List, Option, none, some, eqb, leb, length, take, drop}
 use Rattle.codec.specs.Number.{beAt}
 use Rattle.layout.specs.Knowledge.{Limits, anyId, Knowledge}
-use Rattle.layout.specs.Parse.{Parsed, accepted, refused, parse}
+use Rattle.layout.specs.Parse.{parse}
 use Rattle.ticks.specs.Meaning.{contains}
 use Rattle.ticks.specs.Written.{isNormal}
 use Rattle.ticks.specs.Operations.{ownAlike}
 use Rattle.replication.specs.Record.{Rec}
 use Rattle.replication.specs.Formats.{Store}
 use Rattle.replication.specs.Reading.{both, recsAt, validRecs}
+use Rattle.codec.specs.Parsed.{Parsed, accepted, refused}
 
 -- the fields of a store's header, by their places; where its knowledge begins, and its first record
 abbrev pub ownId : List ℕ → ℕ

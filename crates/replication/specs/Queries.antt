@@ -5,7 +5,7 @@ use Rattle.codec.specs.Reply.{firstFault}
 use Rattle.layout.specs.Knowledge.{Limits, Rules, Knowledge}
 use Rattle.layout.specs.Parse.{parse}
 use Rattle.ticks.specs.Meaning.{contains}
-use Rattle.ticks.specs.Calls.{line, idOf, readAs, ownFault, wrongLength}
+use Rattle.ticks.specs.Calls.{idOf, readAs, wrongLength}
 use Rattle.replication.specs.Record.{Rec}
 use Rattle.replication.specs.Reading.{whole, recAt, recLength, behind}
 use Rattle.replication.specs.OpenStore.{storeTable, openStore}
@@ -16,6 +16,7 @@ use Rattle.replication.specs.declared.Part.{Part}
 use Rattle.replication.specs.declared.Part.the-variants as P
 use Rattle.replication.specs.declared.Coverage.{Coverage}
 use Rattle.replication.specs.declared.Coverage.the-variants as G
+use Rattle.codec.specs.Parsed.{line, ownFault}
 
 -- "Calls that return a part give the number beside it; the part is empty on a refusal and for an item on neither side": the
 -- part, of the store's bytes s or of the batch's

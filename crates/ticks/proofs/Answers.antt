@@ -12,12 +12,12 @@ use lib.ListN.{length}
 use lib.IntN.{pos, negsuc, _-ℤ_}
 use borrow.Author.Tests.{lt-ltb, le-ltb, ltb-false, eq-eqb, eqb-true, not-false}
 use Rattle.codec.specs.Number.{beAt}
-use Rattle.codec.specs.Parsed.{readOr}
+use Rattle.codec.specs.Parsed.{readOr, line, ownFault, Parsed, accepted, refused}
 use Rattle.codec.specs.Reply.{firstFault}
 use Rattle.codec.proofs.Replies.{fault-here, fault-none, read-fault, read-fine}
 use Rattle.layout.specs.Knowledge.{Rules, Knowledge, Lawful, basic}
 use Rattle.layout.specs.Permitted.{Permitted}
-use Rattle.layout.specs.Parse.{Parsed, accepted, refused, parse}
+use Rattle.layout.specs.Parse.{parse}
 use Rattle.layout.proofs.Exact.{base-permitted}
 use Rattle.ticks.specs.Meaning.{known, contains}
 use Rattle.ticks.specs.Operations.{covers}
@@ -27,7 +27,7 @@ use Rattle.ticks.specs.declared.Lead.{Lead}
 use Rattle.ticks.specs.declared.Lead.the-variants as D
 use Rattle.ticks.specs.declared.Cover.{Cover}
 use Rattle.ticks.specs.declared.Cover.the-variants as E
-use Rattle.ticks.specs.Calls.{containNumber, containValue, leadNumber, leadValue, coverNumber, coverValue, idOf, readAs, line, ownFault, wrongLength, wrongIds, wrongSpan, containFound, coverFound, containAnswer, leadOf, leadAnswer, coverAnswer}
+use Rattle.ticks.specs.Calls.{containNumber, containValue, leadNumber, leadValue, coverNumber, coverValue, idOf, readAs, wrongLength, wrongIds, wrongSpan, containFound, coverFound, containAnswer, leadOf, leadAnswer, coverAnswer}
 use Rattle.ticks.specs.Answers.{RefusedWith, Decides, ContainSays, Difference, LeadSays, AtLeast, ProperIds, ProperSpan, CoverSays, Answers}
 use Rattle.ticks.proofs.Lists.{less, same, more, order}
 use Rattle.ticks.proofs.Equality.{clash}

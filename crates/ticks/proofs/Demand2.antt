@@ -10,7 +10,7 @@ use Rattle.codec.specs.Number.{Bytes}
 use Rattle.codec.specs.Reply.{Reply, gives, refuses}
 use Rattle.layout.specs.Knowledge.{Rules, basic, Knowledge, Lawful, encode}
 use Rattle.layout.specs.Permitted.{Permitted}
-use Rattle.layout.specs.Parse.{Parsed, accepted, refused, parse}
+use Rattle.layout.specs.Parse.{parse}
 use Rattle.layout.proofs.Exact.{exact, read-back, base-permitted}
 use Rattle.ticks.specs.Meaning.{Normal}
 use Rattle.ticks.specs.Operations.{normalise, merge, tooManyReplicas, tooManyRanges}
@@ -21,6 +21,7 @@ use Rattle.ticks.proofs.Algebra.{versions-unique, contains-normalise, c
 use Rattle.ticks.proofs.LawfulResults.{lawful-normalise, lawful-merge}
 use Rattle.ticks.proofs.Replies.{read-lawful, ResultSays, over-replicas, over-ranges, result-given, NormaliseSays, normalise-own, normalise-result, normalise-says, MergeSays, merge-first, merge-second, merge-result, merge-says}
 use Rattle.ticks.proofs.Answers.{contain-says}
+use Rattle.codec.specs.Parsed.{Parsed, accepted, refused}
 
 pub gave : (n : ℕ) (bs : List ℕ) {A : Type 0} → refuses n ≡ gives bs → A
 gave n bs e = let z : _≡_ {A = ℕ} 0 1 = cc in absurd (omega arith)

@@ -5,15 +5,15 @@ use mathlib.Core.Path.{_≡_, refl, sym, _∙_, ap, ap₂, subst}
 use mathlib.Core.Bool.{Bool, true, false}
 use mathlib.Core.List.{List, [], _∷_}
 use Rattle.codec.specs.Number.{Bytes}
-use Rattle.codec.specs.Parsed.{readOr}
+use Rattle.codec.specs.Parsed.{readOr, line, ownFault, Parsed, accepted, refused}
 use Rattle.codec.specs.Reply.{Reply, gives, refuses, Line, firstFault}
 use Rattle.codec.proofs.Replies.{fault-here, fault-later, fault-none, read-fault, read-fine}
 use Rattle.layout.specs.Knowledge.{Limits, Rules, Knowledge, Lawful, encode}
 use Rattle.layout.specs.Permitted.{Permitted}
-use Rattle.layout.specs.Parse.{Parsed, accepted, refused, parse}
+use Rattle.layout.specs.Parse.{parse}
 use Rattle.layout.proofs.Exact.{exact}
 use Rattle.ticks.specs.Operations.{normalise, merge, project, tooManyReplicas, tooManyRanges}
-use Rattle.ticks.specs.Calls.{idOf, readAs, line, ownFault, wrongSpan, resultLines, normaliseReply, mergeReply, projectReply}
+use Rattle.ticks.specs.Calls.{idOf, readAs, wrongSpan, resultLines, normaliseReply, mergeReply, projectReply}
 
 -- the knowledge read from accepted bytes is lawful
 pub read-lawful : (R : Rules) (s : List ℕ) (k : Knowledge) → Permitted (R .limits) → Bytes s → parse R s ≡ accepted k → Lawful R k

@@ -8,7 +8,7 @@ use Rattle.codec.specs.Number.{Bytes}
 use Rattle.codec.specs.Reply.{Reply, gives}
 use Rattle.layout.specs.Knowledge.{Rules, basic, Knowledge, Lawful, encode}
 use Rattle.layout.specs.Permitted.{Permitted}
-use Rattle.layout.specs.Parse.{accepted, parse}
+use Rattle.layout.specs.Parse.{parse}
 use Rattle.layout.proofs.Exact.{exact, base-permitted}
 use Rattle.ticks.specs.Meaning.{Normal}
 use Rattle.ticks.specs.Operations.{normalise, project, tooManyReplicas, tooManyRanges}
@@ -21,6 +21,7 @@ use Rattle.ticks.proofs.Counts.{replicas-fit, ranges-fit}
 use Rattle.ticks.proofs.LawfulResults.{lawful-project}
 use Rattle.ticks.proofs.Replies.{read-lawful, ResultSays, over-replicas, over-ranges, result-given, NormaliseSays, normalise-own, normalise-result, normalise-says, ProjectSays, project-own, project-17, project-result, project-says}
 use Rattle.ticks.proofs.Demand2.{gave, accepted-same, not-refused, Given, given-result, given-normal, demand2}
+use Rattle.codec.specs.Parsed.{accepted}
 
 -- a lawful knowledge's own bytes are given
 given-own : (R : Rules) (k : Knowledge) {r : Reply} → Lawful R k → ResultSays (R .limits) k r → r ≡ gives (encode k)

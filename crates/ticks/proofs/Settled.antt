@@ -12,7 +12,7 @@ use lib.Dec.{eqb}
 use Rattle.codec.specs.Number.{Bytes, beAt}
 use Rattle.layout.specs.Knowledge.{Rules, Knowledge, encode}
 use Rattle.layout.specs.Permitted.{Permitted}
-use Rattle.layout.specs.Parse.{Parsed, accepted, refused, parse}
+use Rattle.layout.specs.Parse.{parse}
 use Rattle.layout.proofs.Forward.{encode-bytes}
 use Rattle.ticks.specs.Meaning.{highest, known, contains}
 use Rattle.ticks.specs.Operations.{knownInside}
@@ -30,6 +30,7 @@ use Rattle.ticks.proofs.Unique.{SameTicks, normal-unique}
 use Rattle.ticks.proofs.Algebra.{IdsOf16, ticks-of-16, versions-ticks}
 use Rattle.ticks.proofs.Replies.{read-lawful}
 use Rattle.ticks.proofs.Demand2.{accepted-same}
+use Rattle.codec.specs.Parsed.{Parsed, accepted, refused}
 
 -- two tests that are exact for the same are equal
 same-truth : (b c : Bool) (P : Type 0) → (b ≡ true) ↔ P → (c ≡ true) ↔ P → b ≡ c

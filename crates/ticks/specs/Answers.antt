@@ -4,13 +4,14 @@ use Rattle.codec.specs.Prelude.{ℕ, suc, _-_, _^_, _≤_, _<_, _≡_, _↔_, L
 use lib.IntN.{ℤ, pos, negsuc}
 use Rattle.codec.specs.Number.{Bytes, beAt}
 use Rattle.layout.specs.Knowledge.{Rules, Knowledge}
-use Rattle.layout.specs.Parse.{accepted, refused, parse}
+use Rattle.layout.specs.Parse.{parse}
 use Rattle.ticks.specs.Meaning.{known}
 use Rattle.ticks.specs.declared.Contain.{Contain}
 use Rattle.ticks.specs.declared.Lead.{Lead}
 use Rattle.ticks.specs.declared.Cover.{Cover}
 use Rattle.ticks.specs.Calls.{containNumber, containValue, leadNumber, leadValue, coverNumber, coverValue}
 use Rattle.ticks.specs.Calls.{containAnswer, leadAnswer, coverAnswer}
+use Rattle.codec.specs.Parsed.{accepted, refused}
 
 -- an answer is refused with n: its number is n, and the value stays
 pub record RefusedWith {A B : Type 0} (number : A → ℕ) (value : A → B → B) (answer : A) (n : ℕ) : Type 0 where

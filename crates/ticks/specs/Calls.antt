@@ -5,9 +5,7 @@ use Rattle.codec.specs.Prelude.{ℕ, Bool, true, false, not, _||_, List, [], _�
 use lib.IntN.{ℤ, pos, _-ℤ_}
 use Rattle.codec.specs.Number.{beAt}
 use Rattle.codec.specs.Reply.{Reply, gives, refuses, Line, firstFault}
-use Rattle.codec.specs.Parsed.{Parsed}
-pub use Rattle.codec.specs.Parsed.{line}
-unfoldable pub use Rattle.codec.specs.Parsed.{ownFault, readOr}
+use Rattle.codec.specs.Parsed.{Parsed, line, ownFault, readOr}
 use Rattle.layout.specs.Knowledge.{Limits, Rules, Knowledge, encode}
 use Rattle.layout.specs.Parse.{parse}
 use Rattle.ticks.specs.Meaning.{known, contains, emptyKnowledge}

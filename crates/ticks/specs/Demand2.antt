@@ -5,10 +5,11 @@ use Rattle.codec.specs.Prelude.{ℕ, _^_, _≤_, _<_, _≡_, _⊎_, _↔_, true
 use Rattle.codec.specs.Number.{Bytes, beAt}
 use Rattle.codec.specs.Reply.{gives}
 use Rattle.layout.specs.Knowledge.{Rules, Knowledge, Lawful, encode}
-use Rattle.layout.specs.Parse.{accepted, parse}
+use Rattle.layout.specs.Parse.{parse}
 use Rattle.ticks.specs.Meaning.{highest, known, contains, Normal}
 use Rattle.ticks.specs.Calls.{containNumber, containValue, containAnswer, normaliseReply, mergeReply}
 use Rattle.ticks.specs.Answers.{Decides}
+use Rattle.codec.specs.Parsed.{accepted}
 
 -- the same versions are contained: for every item id of 24 bytes, replica id of 16 bytes and tick
 pub record SameVersions (a b : Knowledge) : Type 0 where

@@ -4,11 +4,12 @@ use Rattle.codec.specs.Prelude.{ℕ, _^_, _≤_, _<_, _≡_, _↔_, List}
 use Rattle.codec.specs.Number.{Bytes}
 use Rattle.codec.specs.Reply.{gives}
 use Rattle.layout.specs.Knowledge.{Rules, Knowledge}
-use Rattle.layout.specs.Parse.{accepted, parse}
+use Rattle.layout.specs.Parse.{parse}
 use Rattle.ticks.specs.Meaning.{highest, known, Normal}
 use Rattle.ticks.specs.Operations.{knownInside}
 use Rattle.ticks.specs.Demand2.{NormalBytes}
 use Rattle.ticks.specs.Calls.{idOf, normaliseReply, projectReply}
+use Rattle.codec.specs.Parsed.{accepted}
 
 -- what project wrote is a normal form, reads back, and knows what was known inside the span and nothing outside
 pub record Projected (R : Rules) (s first last bs : List ℕ) : Type 0 where
