@@ -65,6 +65,7 @@ wrongIds item replica = wrongLength 24 item || wrongLength 16 replica
 unfoldable pub wrongSpan : List ℕ → List ℕ → Bool
 wrongSpan first last = wrongLength 24 first || (wrongLength 24 last || ltb (idOf 24 last) (idOf 24 first))
 
+-- what contain and cover find, as their answers
 unfoldable pub containFound : Bool → Contain
 containFound true = C.Contained
 containFound false = C.Lacking
