@@ -24,6 +24,7 @@ pub mod AgreeEdit
 pub mod AgreeMake
 pub mod AgreeApply
 pub mod AgreeRun
+pub mod AgreeAsked
 pub mod Demand3
 pub mod QueriesPlaces
 pub mod QueriesWalk
