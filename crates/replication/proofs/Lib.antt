@@ -26,6 +26,7 @@ pub mod AgreeApply
 pub mod AgreeRun
 pub mod AgreeAsked
 pub mod Demand3
+pub mod Settled
 pub mod QueriesPlaces
 pub mod QueriesWalk
 pub mod QueriesWinner
