@@ -1,7 +1,7 @@
 -- Demand 3: for every list of calls, refused ones included, the stores begin as new returns them, stores and machine
 -- agree at the end, every store and batch is valid, applying two batches in either order or one twice gives the same
 -- bytes, equal knowledge means equal tables, and the second half of 18 is never met; and every batch holds what the
--- machine remembers of it. Bytes and machine stay together along the list; a store's bytes are decided
+-- machine remembers of it, and needs what its make was given. Bytes and machine stay together along the list; a store's bytes are decided
 -- by its replica's ticks in the machine and the versions made, since normal forms with equal ticks are equal and the
 -- records follow from the ticks; and in the machine two applies commute and one twice is as one.
 use Prim.Native.Nat.{ℕ, _≤_, _<_, _^_}
@@ -30,7 +30,7 @@ use Rattle.replication.specs.OpenStore.{openStore}
 use Rattle.replication.specs.OpenBatch.{lacksChange, openBatch}
 use Rattle.ticks.specs.Table.{inSpan}
 use Rattle.replication.specs.Calls.{newReply, applyReply, ownAhead}
-use Rattle.replication.specs.Lists.{World, start, outcome, batchNumber}
+use Rattle.replication.specs.Lists.{World, start, outcome, batchNumber, asked}
 use Rattle.replication.specs.Machine.{Ticks, Remembered, State, initial, greatest, applies}
 use Rattle.replication.specs.Promise.{ends, machine, IsStore, IsBatch, Agrees, SameKnown, Twofold, Promise}
 use Rattle.replication.specs.Batches.{Carries, BatchAgrees, Batches}
@@ -48,12 +48,19 @@ use Rattle.replication.specs.Valid.{LawfulRec, LawfulStore}
 use Rattle.ticks.proofs.Unique.{normal-unique}
 use Rattle.replication.proofs.AgreeInvariant.{StoreFollows, BatchFollows, stored, Follows}
 use Rattle.replication.proofs.AgreeEdit.{put-same, store-moved}
+use Rattle.replication.proofs.AgreeAsked.{AllMadeFor, MadeAt, made-number, run-made}
 use Rattle.replication.proofs.AgreeRun.{start-follows, Numbered, paired-number, batch-open-at, apply-step, run-follows}
 use Rattle.codec.specs.Parsed.{accepted, line}
 use Rattle.replication.specs.Record.{Rec}
 use Rattle.replication.specs.Call.{Call, Given}
 
 -- ---- a store is decided by ticks and versions
+
+pub same-store : (s t : Store) → s .own ≡ t .own → s .knowledge ≡ t .knowledge → s .records ≡ t .records → s ≡ t
+same-store s t a b c =
+    ap (λ (x : ℕ). record { own = x; knowledge = s .knowledge; records = s .records }) a
+    ∙ (ap (λ (x : Knowledge). record { own = t .own; knowledge = x; records = s .records }) b
+    ∙ ap (λ (x : List Rec). record { own = t .own; knowledge = t .knowledge; records = x }) c)
 
 pub same-bytes : (L : Limits) (x y : List ℕ) (vs : List Rec) (k : Ticks) (p : ℕ) → StoreFollows L x vs k p → StoreFollows L y vs k p → x ≡ y
 same-bytes L x y vs k p f g =
@@ -63,12 +70,6 @@ same-bytes L x y vs k p f g =
     let c : f .st .records ≡ g .st .records =
     tables-equal 0 (f .st .records) (g .st .records) (f .valid .rising) (g .valid .rising) (λ i. f .records i ∙ sym (g .records i)) in
     f .bytes ∙ (ap encodeStore (same-store (f .st) (g .st) a b c) ∙ sym (g .bytes))
-  where
-    same-store : (s t : Store) → s .own ≡ t .own → s .knowledge ≡ t .knowledge → s .records ≡ t .records → s ≡ t
-    same-store s t a b c =
-        ap (λ (x : ℕ). record { own = x; knowledge = s .knowledge; records = s .records }) a
-        ∙ (ap (λ (x : Knowledge). record { own = t .own; knowledge = x; records = s .records }) b
-        ∙ ap (λ (x : List Rec). record { own = t .own; knowledge = t .knowledge; records = x }) c)
 
 pub accepted-same : {A : Type 0} (x y : A) → accepted x ≡ accepted y → x ≡ y
 accepted-same x y e = cc
@@ -167,16 +168,20 @@ module _ (R : Rules) (permitted : Permitted (R .limits)) (w : World) (m : State)
       let x = number n s e in
       (x .follows .b, record { bytes = x .follows .bytes; valid = x .follows .valid })
 
-  pub batches-agree : (n : ℕ) (s : List ℕ) → batchNumber n (w .batches) ≡ some s → BatchAgrees (R .limits) m n s
-  batches-agree n s e =
+  pub batches-agree : (n : ℕ) (s : List ℕ) (ks : List (List ℕ)) (d : MadeAt R n s ks) → batchNumber n (w .batches) ≡ some s
+      → BatchAgrees (R .limits) m n (d .for .given) s
+  batches-agree n s ks d e =
       let x = number n s e in
+      let is : IsBatch (R .limits) s (x .follows .b) = record { bytes = x .follows .bytes; valid = x .follows .valid } in
+      let one : d .for .batch ≡ x .follows .b = batch-one (R .limits) s (d .for .batch) (x .follows .b) permitted (d .for .is) is in
       record {
         batch = x .follows .b;
-        is = record { bytes = x .follows .bytes; valid = x .follows .valid };
+        is = is;
         remembered = x .b;
         remembers = x .is;
         first = x .follows .first;
         last = x .follows .last;
+        needed = λ i q h l. ap (λ (b : Batch). known (b .needed) i q) (sym one) ∙ d .for .needed i q h;
         inside = λ i q a b l. x .follows .inside i q a b;
         records = λ i r. carries-exact (R .limits) s (m .versions) (x .b) (x .follows) i r;
       }
@@ -322,10 +327,24 @@ demand3 R permitted calls given =
 pub demand3-basic : (calls : List Call) → All Given calls → Promise basic calls
 demand3-basic calls given = demand3 basic base-permitted calls given
 
--- every batch is what the machine remembers of it
+-- every batch is what the machine remembers of it, for the knowledge that its make was given
+pub ends-made : (R : Rules) → Permitted (R .limits) → (calls : List Call) → All Given calls
+    → AllMadeFor R (ends R calls .batches) (asked R start calls)
+unfolding ends start
+ends-made R permitted calls given = run-made R permitted start initial calls [] (start-follows (R .limits) permitted) tt given
+
 pub demand3-batches : (R : Rules) → Permitted (R .limits) → (calls : List Call) → All Given calls → Batches R calls
-demand3-batches R permitted calls given =
-    record { agree = batches-agree R permitted (ends R calls) (machine R calls) (ends-follow R permitted calls given) }
+demand3-batches R permitted calls given = record {
+  agree = λ n s e.
+      let d = made-number R n s (ends R calls .batches) (asked R start calls) (ends-made R permitted calls given) e in
+      record {
+        given = d .for .given;
+        bytes = d .at ∙ ap some (d .for .bytes);
+        lawful = d .for .lawful;
+        agrees =
+            batches-agree R permitted (ends R calls) (machine R calls) (ends-follow R permitted calls given) n s (asked R start calls) d e;
+      };
+}
 
 pub demand3-batches-basic : (calls : List Call) → All Given calls → Batches basic calls
 demand3-batches-basic calls given = demand3-batches basic base-permitted calls given

@@ -24,7 +24,9 @@ pub mod AgreeEdit
 pub mod AgreeMake
 pub mod AgreeApply
 pub mod AgreeRun
+pub mod AgreeAsked
 pub mod Demand3
+pub mod Settled
 pub mod QueriesPlaces
 pub mod QueriesWalk
 pub mod QueriesWinner

@@ -1,11 +1,12 @@
--- What each batch of a list carries, in the machine's terms. The promise of demand 3 says of batches only that they are valid; this says
--- the rest of document 01's "Make".
+-- What each batch of a list carries, in the terms of the machine and of the knowledge that it was made for. The promise of demand 3
+-- says of batches only that they are valid; this says the rest of document 01's "Make".
 use Rattle.codec.specs.Prelude.{ℕ, _≤_, _<_, _≡_, _↔_, List, some}
-use Rattle.layout.specs.Knowledge.{Limits, Rules}
-use Rattle.ticks.specs.Meaning.{known}
+use Rattle.layout.specs.Knowledge.{Limits, Rules, Knowledge, encode, Lawful}
+use Rattle.ticks.specs.Meaning.{highest, known}
 use Rattle.replication.specs.Record.{Rec}
 use Rattle.replication.specs.Call.{ReplicaId, Call}
 use Rattle.replication.specs.Formats.{find, Batch}
+use Rattle.replication.specs.Lists.{start, batchNumber, asked}
 use Rattle.replication.specs.Machine.{Remembered, State, greatest, rememberedAt}
 use Rattle.replication.specs.Promise.{batchOf, machine, IsBatch}
 
@@ -17,8 +18,9 @@ pub record Carries (vs : List Rec) (m : Remembered) (b : Batch) (i : ℕ) (r : R
   pub below : i ≤ m .last
   pub lacked : known (b .needed) i (r .changeReplica) < r .changeTick
 
--- one batch made, with its bytes, compared with what the machine remembers under the same number
-pub record BatchAgrees (L : Limits) (m : State) (n : ℕ) (s : List ℕ) : Type 0 where
+-- one batch made, with its bytes, compared with what the machine remembers under the same number and with the knowledge that it was
+-- made for
+pub record BatchAgrees (L : Limits) (m : State) (n : ℕ) (k : Knowledge) (s : List ℕ) : Type 0 where
   pub batch : Batch
   pub is : IsBatch L s batch
   pub remembered : Remembered
@@ -26,11 +28,20 @@ pub record BatchAgrees (L : Limits) (m : State) (n : ℕ) (s : List ℕ) : Type 
   -- the span
   pub first : batch .first ≡ remembered .first
   pub last : batch .last ≡ remembered .last
+  -- needed: the ticks known in the given knowledge
+  pub needed : (i q : ℕ) → i ≤ highest → ReplicaId q → known (batch .needed) i q ≡ known k i q
   -- learned: the maker's known ticks inside the span; outside there are none, because the batch is valid
   pub inside : (i q : ℕ) → batch .first ≤ i → i ≤ batch .last → ReplicaId q → known (batch .learned) i q ≡ remembered .ticks i q
   -- its records, by rising item id because it is valid
   pub records : (i : ℕ) (r : Rec) → (find i (batch .records) ≡ some r) ↔ Carries (m .versions) remembered batch i r
 
--- every batch made is what the machine remembers
+-- batch n of a list and its bytes: the make that wrote it was given the bytes of a lawful knowledge
+pub record BatchMade (R : Rules) (calls : List Call) (n : ℕ) (s : List ℕ) : Type 0 where
+  pub given : Knowledge
+  pub bytes : batchNumber n (asked R start calls) ≡ some (encode given)
+  pub lawful : Lawful R given
+  pub agrees : BatchAgrees (R .limits) (machine R calls) n given s
+
+-- every batch made is what the machine remembers, for the knowledge that its make was given
 pub record Batches (R : Rules) (calls : List Call) : Type 0 where
-  pub agree : (n : ℕ) (s : List ℕ) → batchOf R calls n ≡ some s → BatchAgrees (R .limits) (machine R calls) n s
+  pub agree : (n : ℕ) (s : List ℕ) → batchOf R calls n ≡ some s → BatchMade R calls n s

@@ -57,3 +57,15 @@ run R w (c ∷ cs) = run R (keep w c (writes R w c)) cs
 unfoldable pub trace : Rules → World → List Call → List Fed
 trace R w [] = []
 trace R w (c ∷ cs) = record { call = c; refused = elim (writes R w c) [ none ↦ true | some bs ↦ false ] } ∷ trace R (keep w c (writes R w c)) cs
+
+-- the knowledge bytes that the batches of a list were made for, the oldest first: those given to each make that writes
+unfoldable pub asks : Call → Option (List ℕ) → List (List ℕ)
+asks c none = []
+asks (make who knowledge first last room) (some bs) = knowledge ∷ []
+asks (edit who item brought room) (some bs) = []
+asks (delete who item room) (some bs) = []
+asks (apply who which room) (some bs) = []
+
+unfoldable pub asked : Rules → World → List Call → List (List ℕ)
+asked R w [] = []
+asked R w (c ∷ cs) = asks c (writes R w c) ++ asked R (keep w c (writes R w c)) cs
