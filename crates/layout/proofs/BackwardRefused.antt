@@ -14,7 +14,7 @@ use Rattle.layout.specs.declared.Checked.the-variants.{Accepted, Refused
 use Rattle.layout.specs.Knowledge.{Rules, largestTick, Field, opening, beforeVectors, beforeElements, beforeRanges, closing}
 use Rattle.layout.specs.Permitted.{mostVectors}
 use Rattle.layout.specs.Read.{_▷_, repeat, number, same, fields, limit, empty, among, judged, replicaId, tick, element, firstVector, vector, index, range}
-use Rattle.layout.specs.Parse.{_▶_, replicaMap, vectorCount, vectorList, rangeList, ended, checked}
+use Rattle.layout.specs.Parse.{_▶_, replicaMap, vectorCount, vectorList, rangeList, ended, checked, checkedBy}
 
 -- a fault of a part, and a refusal of the check, have a number from 1 to m
 record Known (m : ℕ) (g : Got) : Type 0 where
@@ -82,7 +82,7 @@ module _ (m : ℕ) (ten : 10 ≤ m) (s : List ℕ) where
   judged-known zero k at h = num m k at
   judged-known (suc n) k at h = fault m (suc n) (omega arith) h
 
-  id-known : (R : Rules) → ((id : ℕ) → R .judge id ≤ m) → (start k at : ℕ) → Known m (replicaId R s start k at)
+  id-known : (R : Rules) → ((id : ℕ) → R .judge id ≤ m) → (start k at : ℕ) → Known m (replicaId (R .judge) s start k at)
   unfolding replicaId
   id-known R h start k at = then m (number s 16 k at) _ (number-known 16 k at)
       λ id b. test m (among s 16 16 start k id) _ _ (fault m 5 (omega arith) (omega arith)) (judged-known (R .judge id) (k + 1) b (h id))
@@ -121,20 +121,20 @@ module _ (m : ℕ) (ten : 10 ≤ m) (s : List ℕ) where
   range-known v low at = then m (number s 24 low at) _ (number-known 24 low at)
       λ bound b. test m (leb low bound) _ _ (index-known v (suc bound) b) (fault m 8 (omega arith) (omega arith))
 
-  checked-within : (R : Rules) → ((id : ℕ) → R .judge id ≤ m) → Within m (checked R s)
+  checked-within : (R : Rules) → ((id : ℕ) → R .judge id ≤ m) → Within m (checkedBy R s)
   unfolding checked replicaMap vectorCount vectorList rangeList ended
   checked-within R h =
-      next m (replicaMap R s) _
+      next m (replicaMap (R .limits .replicas) (R .judge) s) _
       (then m (fields s opening 0 0 ▷ number s 4 ▷ limit 0 (R .limits .replicas)) _ (count-known opening 0 (R .limits .replicas) 0 0)
-      λ r start. repeated m (replicaId R s start) (id-known R h start) r 0 start)
-      λ r a. next m (vectorCount R s a) _ (count-known beforeVectors 1 (mostVectors (R .limits)) 0 a)
+      λ r start. repeated m (replicaId (R .judge) s start) (id-known R h start) r 0 start)
+      λ r a. next m (vectorCount (R .limits .ranges) s a) _ (count-known beforeVectors 1 (mostVectors (R .limits)) 0 a)
       λ v b. next m (vectorList s r v b) _ (then m (firstVector s 0 b) _ (first-known 0 b) (repeated m (vector s r) (vector-known r) (v - 1)))
-      λ e c. next m (rangeList R s v c) _
+      λ e c. next m (rangeList (R .limits .ranges) s v c) _
       (then m (fields s beforeRanges 0 c ▷ number s 4 ▷ limit 1 (R .limits .ranges)) _ (count-known beforeRanges 1 (R .limits .ranges) 0 c)
       λ g start. then m (repeat (range s v) g 0 start) _ (repeated m (range s v) (range-known v) g 0 start) λ low b. num m _ _)
       λ g d. next m (fields s closing 0 d) _ (fields-known closing 0 d)
       λ x end. over m (eqb end (length s)) _ _ (accept m r v e g) (refuse m 10 (omega arith) ten)
 
-pub refused-within : (m : ℕ) → 10 ≤ m → (R : Rules) (s : List ℕ) → ((id : ℕ) → R .judge id ≤ m) → (n : ℕ) → checked R s ≡ Refused n
+pub refused-within : (m : ℕ) → 10 ≤ m → (R : Rules) (s : List ℕ) → ((id : ℕ) → R .judge id ≤ m) → (n : ℕ) → checkedBy R s ≡ Refused n
     → (1 ≤ n) × (n ≤ m)
 refused-within m ten R s h n e = checked-within m ten s R h .number n e

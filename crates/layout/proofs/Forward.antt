@@ -16,7 +16,7 @@ use Rattle.layout.proofs.Parts.{LawfulId, LawfulVector, LawfulRange, Pa
 use Rattle.layout.specs.Permitted.{Permitted, mostVectors, mostCount}
 use Rattle.layout.specs.Answer.{elements}
 use Rattle.layout.specs.Read.{_▷_, fields}
-use Rattle.layout.specs.Parse.{_▶_, replicaMap, vectorCount, vectorList, rangeList, ended, checked}
+use Rattle.layout.specs.Parse.{_▶_, replicaMap, vectorCount, vectorList, rangeList, ended, checked, checkedBy}
 use Rattle.layout.specs.Decode.{idsAt, vectorsAt, afterVectors, rangesAt, decode}
 use Rattle.layout.proofs.Chain.{Stands, stands-whole, stands-length, moved, over, reads, number-reads, limit-holds}
 use Rattle.layout.proofs.Chain.{fields-over, fields-read, fresh-all, opening-fits, beforeVectors-fits, beforeRanges-fits, closing-fits}
@@ -39,7 +39,7 @@ map-over s ids t h = ids-over s 27 ids t (map-start s ids t h)
 
 map-read : (R : Rules) (s : List ℕ) (ids t : List ℕ) → R .limits .replicas ≤ mostCount →
     Stands s 0 (putFields opening (put 4 (length ids) (putIds ids t))) → length ids ≤ R .limits .replicas →
-    All (LawfulId R) ids → Distinct ids → replicaMap R s ≡ Num (length ids) (27 + 16 * length ids)
+    All (LawfulId R) ids → Distinct ids → replicaMap (R .limits .replicas) (R .judge) s ≡ Num (length ids) (27 + 16 * length ids)
 unfolding replicaMap opening
 map-read R s ids t m h c l u =
     rw (
@@ -63,7 +63,7 @@ vectors-start s at v t h =
 
 count-read : (R : Rules) (s : List ℕ) (at v : ℕ) (t : List ℕ) → R .limits .ranges ≤ mostCount →
     Stands s at (putFields beforeVectors (put 4 v t)) → 1 ≤ v → v ≤ mostVectors (R .limits) →
-    vectorCount R s at ≡ Num v (at + 21)
+    vectorCount (R .limits .ranges) s at ≡ Num v (at + 21)
 unfolding vectorCount beforeVectors
 count-read R s at v t m h l u =
     rw (
@@ -109,7 +109,7 @@ ranges-start s at g t h =
 spans-read : (R : Rules) (s : List ℕ) (v at : ℕ) (xs : List Range) (t : List ℕ) → R .limits .ranges ≤ mostCount → v ≤ 4294967296 →
     Stands s at (putFields beforeRanges (put 4 (length xs) (putRanges xs t))) → 1 ≤ length xs → length xs ≤ R .limits .ranges →
     All (LawfulRange v) xs → Rising 0 (bounds xs) →
-    rangeList R s v at ≡ Num (length xs) (at + 16 + 28 * length xs)
+    rangeList (R .limits .ranges) s v at ≡ Num (length xs) (at + 16 + 28 * length xs)
 unfolding rangeList beforeRanges
 spans-read R s v at xs t m w h n c l u =
     rw (
@@ -170,7 +170,7 @@ pub encode-length : (k : Knowledge) →
 encode-length k = end-over (encode k) _ (at-end k) ∙ omega arith
 
 pub forward : (R : Rules) (k : Knowledge) → Permitted (R .limits) → Lawful R k →
-    checked R (encode k) ≡ Accepted (length (k .replicas)) (length (k .vectors)) (elements (k .vectors)) (length (k .ranges))
+    checkedBy R (encode k) ≡ Accepted (length (k .replicas)) (length (k .vectors)) (elements (k .vectors)) (length (k .ranges))
 unfolding checked
 forward R k p lawful =
     let l : Parts R k = parts R k lawful in

@@ -11,4 +11,5 @@ pub mod Backward
 pub mod Prefix
 pub mod Lengths
 pub mod Exact
+pub mod Within
 pub mod Faults

@@ -21,7 +21,7 @@ use Rattle.layout.specs.declared.Checked.the-variants.{Accepted}
 use Rattle.layout.specs.Permitted.{longest, mostVectors, base}
 use Rattle.layout.specs.Knowledge.{Limits, Rules, largestTick, basic, Field, opening, beforeVectors, beforeElements, beforeRanges, closing}
 use Rattle.layout.specs.Read.{_▷_, repeat, number, same, fields, limit, empty, among, judged, replicaId, tick, element, firstVector, vector, index, range}
-use Rattle.layout.specs.Parse.{replicaMap, vectorCount, vectorList, rangeList, _▶_, ended, checked}
+use Rattle.layout.specs.Parse.{replicaMap, vectorCount, vectorList, rangeList, _▶_, ended, checked, checkedBy}
 
 pub longest-base : longest base ≡ 14933
 unfolding longest
@@ -161,7 +161,7 @@ module _ (m : ℕ) (s : List ℕ) where
 
   replicaId-alike : (R : Rules) (start most : ℕ) → start + 16 * most ≤ m → (n k at : ℕ) →
       Left 16 start most (suc n) k at →
-      Alike (Left 16 start most n) (replicaId R (take m s) start k at) (replicaId R s start k at)
+      Alike (Left 16 start most n) (replicaId (R .judge) (take m s) start k at) (replicaId (R .judge) s start k at)
   unfolding replicaId
   replicaId-alike R start most h n k at q =
       then _ _ (number-alike 16 k at (at + 16) refl (omega arith)) λ id next e.
@@ -242,19 +242,19 @@ module _ (m : ℕ) (s : List ℕ) where
         go bound next false p = neither 8
 
   replicaMap-alike : (R : Rules) → 27 + 16 * R .limits .replicas ≤ m →
-      Alike (λ r at. (r ≤ R .limits .replicas) × (at ≤ 27 + 16 * R .limits .replicas)) (replicaMap R (take m s)) (replicaMap R s)
+      Alike (λ r at. (r ≤ R .limits .replicas) × (at ≤ 27 + 16 * R .limits .replicas)) (replicaMap (R .limits .replicas) (R .judge) (take m s)) (replicaMap (R .limits .replicas) (R .judge) s)
   unfolding replicaMap opening sizes
   replicaMap-alike R h =
       then _ _
       (then _ _ (count-alike opening 0 0 27 refl (omega arith)) λ y b p. limit-self 0 (R .limits .replicas) y b 27 p)
       λ r start p.
       weaken
-      (repeated (Left 16 start (R .limits .replicas)) (replicaId R (take m s) start) (replicaId R s start)
+      (repeated (Left 16 start (R .limits .replicas)) (replicaId (R .judge) (take m s) start) (replicaId (R .judge) s start)
       (replicaId-alike R start (R .limits .replicas) (omega arith)) r 0 start (omega arith))
       λ k next q. (omega arith, omega arith)
 
   vectorCount-alike : (R : Rules) (at : ℕ) → at + 21 ≤ m →
-      Alike (Within (R .limits .ranges + 1) (at + 21)) (vectorCount R (take m s) at) (vectorCount R s at)
+      Alike (Within (R .limits .ranges + 1) (at + 21)) (vectorCount (R .limits .ranges) (take m s) at) (vectorCount (R .limits .ranges) s at)
   unfolding vectorCount beforeVectors sizes
   vectorCount-alike R at h =
       then _ _ (count-alike beforeVectors 0 at (at + 21) (omega arith) h)
@@ -274,7 +274,7 @@ module _ (m : ℕ) (s : List ℕ) where
         few = omega arith
 
   rangeList-alike : (R : Rules) (v at : ℕ) → at + 16 + 28 * R .limits .ranges ≤ m →
-      Alike (λ g b. b ≤ at + 16 + 28 * R .limits .ranges) (rangeList R (take m s) v at) (rangeList R s v at)
+      Alike (λ g b. b ≤ at + 16 + 28 * R .limits .ranges) (rangeList (R .limits .ranges) (take m s) v at) (rangeList (R .limits .ranges) s v at)
   unfolding rangeList beforeRanges sizes
   rangeList-alike R v at h =
       then _ _
@@ -306,7 +306,7 @@ vector-bytes g r x h =
     omega (arith, mul-add g 8 (12 * r), mul-left-comm g 12 r, mul-comm g 8, mul-comm g r, mul-le-mul-right g h)
 
 -- any m above the length at all limits
-pub prefix-above : (R : Rules) (s : List ℕ) (m : ℕ) → longest (R .limits) < m → checked R (take m s) ≡ checked R s
+pub prefix-above : (R : Rules) (s : List ℕ) (m : ℕ) → longest (R .limits) < m → checkedBy R (take m s) ≡ checkedBy R s
 unfolding checked closing sizes longest
 prefix-above R s m h =
     finish _ _ (replicaMap-alike m s R (omega arith)) λ r a p.
@@ -318,8 +318,8 @@ prefix-above R s m h =
     finish _ _ (fields-alike m s closing 0 d (d + 13) refl (omega arith)) λ x end w.
     ended-same m s (Accepted r v e g) x end (omega arith)
 
-pub prefix : (R : Rules) (s : List ℕ) → checked R (take (longest (R .limits) + 1) s) ≡ checked R s
+pub prefix : (R : Rules) (s : List ℕ) → checkedBy R (take (longest (R .limits) + 1) s) ≡ checkedBy R s
 prefix R s = prefix-above R s (longest (R .limits) + 1) (omega arith)
 
-pub prefix-base : (s : List ℕ) → checked basic (take 14934 s) ≡ checked basic s
+pub prefix-base : (s : List ℕ) → checkedBy basic (take 14934 s) ≡ checkedBy basic s
 prefix-base s = prefix-above basic s 14934 (omega (arith, longest-base))
