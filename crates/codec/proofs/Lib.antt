@@ -3,5 +3,6 @@ pub mod Numbers
 pub mod Order
 pub mod Reading
 pub mod Replies
+pub mod Total
 pub mod Words
 pub mod Writing

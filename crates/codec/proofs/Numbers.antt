@@ -10,7 +10,7 @@ use native.Mathlib.Numerals.{add-one, one-add}
 use native.Mathlib.Omega.{arith}
 use lib.Arith.{digits-lt, digits-div, mod-mul}
 use lib.Pow.{pow-add}
-use lib.ListN.{length, take, drop, getD, List·getD-eq-default}
+use lib.ListN.{length, take, drop, getD}
 use lib.Seq.{drop-cons, getD-take, getD-drop}
 use Rattle.codec.specs.Number.{Bytes, beFrom, beAt, put}
 
@@ -71,12 +71,6 @@ be-add s (suc n) m at =
 pub be-below : (s : List ℕ) (n at : ℕ) → Bytes s → beAt s n at < 256 ^ n
 be-below s zero at b = omega (arith, be-zero s at)
 be-below s (suc n) at b = rw (be-suc, pow-succ') (digits-lt (b .below at) (be-below s n (at + 1) b))
-
-pub be-past : (s : List ℕ) (n at : ℕ) → length s ≤ at → beAt s n at ≡ 0
-be-past s zero at h = be-zero s at
-be-past s (suc n) at h =
-    let l : length s ≤ at + 1 = omega arith in
-    rw (be-suc, List·getD-eq-default s 0 h, be-past s n (at + 1) l, zero-mul)
 
 pub be-drop : (s : List ℕ) (n a b : ℕ) → beAt (drop a s) n b ≡ beAt s n (a + b)
 be-drop s zero a b = be-zero (drop a s) b ∙ sym (be-zero s (a + b))

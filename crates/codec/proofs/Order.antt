@@ -5,10 +5,9 @@
 use mathlib.Core.Path.{_≡_, refl, sym, ap, _∙_}
 use mathlib.Core.Bool.{Bool, true, false}
 use mathlib.Core.List.{List}
-use Prim.Native.Nat.{ℕ, zero, suc, _+_, _*_, _/_, _%_, _^_, _<_, _≤_}
+use Prim.Native.Nat.{ℕ, zero, suc, _+_, _*_, _^_, _<_, _≤_}
 use native.Mathlib.Nat.{le-of-lt, suc-mul, mul-le-mul-right}
 use native.Mathlib.Omega.{arith}
-use lib.Arith.{digits-div, digits-mod}
 use lib.Dec.{eqb, ltb}
 use lib.ListN.{getD}
 use borrow.Author.Tests.{ltb-true, ltb-false, lt-ltb, le-ltb, eqb-true, eqb-false}
@@ -72,58 +71,9 @@ pub words2-be : (s : List ℕ) (at : ℕ) → beAt s 16 at ≡ words2 (beAt s 8 
 unfolding words2
 words2-be s at = be-add s 8 8 at
 
--- three words are two and one more
-pub words3-split : (x y z : ℕ) → words3 x y z ≡ words2 (words2 x y) z
-unfolding words2 words3
-words3-split x y z = refl
-
 pub words3-be : (s : List ℕ) (at : ℕ) → beAt s 24 at ≡ words3 (beAt s 8 at) (beAt s 8 (at + 8)) (beAt s 8 (at + 16))
 unfolding words2 words3
 words3-be s at = be-add s 16 8 at ∙ ap (λ (x : ℕ). x * 2 ^ 64 + beAt s 8 (at + 16)) (words2-be s at)
-
--- a word that is read is below 2 ^ 64
-pub word-below : (s : List ℕ) (at : ℕ) → Bytes s → beAt s 8 at < 2 ^ 64
-word-below s at b = be-below s 8 at b
-
-pub words2-less-high : (x y x' y' : ℕ) → y < 2 ^ 64 → x < x' → words2 x y < words2 x' y'
-unfolding words2
-words2-less-high x y x' y' h k = lex (2 ^ 64) x y x' y' h k
-
-pub words2-less-low : (x y y' : ℕ) → y < y' → words2 x y < words2 x y'
-unfolding words2
-words2-less-low x y y' h = omega arith
-
-pub words2-same : (x y x' y' : ℕ) → y < 2 ^ 64 → y' < 2 ^ 64 → words2 x y ≡ words2 x' y' → (x ≡ x') × (y ≡ y')
-unfolding words2
-words2-same x y x' y' h k e = (
-  sym (digits-div x h) ∙ ap (λ (v : ℕ). v / 2 ^ 64) e ∙ digits-div x' k,
-  sym (digits-mod x h) ∙ ap (λ (v : ℕ). v % 2 ^ 64) e ∙ digits-mod x' k,
-)
-
-pub words3-less-high : (x y z x' y' z' : ℕ) → y < 2 ^ 64 → z < 2 ^ 64 → x < x' → words3 x y z < words3 x' y' z'
-words3-less-high x y z x' y' z' h k l =
-    rw (words3-split x y z, words3-split x' y' z') (words2-less-high (words2 x y) z (words2 x' y') z' k (words2-less-high x y x' y' h l))
-
-pub words3-less-middle : (x y z y' z' : ℕ) → z < 2 ^ 64 → y < y' → words3 x y z < words3 x y' z'
-words3-less-middle x y z y' z' h l =
-    rw (words3-split x y z, words3-split x y' z') (words2-less-high (words2 x y) z (words2 x y') z' h (words2-less-low x y y' l))
-
-pub words3-less-low : (x y z z' : ℕ) → z < z' → words3 x y z < words3 x y z'
-words3-less-low x y z z' l = rw (words3-split x y z, words3-split x y z') (words2-less-low (words2 x y) z z' l)
-
-pub words3-same :
-    (x y z x' y' z' : ℕ)
-    → y < 2 ^ 64
-    → z < 2 ^ 64
-    → y' < 2 ^ 64
-    → z' < 2 ^ 64
-    → words3 x y z ≡ words3 x' y' z'
-    → (x ≡ x') × (y ≡ y') × (z ≡ z')
-words3-same x y z x' y' z' h k h' k' e =
-    let low : (words2 x y ≡ words2 x' y') × (z ≡ z') =
-    words2-same (words2 x y) z (words2 x' y') z' k k' (sym (words3-split x y z) ∙ e ∙ words3-split x' y' z') in
-    let high : (x ≡ x') × (y ≡ y') = words2-same x y x' y' h h' (low .0) in
-    (high .0, high .1, low .1)
 
 -- ---- comparing words is comparing ids as numbers, which is comparing their bytes from the front
 

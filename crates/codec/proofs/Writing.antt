@@ -48,12 +48,8 @@ module _ (d : List ℕ) (at n x : ℕ) where
   pub written : at + n ≤ length d → sets d at (bytes n x) ≡ placed d at (bytes n x)
   written h = stored d at (bytes n x) (rw bytes-length h)
 
--- the stores of two bytes and of four, as the code makes them: its places are `at + 1` and so on
+-- the stores of four bytes, as the code makes them: its places are `at + 1` and so on
 module _ (d : List ℕ) (at x : ℕ) where
-  pub two-stores : set (set d at (x / 256 % 256)) (at + 1) (x % 256) ≡ sets d at (bytes 2 x)
-  unfolding bytes put
-  two-stores = rw (add-one at, div-one x)
-
   pub four-stores :
       set (set (set (set d at (x / 16777216 % 256)) (at + 1) (x / 65536 % 256)) (at + 2) (x / 256 % 256)) (at + 3) (x % 256)
       ≡ sets d at (bytes 4 x)

@@ -1,6 +1,6 @@
 // Numbers and ids as bytes, copying, and the answer of a call that writes.
 //
-// Every public function is total: a byte that is missing is read as 0, and what has no room is not written at all.
+// Every public function is total: a number of which a byte is missing is read as 0, and what has no room is not written at all.
 ghost use mathlib.Core.Path.{_≡_};
 ghost use mathlib.Core.Bool.{true, false};
 ghost use Prim.Native.Nat.{_+_, _≤_, _<_, _^_};
@@ -8,6 +8,7 @@ ghost use lib.Dec.{eqb, ltb};
 ghost use lib.ListN.{length, getD};
 ghost use lib.Seq.{sets};
 ghost use Rattle.codec.specs.Number.{beAt};
+ghost use Rattle.codec.specs.Total.{readAt, brought};
 ghost use Rattle.codec.specs.Words.{words2, words3};
 ghost use Rattle.codec.specs.Part.{placed, part, bytes};
 
@@ -26,43 +27,6 @@ fn one(s: &[u8], at: usize) -> u64
     s[at] as u64
 }
 
-// Do n bytes from `at` on go past the end of a slice.
-fn beyond(end: usize, at: usize, n: usize) -> bool
-    ensures { λ r. ⌜ (r ≡ true → end < at + n) × (r ≡ false → at + n ≤ end) ⌝ }
-{
-    if end < n {
-        return true;
-    }
-    end - n < at
-}
-
-// The byte i places after `at`, 0 where `s` has none there.
-fn byte(s: &[u8], at: usize, i: usize) -> u64
-    ensures { λ r. ⌜ (r ≡ getD (now (s .entry)) (at + i) 0) × (r < 256) ⌝ }
-{
-    if s.len() <= at {
-        return 0;
-    }
-    if s.len() - at <= i {
-        return 0;
-    }
-    one(s, at + i)
-}
-
-// The number in the n bytes from `at` on, byte by byte: for a place where some of them are missing. It calls itself,
-// so that the compiler puts no copy of it where numbers are read.
-fn read_slowly(s: &[u8], at: usize, n: usize) -> u64
-    requires { ⌜ n ≤ 8 ⌝ }
-    ensures { λ r. ⌜ (r ≡ beAt (now (s .entry)) n at) × (r < 256 ^ n) ⌝ }
-{
-    if n == 0 {
-        return 0;
-    }
-    let i = n - 1;
-    let x = read_slowly(s, at, i);
-    x * 256 + byte(s, at, i)
-}
-
 // The number in the four bytes from `at` on, all there: one load and an exchange of bytes.
 fn four(s: &[u8], at: usize) -> u64
     requires { ⌜ at + 4 ≤ length (now s) ⌝ }
@@ -71,9 +35,19 @@ fn four(s: &[u8], at: usize) -> u64
     one(s, at) * 16777216 + one(s, at + 1) * 65536 + one(s, at + 2) * 256 + one(s, at + 3)
 }
 
-// The big-endian number in the 1, 2, 4 or 8 bytes from `at` on.
+// Do n bytes from `at` on go past the end of a slice.
+pub fn beyond(end: usize, at: usize, n: usize) -> bool
+    ensures { λ r. ⌜ (r ≡ true → end < at + n) × (r ≡ false → at + n ≤ end) ⌝ }
+{
+    if end < n {
+        return true;
+    }
+    end - n < at
+}
+
+// The big-endian number in the 1, 2, 4 or 8 bytes from `at` on, 0 where one of them is missing.
 pub fn read1(s: &[u8], at: usize) -> u64
-    ensures { λ r. ⌜ r ≡ beAt (now (s .entry)) 1 at ⌝ }
+    ensures { λ r. ⌜ r ≡ readAt (now (s .entry)) 1 at ⌝ }
     ensures { λ r. ⌜ r < 2 ^ 8 ⌝ }
 {
     if s.len() <= at {
@@ -83,40 +57,31 @@ pub fn read1(s: &[u8], at: usize) -> u64
 }
 
 pub fn read2(s: &[u8], at: usize) -> u64
-    ensures { λ r. ⌜ r ≡ beAt (now (s .entry)) 2 at ⌝ }
+    ensures { λ r. ⌜ r ≡ readAt (now (s .entry)) 2 at ⌝ }
     ensures { λ r. ⌜ r < 2 ^ 16 ⌝ }
 {
-    if s.len() <= at {
+    if beyond(s.len(), at, 2) {
         return 0;
-    }
-    if s.len() - at < 2 {
-        return read_slowly(s, at, 2);
     }
     one(s, at) * 256 + one(s, at + 1)
 }
 
 pub fn read4(s: &[u8], at: usize) -> u64
-    ensures { λ r. ⌜ r ≡ beAt (now (s .entry)) 4 at ⌝ }
+    ensures { λ r. ⌜ r ≡ readAt (now (s .entry)) 4 at ⌝ }
     ensures { λ r. ⌜ r < 2 ^ 32 ⌝ }
 {
-    if s.len() <= at {
+    if beyond(s.len(), at, 4) {
         return 0;
-    }
-    if s.len() - at < 4 {
-        return read_slowly(s, at, 4);
     }
     four(s, at)
 }
 
 pub fn read8(s: &[u8], at: usize) -> u64
-    ensures { λ r. ⌜ r ≡ beAt (now (s .entry)) 8 at ⌝ }
+    ensures { λ r. ⌜ r ≡ readAt (now (s .entry)) 8 at ⌝ }
     ensures { λ r. ⌜ r < 2 ^ 64 ⌝ }
 {
-    if s.len() <= at {
+    if beyond(s.len(), at, 8) {
         return 0;
-    }
-    if s.len() - at < 8 {
-        return read_slowly(s, at, 8);
     }
     four(s, at) * 4294967296 + four(s, at + 4)
 }
@@ -132,7 +97,7 @@ fn put4(out: &mut [u8], at: usize, x: u64)
     out[at + 3] = (x % 256) as u8;
 }
 
-// The 1, 2, 4 or 8 lowest bytes of x, big-endian, from `at` on, where there is room for all of them.
+// The 1, 4 or 8 lowest bytes of x, big-endian, from `at` on, where there is room for all of them.
 pub fn write1(out: &mut [u8], at: usize, x: u64)
     ensures { λ _. ⌜ now (out .exit) ≡ placed (now (out .entry)) at (bytes 1 x) ⌝ }
 {
@@ -140,16 +105,6 @@ pub fn write1(out: &mut [u8], at: usize, x: u64)
         return;
     }
     out[at] = (x % 256) as u8;
-}
-
-pub fn write2(out: &mut [u8], at: usize, x: u64)
-    ensures { λ _. ⌜ now (out .exit) ≡ placed (now (out .entry)) at (bytes 2 x) ⌝ }
-{
-    if beyond(out.len(), at, 2) {
-        return;
-    }
-    out[at] = (x / 256 % 256) as u8;
-    out[at + 1] = (x % 256) as u8;
 }
 
 pub fn write4(out: &mut [u8], at: usize, x: u64)
@@ -223,4 +178,17 @@ pub fn same3(a0: u64, a1: u64, a2: u64, b0: u64, b1: u64, b2: u64) -> bool
         return same2(a1, a2, b1, b2);
     }
     false
+}
+
+// A limit brought into 1 to a largest.
+pub fn brought(n: u32, largest: u32) -> u32
+    ensures { λ r. ⌜ r ≡ brought n largest ⌝ }
+{
+    if n < 1 {
+        return 1;
+    }
+    if largest < n {
+        return largest;
+    }
+    n
 }

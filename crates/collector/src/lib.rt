@@ -2,14 +2,14 @@
 use layout::Checked;
 ghost use mathlib.Core.Path.{_≡_};
 ghost use Rattle.layout.specs.Knowledge.{basic};
-ghost use Rattle.layout.specs.Parse.{checked};
+ghost use Rattle.layout.specs.Parse.{checkedBy};
 ghost use Rattle.layout.specs.Answer.{checkedNumber, checkedSizes};
 
 // Checks a knowledge: its sizes r, v, e and g, or the refusal's number, and then no size changes.
 #[no_mangle]
 pub extern "C" fn sync_check(knowledge: &[u8], sizes: &mut [u64; 4]) -> u32
-    ensures number { λ r. ⌜ r ≡ checkedNumber (checked basic (now (knowledge .entry))) ⌝ }
-    ensures values { λ r. ⌜ now (sizes .exit) ≡ checkedSizes (checked basic (now (knowledge .entry))) (now (sizes .entry)) ⌝ }
+    ensures number { λ r. ⌜ r ≡ checkedNumber (checkedBy basic (now (knowledge .entry))) ⌝ }
+    ensures values { λ r. ⌜ now (sizes .exit) ≡ checkedSizes (checkedBy basic (now (knowledge .entry))) (now (sizes .entry)) ⌝ }
 {
     match reader::check(knowledge) {
         Checked::Accepted { r, v, e, g } => {

@@ -6,7 +6,7 @@ use mathlib.Core.List.{List}
 use Prim.Native.Nat.{ℕ, zero, suc, _+_, _-_, _*_, _<_, _≤_}
 use native.Mathlib.Nat.{mul-zero, mul-suc}
 use native.Mathlib.Omega.{arith}
-use borrow.Author.Tests.{ne-eqb}
+use borrow.Author.Tests.{eq-eqb, ne-eqb}
 use lib.Dec.{eqb}
 use Rattle.codec.specs.Number.{beAt}
 use Rattle.layout.specs.Read.{among}
@@ -39,11 +39,12 @@ module _ (whole : Bool) (s : List ℕ) (n step at k i x : ℕ) (inv : whole ≡ 
   pub among-misses : i < k → (y : ℕ) → y ≡ beAt s n at → (y ≡ x → ⊥) → whole ≡ among s n step (at + step) (k - (i + 1)) x
   among-misses h y e f = among-on h false (sym (ne-eqb (beAt s n at) x λ m. f (e ∙ m))) refl
 
+  pub among-meets : i < k → (y : ℕ) → y ≡ beAt s n at → y ≡ x → true ≡ whole
+  among-meets h y e f = among-found h true (sym (eq-eqb (beAt s n at) x (sym e ∙ f))) refl
+
   pub among-end : k ≤ i → false ≡ whole
   unfolding among
   among-end h = let z : k - i ≡ 0 = omega arith in sym (inv ∙ ap (λ (m : ℕ). among s n step at m x) z)
-
-pub ruleset amongs = (among-all, among-found, among-on, among-misses, among-end)
 
 -- ---- one number more
 

@@ -1,5 +1,4 @@
--- Numbers of four and eight bytes as the sums that the code computes: the definition multiplies by 256 and adds the
--- next byte, which is the same sum. And a number of up to eight bytes, byte by byte, which fits a word.
+-- A number of up to eight bytes, byte by byte: the whole number is what is left of it, with what was read in front. It fits a word.
 use mathlib.Core.Path.{_≡_, refl, sym, ap, ap₂, _∙_}
 use mathlib.Core.List.{List}
 use Prim.Native.Nat.{ℕ, suc, _+_, _-_, _*_, _^_, _<_, _≤_}
@@ -8,31 +7,11 @@ use native.Mathlib.Numerals.{add-one}
 use native.Mathlib.Omega.{arith}
 use lib.Arith.{digits-lt}
 use lib.Dec.{lit<}
-use lib.ListN.{getD}
+use lib.ListN.{length, getD}
 use Rattle.codec.specs.Number.{beFrom, beAt}
-use Rattle.codec.proofs.Numbers.{be-add}
-
-place2 : (s : List ℕ) (at : ℕ) → getD s (at + 1 + 1) 0 ≡ getD s (at + 2) 0
-place2 s at = let e : at + 1 + 1 ≡ at + 2 = omega arith in ap (λ (i : ℕ). getD s i 0) e
-
-place3 : (s : List ℕ) (at : ℕ) → getD s (at + 1 + 1 + 1) 0 ≡ getD s (at + 3) 0
-place3 s at = let e : at + 1 + 1 + 1 ≡ at + 3 = omega arith in ap (λ (i : ℕ). getD s i 0) e
-
-pub be4 :
-    (s : List ℕ) (at a b c d : ℕ)
-    → a ≡ getD s at 0
-    → b ≡ getD s (at + 1) 0
-    → c ≡ getD s (at + 2) 0
-    → d ≡ getD s (at + 3) 0
-    → a * 16777216 + b * 65536 + c * 256 + d ≡ beAt s 4 at
-unfolding beFrom beAt
-be4 s at a b c d e f g h = omega (arith, place2 s at, place3 s at)
-
--- eight bytes are four and four more
-pub be8 : (s : List ℕ) (at a b : ℕ) → a ≡ beAt s 4 at → b ≡ beAt s 4 (at + 4) → a * 4294967296 + b ≡ beAt s 8 at
-be8 s at a b e f = omega (arith, be-add s 4 4 at)
-
--- ---- byte by byte
+use Rattle.codec.specs.Total.{readAt}
+use Rattle.codec.proofs.Reading.{be-one}
+use Rattle.codec.proofs.Total.{read-there}
 
 pub digits-none : (s : List ℕ) (n at : ℕ) → beAt s n at ≡ beFrom s (n - 0) (at + 0) 0
 unfolding beAt
@@ -49,9 +28,11 @@ pub digits-on :
     (s : List ℕ) (n at i x b : ℕ)
     → beAt s n at ≡ beFrom s (n - i) (at + i) x
     → i < n
-    → b ≡ getD s (at + i) 0
+    → at + n ≤ length s
+    → b ≡ readAt s 1 (at + i)
     → beAt s n at ≡ beFrom s (n - (i + 1)) (at + (i + 1)) (x * 256 + b)
-digits-on s n at i x b inv h f =
+digits-on s n at i x b inv h l r =
+    let f : b ≡ getD s (at + i) 0 = r ∙ read-there s 1 (at + i) (omega arith) ∙ be-one s (at + i) in
     let e : n - i ≡ suc (n - (i + 1)) = omega arith in
     let p : at + i + 1 ≡ at + (i + 1) = omega arith in
     inv

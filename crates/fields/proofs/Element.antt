@@ -3,12 +3,14 @@
 use mathlib.Core.Path.{_≡_, refl, sym, ap, _∙_}
 use mathlib.Core.Bool.{Bool, true, false}
 use mathlib.Core.List.{List}
-use Prim.Native.Nat.{ℕ, _+_, _<_, _≤_}
+use Prim.Native.Nat.{ℕ, _+_, _-_, _<_, _≤_}
 use native.Mathlib.Omega.{arith}
 use borrow.Author.Tests.{lt-ltb, le-ltb, le-leb, lt-leb, leb-true, leb-false, ltb-true, ltb-false}
 use lib.Dec.{leb, ltb}
 use lib.ListN.{length}
 use Rattle.codec.specs.Number.{beAt}
+use Rattle.codec.specs.Total.{readAt}
+use Rattle.codec.proofs.Total.{read-there}
 use Rattle.layout.specs.declared.Got.{Got}
 use Rattle.layout.specs.declared.Got.the-variants.{Num, Fault}
 use Rattle.layout.specs.Knowledge.{largestTick}
@@ -48,6 +50,40 @@ module _ (s : List ℕ) (r start k at : ℕ) where
         let p : at + 12 ≡ at + 4 + 8 = omega arith in
         ap (λ (b : ℕ). Num (k + 1) b) p
         ∙ sym (key-good ∙ rw (number-there s 8 k (at + 4) (omega arith), le-leb (beAt s 8 (at + 4)) largestTick u, _▷_))
+
+-- ---- the code's returns, with what it has read
+
+module _ (s : List ℕ) (r start k at : ℕ) (h : at ≤ length s) where
+  pub element-short : length s - at < 4 → Fault 1 ≡ element s r start k at
+  element-short l = key-cut s r start k at (omega arith)
+
+  module _ (l : 4 ≤ length s - at) (key : ℕ) (e : key ≡ readAt s 4 at) where
+    key-is : key ≡ beAt s 4 at
+    key-is = e ∙ read-there s 4 at (omega arith)
+
+    pub element-beyond : r ≤ key → Fault 6 ≡ element s r start k at
+    element-beyond m = key-high s r start k at (omega arith) (omega (arith, key-is))
+
+    module _ (m : key < r) (b : Bool) (f : b ≡ among s 4 12 start k key) where
+      seen-is : among s 4 12 start k (beAt s 4 at) ≡ b
+      seen-is = ap (λ (x : ℕ). among s 4 12 start k x) (sym key-is) ∙ sym f
+
+      pub element-seen : b ≡ true → Fault 6 ≡ element s r start k at
+      element-seen n = key-twice s r start k at (omega arith) (omega (arith, key-is)) (seen-is ∙ n)
+
+      module _ (n : b ≡ false) where
+        pub element-cut : length s - at < 12 → Fault 1 ≡ element s r start k at
+        element-cut o = tick-cut s r start k at (omega arith) (omega (arith, key-is)) (seen-is ∙ n) (omega arith)
+
+        module _ (o : 12 ≤ length s - at) (t : ℕ) (g : t ≡ readAt s 8 (at + 4)) where
+          tick-is : t ≡ beAt s 8 (at + 4)
+          tick-is = g ∙ read-there s 8 (at + 4) (omega arith)
+
+          pub element-late : largestTick < t → Fault 7 ≡ element s r start k at
+          element-late u = tick-high s r start k at (omega arith) (omega (arith, key-is)) (seen-is ∙ n) (omega arith) (omega (arith, tick-is))
+
+          pub element-whole : t ≤ largestTick → Num (k + 1) (at + 12) ≡ element s r start k at
+          element-whole u = element-good s r start k at (omega arith) (omega (arith, key-is)) (seen-is ∙ n) (omega arith) (omega (arith, tick-is))
 
 -- where there is an element, it is one more, and it stands inside the bytes
 pub element-went : (s : List ℕ) (r start k at : ℕ) (g : Got) → g ≡ element s r start k at → (y b : ℕ) → g ≡ Num y b → Went s 12 k at y b

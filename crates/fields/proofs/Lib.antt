@@ -1,12 +1,9 @@
--- The laws that the check field by field is proved by; the reader uses them too.
+-- The laws that the reading of fields is proved by; the crates above use them too.
 pub mod Digits
 pub mod Steps
 pub mod Among
 pub mod Repeat
 pub mod Run
-pub mod Ids
+pub mod Known
 pub mod Element
-pub mod Marks
 pub mod Vector
-pub mod Bound
-pub mod Parts

@@ -2,8 +2,7 @@
 -- the code has tested there. Each holds since the definition makes the same test.
 use mathlib.Core.Path.{_≡_, sym, ap, _∙_}
 use mathlib.Core.List.{List}
-use Prim.Native.Nat.{ℕ, _+_, _-_, _≤_, _<_}
-use native.Mathlib.Omega.{arith}
+use Prim.Native.Nat.{ℕ, _+_, _≤_, _<_}
 use borrow.Author.Tests.{le-leb, lt-leb, eq-eqb, ne-eqb}
 use lib.ListN.{length}
 use Rattle.codec.specs.Number.{beAt}
@@ -31,20 +30,11 @@ next-step f g h k e i = i ∙ ap (λ (x : Got). x ▷ f) e
 
 -- ---- a number of n bytes
 
-pub number-past : (s : List ℕ) (n : ℕ) (g : Got) (x at : ℕ) → g ≡ Num x at → length s < at → Fault 1 ≡ (g ▷ number s n)
-number-past s n g x at e h = rw e (sym (number-short s n x at (omega arith)))
+pub number-cut : (s : List ℕ) (n : ℕ) (g : Got) (x at : ℕ) → g ≡ Num x at → length s < at + n → Fault 1 ≡ (g ▷ number s n)
+number-cut s n g x at e h = rw e (sym (number-short s n x at h))
 
-pub number-cut : (s : List ℕ) (n : ℕ) (g : Got) (x at : ℕ) → g ≡ Num x at → at ≤ length s → length s - at < n → Fault 1 ≡ (g ▷ number s n)
-number-cut s n g x at e h k = rw e (sym (number-short s n x at (omega arith)))
-
-pub number-read :
-    (s : List ℕ) (n : ℕ) (g : Got) (x at y : ℕ)
-    → g ≡ Num x at
-    → at ≤ length s
-    → n ≤ length s - at
-    → y ≡ beAt s n at
-    → Num y (at + n) ≡ (g ▷ number s n)
-number-read s n g x at y e h k f = rw (e, f) (sym (number-there s n x at (omega arith)))
+pub number-read : (s : List ℕ) (n : ℕ) (g : Got) (x at y : ℕ) → g ≡ Num x at → at + n ≤ length s → y ≡ beAt s n at → Num y (at + n) ≡ (g ▷ number s n)
+number-read s n g x at y e h f = rw (e, f) (sym (number-there s n x at h))
 
 -- ---- a comparison
 
@@ -77,9 +67,6 @@ unfolding empty
 empty-no g x at e f = rw (e, ne-eqb x 0 f, empty)
 
 pub ruleset steps = (
-  number-past,
-  number-cut,
-  number-read,
   same-yes,
   same-no,
   limit-low,

@@ -4,6 +4,7 @@ use mathlib.Core.Path.{_≡_, refl, sym, ap, _∙_}
 use mathlib.Core.Bool.{Bool, true, false}
 use mathlib.Core.List.{List, []}
 use Prim.Native.Nat.{ℕ, _+_, _-_, _*_, _<_, _≤_}
+use native.Mathlib.Nat.{zero-add}
 use native.Mathlib.Omega.{arith}
 use borrow.Author.Tests.{leb-true, leb-false, eqb-true, eqb-false, eq-eqb, ne-eqb}
 use lib.Dec.{leb, eqb}
@@ -104,6 +105,10 @@ limit-went lo hi (Num x at) h e n b f = by-case (leb lo x) refl (leb x hi) refl
 
 -- ---- the whole vector
 
+alone : (h : Got) → (h ▷ λ m next. Num (0 + m) next) ≡ h
+alone (Num x b) = ap (λ (y : ℕ). Num y b) (zero-add x)
+alone (Fault n) = refl
+
 module _ (s : List ℕ) (r e at : ℕ) (f g : Got) (c : f ≡ (fields s beforeElements 0 at ▷ number s 4)) (d : g ≡ (f ▷ limit 0 r)) where
   vector-after : vector s r e at ≡ (g ▷ λ n start. repeat (element s r start) n 0 start ▷ λ m next. Num (e + m) next)
   unfolding vector fields beforeElements number
@@ -120,6 +125,9 @@ module _ (s : List ℕ) (r e at : ℕ) (f g : Got) (c : f ≡ (fields s beforeEl
       vector-elements : vector s r e at ≡ (h ▷ λ m next. Num (e + m) next)
       vector-elements = vector-after ∙ (rw t) ∙ ap (λ (k : Got). k ▷ λ m next. Num (e + m) next) (sym u)
 
+      pub vector-alone : e ≡ 0 → h ≡ vector s r e at
+      vector-alone z = sym (vector-elements ∙ ap (λ (y : ℕ). h ▷ λ m next. Num (y + m) next) z ∙ alone h)
+
       pub vector-element-fault : (j : ℕ) → h ≡ Fault j → h ≡ vector s r e at
       vector-element-fault j o = sym (vector-elements ∙ (rw o) ∙ sym o)
 
@@ -129,6 +137,23 @@ module _ (s : List ℕ) (r e at : ℕ) (f g : Got) (c : f ≡ (fields s beforeEl
 
         pub vector-end : (m ≡ 0 + n) × (b ≡ start + 12 * n) × (b ≤ length s)
         vector-end = repeat-went s 12 (element s r start) (element-went s r start) n 0 start m b (vector-start .inside) (sym u ∙ o)
+
+-- a vector counted alone, and after e elements
+vector-open : (s : List ℕ) (r e at : ℕ) → vector s r e at ≡ (fields s beforeElements 0 at ▷ number s 4 ▷ limit 0 r ▷ λ n start. repeat (element s r start) n 0 start ▷ λ m next. Num (e + m) next)
+vector-open s r e at = vector-after s r e at (fields s beforeElements 0 at ▷ number s 4) (fields s beforeElements 0 at ▷ number s 4 ▷ limit 0 r) refl refl
+
+shifted : (e : ℕ) (g : Got) (f : ℕ → ℕ → Got) → (g ▷ λ n start. f n start ▷ λ m next. Num (e + m) next) ≡ (g ▷ λ n start. f n start ▷ λ m next. Num (0 + m) next) ▷ λ m next. Num (e + m) next
+shifted e (Fault k) f = refl
+shifted e (Num n start) f = inner (f n start)
+  where
+    inner : (h : Got) → (h ▷ λ m next. Num (e + m) next) ≡ ((h ▷ λ m next. Num (0 + m) next) ▷ λ m next. Num (e + m) next)
+    inner h = ap (λ (k : Got). k ▷ λ m next. Num (e + m) next) (sym (alone h))
+
+pub vector-shift : (s : List ℕ) (r e at : ℕ) → vector s r e at ≡ (vector s r 0 at ▷ λ m next. Num (e + m) next)
+vector-shift s r e at =
+    vector-open s r e at
+    ∙ shifted e (fields s beforeElements 0 at ▷ number s 4 ▷ limit 0 r) (λ n start. repeat (element s r start) n 0 start)
+    ∙ ap (λ (k : Got). k ▷ λ m next. Num (e + m) next) (sym (vector-open s r 0 at))
 
 -- where the elements before are no more than the bytes before, so they are with the vector's own
 pub vector-below : (s : List ℕ) (r e at : ℕ) (g : Got) → g ≡ vector s r e at → (y b : ℕ) → g ≡ Num y b → e ≤ at → y ≤ b

@@ -1,45 +1,17 @@
--- The method of the check field by field: nothing here is to be believed. These definitions name the parts that its
--- functions compute, and its laws show that together they are the definitions of the layout.
-use Prim.Native.Nat.{ℕ, suc, _-_, _^_, _<_}
-use mathlib.Core.Path.{_≡_}
-use mathlib.Core.List.{List}
-use Rattle.codec.specs.Number.{Bytes, beAt}
+-- The method of the reading of fields: nothing here is to be believed.
+use Rattle.codec.specs.Prelude.{ℕ, true, false, List, eqb}
 use Rattle.layout.specs.declared.Got.{Got}
-use Rattle.layout.specs.declared.Got.the-variants.{Num, Fault}
-use Rattle.layout.specs.declared.Checked.{Checked}
-use Rattle.layout.specs.declared.Checked.the-variants.{Accepted}
-use Rattle.layout.specs.Knowledge.{basic, closing}
-use Rattle.layout.specs.Read.{_▷_, repeat, fields, range}
-use Rattle.layout.specs.Parse.{_▶_, vectorCount, vectorList, rangeList, ended}
+use Rattle.layout.specs.Knowledge.{opening, beforeVectors, beforeRanges, closing}
+use Rattle.layout.specs.Read.{_▷_, number, fields}
 
--- r is the number of the n bytes from a place on
-pub record Word (s : List ℕ) (n at r : ℕ) : Type 0 where
-  pub is : r ≡ beAt s n at
-  pub below : r < 256 ^ n
-  pub bytes : Bytes s
-
--- a number whose value does not fit a word: only the place after it
-abbrev pub placeOf : Got → Got
-placeOf (Num x at) = Num 0 at
-placeOf (Fault n) = Fault n
-
--- the g ranges from a place on, and the place after them
-unfoldable pub rangesFrom : List ℕ → ℕ → ℕ → ℕ → Got
-rangesFrom s v g start = repeat (range s v) g 0 start ▷ λ low next. Num g next
-
--- what is left of them, m ranges, after one that ends at the place
-unfoldable pub rangesAfter : List ℕ → ℕ → ℕ → ℕ → ℕ → Got
-rangesAfter s v g m at = repeat (range s v) m (suc (beAt s 24 (at - 28))) at ▷ λ low next. Num g next
-
--- the check from each of its parts on
-unfoldable pub afterRanges : List ℕ → ℕ → ℕ → ℕ → ℕ → ℕ → Checked
-afterRanges s r v e g at = fields s closing 0 at ▶ ended s (Accepted r v e g)
-
-unfoldable pub afterVectors : List ℕ → ℕ → ℕ → ℕ → ℕ → Checked
-afterVectors s r v e at = rangeList basic s v at ▶ afterRanges s r v e
-
-unfoldable pub afterCount : List ℕ → ℕ → ℕ → ℕ → Checked
-afterCount s r v at = vectorList s r v at ▶ afterVectors s r v
-
-unfoldable pub afterMap : List ℕ → ℕ → ℕ → Checked
-afterMap s r at = vectorCount basic s at ▶ afterCount s r
+-- the runs of fixed fields by number: the first three with the count after them, and the closing fields
+unfoldable pub runOf : ℕ → List ℕ → ℕ → Got
+runOf n s at =
+    elim (eqb n 0) [
+      | true ↦ fields s opening 0 at ▷ number s 4
+      | false ↦
+          elim (eqb n 1) [
+            | true ↦ fields s beforeVectors 0 at ▷ number s 4
+            | false ↦ elim (eqb n 2) [ true ↦ fields s beforeRanges 0 at ▷ number s 4 | false ↦ fields s closing 0 at ]
+          ]
+    ]

@@ -1,54 +1,42 @@
-// The check of a knowledge's bytes, field by field in the order of the layout: its counts, or the number of the first
-// fault. It holds for every input of any length.
-use layout::Checked;
+// The parts of a knowledge that are single fields: the runs of fixed fields with the counts after them, and a clock vector
+// field by field. Every public function holds for every input of any length: what stands there, or the first fault.
+//
+// A run of fixed fields is compared in whole words; only where a word differs is it read field by field, which finds the
+// first fault. Each constant has the bytes of the fields that it stands for.
 use layout::Got;
 ghost use mathlib.Core.Path.{_≡_};
-ghost use Prim.Native.Nat.{suc, _+_, _-_, _*_, _≤_, _<_};
-ghost use lib.Dec.{eqb, ltb};
-ghost use lib.ListN.{length, getD};
+ghost use Prim.Native.Nat.{_+_, _*_, _≤_};
+ghost use lib.ListN.{length};
 ghost use Rattle.codec.specs.Number.{beAt};
-ghost use Rattle.codec.specs.Words.{words2, words3};
-ghost use Rattle.layout.specs.Knowledge.{basic, opening, beforeVectors, beforeElements, beforeRanges, closing};
-ghost use Rattle.layout.specs.Read.{_▷_, repeat, number, same, fields, limit, empty, among, replicaId, element, firstVector, vector, range};
-ghost use Rattle.layout.specs.Parse.{replicaMap, vectorCount, vectorList, rangeList, checked};
-ghost use Rattle.fields.specs.Method.{Word, placeOf, rangesFrom, rangesAfter, afterMap, afterCount, afterVectors, afterRanges};
-
-// the most replicas
-const REPLICAS: usize = 16;
-
-// the most ranges
-const RANGES: usize = 64;
+ghost use Rattle.layout.specs.Knowledge.{opening, beforeVectors, beforeElements, beforeRanges, closing};
+ghost use Rattle.layout.specs.Read.{_▷_, repeat, number, same, fields, limit, empty, among, element, firstVector, vector};
+ghost use Rattle.fields.specs.Method.{runOf};
 
 // the largest tick
-const TICK: usize = 9223372036854775807;
+const TICK: u64 = 9223372036854775807;
 
-// ---- numbers that are there
+// where the replica ids start: the length of the opening and of the count r
+const IDS: usize = 27;
 
-// The byte at a place, the number in the four bytes from a place on, and in the eight.
-fn one(s: &[u8], at: usize) -> usize
-    requires { ⌜ at < length (now s) ⌝ }
-    ensures { λ r. ⌜ (r ≡ getD (now (s .entry)) at 0) × (r < 256) ⌝ }
-{
-    s[at] as usize
-}
+// the lengths of the fields before the vectors and before the ranges, each with its count, and of the closing fields
+const BEFORE_VECTORS: usize = 21;
 
-fn four(s: &[u8], at: usize) -> usize
-    requires { ⌜ at + 4 ≤ length (now s) ⌝ }
-    ensures { λ r. ⌜ Word (now (s .entry)) 4 at r ⌝ }
-{
-    one(s, at) * 16777216 + one(s, at + 1) * 65536 + one(s, at + 2) * 256 + one(s, at + 3)
-}
+const BEFORE_RANGES: usize = 16;
 
-fn eight(s: &[u8], at: usize) -> usize
-    requires { ⌜ at + 8 ≤ length (now s) ⌝ }
-    ensures { λ r. ⌜ Word (now (s .entry)) 8 at r ⌝ }
-{
-    four(s, at) * 4294967296 + four(s, at + 4)
-}
+const CLOSING: usize = 13;
+
+// the runs of fixed fields, by number
+const OPENING_RUN: u8 = 0;
+
+const VECTORS_RUN: u8 = 1;
+
+const RANGES_RUN: u8 = 2;
+
+const CLOSING_RUN: u8 = 3;
 
 // ---- one field after the other
 
-// The number of n bytes at a place, byte by byte.
+// The number of n bytes at a place that has them.
 fn number_at(s: &[u8], at: usize, n: usize) -> usize
     requires { ⌜ (n ≤ 8) × (at + n ≤ length (now s)) ⌝ }
     ensures { λ r. ⌜ r ≡ beAt (now (s .entry)) n at ⌝ }
@@ -56,7 +44,7 @@ fn number_at(s: &[u8], at: usize, n: usize) -> usize
     let mut x: usize = 0;
     let mut i: usize = 0;
     while i < n {
-        x = x * 256 + one(s, at + i);
+        x = x * 256 + codec::read1(s, at + i) as usize;
         i += 1;
     }
     x
@@ -69,10 +57,7 @@ fn read(s: &[u8], g: Got, n: usize) -> Got
     let Got::Num(_, at) = g else {
         return g;
     };
-    if s.len() < at {
-        return Got::Fault(1);
-    }
-    if s.len() - at < n {
+    if codec::beyond(s.len(), at, n) {
         return Got::Fault(1);
     }
     Got::Num(number_at(s, at, n), at + n)
@@ -98,7 +83,8 @@ fn fixed(s: &[u8], g: Got, n: usize, w: usize) -> Got
     equal(read(s, g, n), w)
 }
 
-fn in_limits(g: Got, lo: usize, hi: usize) -> Got
+// Holds a count against its limits.
+pub fn in_limits(g: Got, lo: usize, hi: usize) -> Got
     ensures { λ r. ⌜ r ≡ (g ▷ limit lo hi) ⌝ }
 {
     let Got::Num(x, _) = g else {
@@ -125,22 +111,23 @@ fn no_elements(g: Got) -> Got
     Got::Fault(4)
 }
 
-// ---- the runs of fixed fields
+// ---- the runs of fixed fields, and the counts after them, field by field
 
-fn opening_fields(s: &[u8]) -> Got
-    ensures { λ r. ⌜ r ≡ fields (now (s .entry)) opening 0 0 ⌝ }
+fn opening_by_fields(s: &[u8], at: usize) -> Got
+    ensures { λ r. ⌜ r ≡ (fields (now (s .entry)) opening 0 at ▷ number (now (s .entry)) 4) ⌝ }
 {
-    let g = fixed(s, Got::Num(0, 0), 4, 5);
+    let g = fixed(s, Got::Num(0, at), 4, 5);
     let g = fixed(s, g, 4, 0);
     let g = fixed(s, g, 4, 1);
     let g = fixed(s, g, 4, 0);
     let g = fixed(s, g, 4, 5);
     let g = fixed(s, g, 1, 0);
-    fixed(s, g, 2, 16)
+    let g = fixed(s, g, 2, 16);
+    read(s, g, 4)
 }
 
-fn fields_before_vectors(s: &[u8], at: usize) -> Got
-    ensures { λ r. ⌜ r ≡ fields (now (s .entry)) beforeVectors 0 at ⌝ }
+fn before_vectors_by_fields(s: &[u8], at: usize) -> Got
+    ensures { λ r. ⌜ r ≡ (fields (now (s .entry)) beforeVectors 0 at ▷ number (now (s .entry)) 4) ⌝ }
 {
     let g = fixed(s, Got::Num(0, at), 4, 24);
     let g = fixed(s, g, 1, 0);
@@ -149,18 +136,20 @@ fn fields_before_vectors(s: &[u8], at: usize) -> Got
     let g = fixed(s, g, 2, 24);
     let g = fixed(s, g, 1, 0);
     let g = fixed(s, g, 2, 1);
-    fixed(s, g, 4, 21)
+    let g = fixed(s, g, 4, 21);
+    read(s, g, 4)
 }
 
-fn fields_before_ranges(s: &[u8], at: usize) -> Got
-    ensures { λ r. ⌜ r ≡ fields (now (s .entry)) beforeRanges 0 at ⌝ }
+fn before_ranges_by_fields(s: &[u8], at: usize) -> Got
+    ensures { λ r. ⌜ r ≡ (fields (now (s .entry)) beforeRanges 0 at ▷ number (now (s .entry)) 4) ⌝ }
 {
     let g = fixed(s, Got::Num(0, at), 4, 23);
     let g = fixed(s, g, 4, 1);
-    fixed(s, g, 4, 22)
+    let g = fixed(s, g, 4, 22);
+    read(s, g, 4)
 }
 
-fn closing_fields(s: &[u8], at: usize) -> Got
+fn closing_by_fields(s: &[u8], at: usize) -> Got
     ensures { λ r. ⌜ r ≡ fields (now (s .entry)) closing 0 at ⌝ }
 {
     let g = fixed(s, Got::Num(0, at), 4, 0);
@@ -169,58 +158,184 @@ fn closing_fields(s: &[u8], at: usize) -> Got
     fixed(s, g, 4, 0)
 }
 
-// ---- replica ids
-
-// Does the id of two words stand at a place.
-fn same_id(s: &[u8], at: usize, high: usize, low: usize) -> bool
-    requires { ⌜ at + 16 ≤ length (now s) ⌝ }
-    ensures { λ r. ⌜ r ≡ eqb (beAt (now (s .entry)) 16 at) (words2 high low) ⌝ }
+// One function for all runs, so that the compiler puts no copy of one where its words are compared.
+fn run_by_fields(s: &[u8], run: u8, at: usize) -> Got
+    ensures { λ r. ⌜ r ≡ runOf run (now (s .entry)) at ⌝ }
 {
-    if eight(s, at) == high {
-        return eight(s, at + 8) == low;
+    if run == OPENING_RUN {
+        return opening_by_fields(s, at);
     }
-    false
+    if run == VECTORS_RUN {
+        return before_vectors_by_fields(s, at);
+    }
+    if run == RANGES_RUN {
+        return before_ranges_by_fields(s, at);
+    }
+    closing_by_fields(s, at)
 }
 
-// Is the id of two words one of the k ids from a place on.
-fn seen_id(s: &[u8], start: usize, k: usize, high: usize, low: usize) -> bool
-    requires { ⌜ start + 16 * k ≤ length (now s) ⌝ }
-    ensures { λ r. ⌜ r ≡ among (now (s .entry)) 16 16 start k (words2 high low) ⌝ }
+// ---- the runs of fixed fields, in whole words. A count that does not fit one byte is left to the reading field by field
+
+// The opening, and the count r.
+pub fn count_of_replicas(s: &[u8]) -> Got
+    ensures { λ r. ⌜ r ≡ (fields (now (s .entry)) opening 0 0 ▷ number (now (s .entry)) 4) ⌝ }
+{
+    if s.len() < IDS {
+        return run_by_fields(&s[..], OPENING_RUN, 0);
+    }
+    // 5 and 0
+    if codec::read8(s, 0) != 21474836480 {
+        return run_by_fields(&s[..], OPENING_RUN, 0);
+    }
+    // 1 and 0
+    if codec::read8(s, 8) != 4294967296 {
+        return run_by_fields(&s[..], OPENING_RUN, 0);
+    }
+    // 5
+    if codec::read4(s, 16) != 5 {
+        return run_by_fields(&s[..], OPENING_RUN, 0);
+    }
+    // 0, 16, and the count's first byte
+    if codec::read4(s, 20) != 4096 {
+        return run_by_fields(&s[..], OPENING_RUN, 0);
+    }
+    if codec::read2(s, 24) != 0 {
+        return run_by_fields(&s[..], OPENING_RUN, 0);
+    }
+    Got::Num(codec::read1(s, 26) as usize, IDS)
+}
+
+// The fields before the vectors, and the count v.
+pub fn count_of_vectors(s: &[u8], at: usize) -> Got
+    ensures { λ r. ⌜ r ≡ (fields (now (s .entry)) beforeVectors 0 at ▷ number (now (s .entry)) 4) ⌝ }
+{
+    if codec::beyond(s.len(), at, BEFORE_VECTORS) {
+        return run_by_fields(&s[..], VECTORS_RUN, at);
+    }
+    // 24, 0, 16, 0
+    if codec::read8(s, at) != 103079219200 {
+        return run_by_fields(&s[..], VECTORS_RUN, at);
+    }
+    // 24, 0, 1, and the first three bytes of 21
+    if codec::read8(s, at + 8) != 6755399457832960 {
+        return run_by_fields(&s[..], VECTORS_RUN, at);
+    }
+    // the last byte of 21, and the count's first three
+    if codec::read4(s, at + 16) != 352321536 {
+        return run_by_fields(&s[..], VECTORS_RUN, at);
+    }
+    Got::Num(codec::read1(s, at + 20) as usize, at + BEFORE_VECTORS)
+}
+
+// The fields before the ranges, and the count g.
+pub fn count_of_ranges(s: &[u8], at: usize) -> Got
+    ensures { λ r. ⌜ r ≡ (fields (now (s .entry)) beforeRanges 0 at ▷ number (now (s .entry)) 4) ⌝ }
+{
+    if codec::beyond(s.len(), at, BEFORE_RANGES) {
+        return run_by_fields(&s[..], RANGES_RUN, at);
+    }
+    // 23 and 1
+    if codec::read8(s, at) != 98784247809 {
+        return run_by_fields(&s[..], RANGES_RUN, at);
+    }
+    // 22
+    if codec::read4(s, at + 8) != 22 {
+        return run_by_fields(&s[..], RANGES_RUN, at);
+    }
+    if codec::read2(s, at + 12) != 0 {
+        return run_by_fields(&s[..], RANGES_RUN, at);
+    }
+    if codec::read1(s, at + 14) != 0 {
+        return run_by_fields(&s[..], RANGES_RUN, at);
+    }
+    Got::Num(codec::read1(s, at + 15) as usize, at + BEFORE_RANGES)
+}
+
+pub fn closing_fields(s: &[u8], at: usize) -> Got
+    ensures { λ r. ⌜ r ≡ fields (now (s .entry)) closing 0 at ⌝ }
+{
+    if codec::beyond(s.len(), at, CLOSING) {
+        return run_by_fields(&s[..], CLOSING_RUN, at);
+    }
+    // 0 and 25
+    if codec::read8(s, at) != 25 {
+        return run_by_fields(&s[..], CLOSING_RUN, at);
+    }
+    // 1
+    if codec::read1(s, at + 8) != 1 {
+        return run_by_fields(&s[..], CLOSING_RUN, at);
+    }
+    if codec::read4(s, at + 9) != 0 {
+        return run_by_fields(&s[..], CLOSING_RUN, at);
+    }
+    Got::Num(0, at + CLOSING)
+}
+
+// ---- clock vectors
+
+// The field before the elements, and their count.
+fn count_of_elements(s: &[u8], at: usize) -> Got
+    ensures { λ r. ⌜ r ≡ (fields (now (s .entry)) beforeElements 0 at ▷ number (now (s .entry)) 4) ⌝ }
+{
+    read(s, fixed(s, Got::Num(0, at), 4, 1), 4)
+}
+
+pub fn first_vector(s: &[u8], at: usize) -> Got
+    ensures { λ r. ⌜ r ≡ firstVector (now (s .entry)) 0 at ⌝ }
+{
+    no_elements(count_of_elements(s, at))
+}
+
+// Is the key one of the k keys from a place on.
+fn seen_key(s: &[u8], start: usize, k: usize, key: u64) -> bool
+    requires { ⌜ start + 12 * k ≤ length (now s) ⌝ }
+    ensures { λ r. ⌜ r ≡ among (now (s .entry)) 4 12 start k key ⌝ }
 {
     let mut i: usize = 0;
     let mut at = start;
     while i < k {
-        if same_id(s, at, high, low) {
+        if codec::read4(s, at) == key {
             return true;
         }
-        at += 16;
+        at += 12;
         i += 1;
     }
     false
 }
 
-// The id at a place, with k ids before it from start on.
-fn replica_id(s: &[u8], start: usize, k: usize, at: usize) -> Got
-    requires { ⌜ (start + 16 * k ≤ length (now s)) × (at ≤ length (now s)) ⌝ }
-    ensures { λ r. ⌜ r ≡ replicaId basic (now (s .entry)) start k at ⌝ }
+// The element at a place, with k elements before it from start on.
+fn element_at(s: &[u8], r: usize, start: usize, k: usize, at: usize) -> Got
+    requires { ⌜ (start + 12 * k ≤ length (now s)) × (at ≤ length (now s)) ⌝ }
+    ensures { λ g. ⌜ g ≡ element (now (s .entry)) r start k at ⌝ }
 {
-    if s.len() - at < 16 {
+    if s.len() - at < 4 {
         return Got::Fault(1);
     }
-    if seen_id(s, start, k, eight(s, at), eight(s, at + 8)) {
-        return Got::Fault(5);
+    let key = codec::read4(s, at);
+    if r <= key as usize {
+        return Got::Fault(6);
     }
-    Got::Num(k + 1, at + 16)
+    if seen_key(s, start, k, key) {
+        return Got::Fault(6);
+    }
+    if s.len() - at < 12 {
+        return Got::Fault(1);
+    }
+    if TICK < codec::read8(s, at + 4) {
+        return Got::Fault(7);
+    }
+    Got::Num(k + 1, at + 12)
 }
 
-fn replica_ids(s: &[u8], n: usize, start: usize) -> Got
+// The n elements of a clock vector.
+fn elements(s: &[u8], r: usize, n: usize, start: usize) -> Got
     requires { ⌜ start ≤ length (now s) ⌝ }
-    ensures { λ r. ⌜ r ≡ repeat (replicaId basic (now (s .entry)) start) n 0 start ⌝ }
+    ensures { λ g. ⌜ g ≡ repeat (element (now (s .entry)) r start) n 0 start ⌝ }
 {
     let mut k: usize = 0;
     let mut at = start;
     while k < n {
-        let g = replica_id(s, start, k, at);
+        let g = element_at(s, r, start, k, at);
         let Got::Num(_, next) = g else {
             return g;
         };
@@ -230,278 +345,13 @@ fn replica_ids(s: &[u8], n: usize, start: usize) -> Got
     Got::Num(k, at)
 }
 
-// ---- clock vectors
-
-// The n elements of a clock vector. Each key that was met has a mark.
-fn elements(s: &[u8], r: usize, n: usize, start: usize) -> Got
-    requires { ⌜ (r ≤ 16) × (start ≤ length (now s)) ⌝ }
-    ensures { λ g. ⌜ g ≡ repeat (element (now (s .entry)) r start) n 0 start ⌝ }
-{
-    let mut seen = [0u8; REPLICAS];
-    let mut k: usize = 0;
-    let mut at = start;
-    while k < n {
-        if s.len() - at < 4 {
-            return Got::Fault(1);
-        }
-        let key = four(s, at);
-        if r <= key {
-            return Got::Fault(6);
-        }
-        if seen[key] == 1 {
-            return Got::Fault(6);
-        }
-        if s.len() - at < 12 {
-            return Got::Fault(1);
-        }
-        if TICK < eight(s, at + 4) {
-            return Got::Fault(7);
-        }
-        seen[key] = 1;
-        at += 12;
-        k += 1;
-    }
-    Got::Num(k, at)
-}
-
-// The field before the elements, and their count.
-fn count_of_elements(s: &[u8], at: usize) -> Got
-    ensures { λ r. ⌜ r ≡ (fields (now (s .entry)) beforeElements 0 at ▷ number (now (s .entry)) 4) ⌝ }
-{
-    read(s, fixed(s, Got::Num(0, at), 4, 1), 4)
-}
-
-fn first_vector(s: &[u8], at: usize) -> Got
-    ensures { λ r. ⌜ r ≡ firstVector (now (s .entry)) 0 at ⌝ }
-{
-    no_elements(count_of_elements(s, at))
-}
-
-// A clock vector, with e elements in those before it.
-fn next_vector(s: &[u8], r: usize, e: usize, at: usize) -> Got
-    requires { ⌜ (r ≤ 16) × (e ≤ at) ⌝ }
-    ensures { λ g. ⌜ g ≡ vector (now (s .entry)) r e at ⌝ }
+// A clock vector of a knowledge of r replicas: the count of its elements.
+pub fn vector_by_fields(s: &[u8], r: usize, at: usize) -> Got
+    ensures { λ g. ⌜ g ≡ vector (now (s .entry)) r 0 at ⌝ }
 {
     let g = in_limits(count_of_elements(s, at), 0, r);
     let Got::Num(n, start) = g else {
         return g;
     };
-    let g = elements(s, r, n, start);
-    let Got::Num(m, next) = g else {
-        return g;
-    };
-    Got::Num(e + m, next)
-}
-
-// The vectors after the first, which ends at start: the count of their elements.
-fn more_vectors(s: &[u8], r: usize, v: usize, start: usize) -> Got
-    requires { ⌜ r ≤ 16 ⌝ }
-    ensures { λ g. ⌜ g ≡ repeat (vector (now (s .entry)) r) (v - 1) 0 start ⌝ }
-{
-    let mut k: usize = 1;
-    let mut e: usize = 0;
-    let mut at = start;
-    while k < v {
-        let g = next_vector(s, r, e, at);
-        let Got::Num(x, next) = g else {
-            return g;
-        };
-        e = x;
-        at = next;
-        k += 1;
-    }
-    Got::Num(e, at)
-}
-
-fn vectors(s: &[u8], r: usize, v: usize, at: usize) -> Got
-    requires { ⌜ r ≤ 16 ⌝ }
-    ensures { λ g. ⌜ g ≡ vectorList (now (s .entry)) r v at ⌝ }
-{
-    let g = first_vector(s, at);
-    let Got::Num(_, start) = g else {
-        return g;
-    };
-    more_vectors(s, r, v, start)
-}
-
-// ---- ranges
-
-// Is the item id of three words below that of three others.
-fn less(a: usize, b: usize, c: usize, x: usize, y: usize, z: usize) -> bool
-    ensures { λ r. ⌜ r ≡ ltb (words3 a b c) (words3 x y z) ⌝ }
-{
-    if a < x {
-        return true;
-    }
-    if x < a {
-        return false;
-    }
-    if b < y {
-        return true;
-    }
-    if y < b {
-        return false;
-    }
-    c < z
-}
-
-// Is the bound at a place above the one at another.
-fn rises(s: &[u8], from: usize, at: usize) -> bool
-    requires { ⌜ (from + 24 ≤ length (now s)) × (at + 24 ≤ length (now s)) ⌝ }
-    ensures { λ r. ⌜ r ≡ ltb (beAt (now (s .entry)) 24 from) (beAt (now (s .entry)) 24 at) ⌝ }
-{
-    less(
-        eight(s, from),
-        eight(s, from + 8),
-        eight(s, from + 16),
-        eight(s, at),
-        eight(s, at + 8),
-        eight(s, at + 16),
-    )
-}
-
-// The first range, or one whose bound is above the one before.
-fn first_range(s: &[u8], v: usize, at: usize) -> Got
-    requires { ⌜ at ≤ length (now s) ⌝ }
-    ensures { λ r. ⌜ r ≡ placeOf (range (now (s .entry)) v 0 at) ⌝ }
-{
-    if s.len() - at < 28 {
-        return Got::Fault(1);
-    }
-    if v <= four(s, at + 24) {
-        return Got::Fault(9);
-    }
-    Got::Num(0, at + 28)
-}
-
-// A range whose bound must be above the one at another place.
-fn next_range(s: &[u8], v: usize, from: usize, at: usize) -> Got
-    requires { ⌜ (from + 24 ≤ length (now s)) × (at ≤ length (now s)) ⌝ }
-    ensures { λ r. ⌜ r ≡ placeOf (range (now (s .entry)) v (suc (beAt (now (s .entry)) 24 from)) at) ⌝ }
-{
-    if s.len() - at < 24 {
-        return Got::Fault(1);
-    }
-    if rises(s, from, at) {
-        return first_range(s, v, at);
-    }
-    Got::Fault(8)
-}
-
-// The ranges after the first, which ends at start.
-fn more_ranges(s: &[u8], v: usize, g: usize, start: usize) -> Got
-    requires { ⌜ (28 ≤ start) × (start ≤ length (now s)) ⌝ }
-    ensures { λ r. ⌜ r ≡ rangesAfter (now (s .entry)) v g (g - 1) start ⌝ }
-{
-    let mut k: usize = 1;
-    let mut at = start;
-    while k < g {
-        let f = next_range(s, v, at - 28, at);
-        let Got::Num(_, next) = f else {
-            return f;
-        };
-        at = next;
-        k += 1;
-    }
-    Got::Num(g, at)
-}
-
-fn ranges(s: &[u8], v: usize, g: usize, start: usize) -> Got
-    requires { ⌜ start ≤ length (now s) ⌝ }
-    ensures { λ r. ⌜ r ≡ rangesFrom (now (s .entry)) v g start ⌝ }
-{
-    if g == 0 {
-        return Got::Num(g, start);
-    }
-    let f = first_range(s, v, start);
-    let Got::Num(_, at) = f else {
-        return f;
-    };
-    more_ranges(s, v, g, at)
-}
-
-// ---- the whole
-
-fn replica_map(s: &[u8]) -> Got
-    ensures { λ g. ⌜ g ≡ replicaMap basic (now (s .entry)) ⌝ }
-{
-    let g = in_limits(read(s, opening_fields(s), 4), 0, REPLICAS);
-    let Got::Num(r, start) = g else {
-        return g;
-    };
-    replica_ids(s, r, start)
-}
-
-fn vector_count(s: &[u8], at: usize) -> Got
-    ensures { λ g. ⌜ g ≡ vectorCount basic (now (s .entry)) at ⌝ }
-{
-    in_limits(read(s, fields_before_vectors(s, at), 4), 1, RANGES + 1)
-}
-
-fn range_list(s: &[u8], v: usize, at: usize) -> Got
-    ensures { λ r. ⌜ r ≡ rangeList basic (now (s .entry)) v at ⌝ }
-{
-    let f = in_limits(read(s, fields_before_ranges(s, at), 4), 1, RANGES);
-    let Got::Num(g, start) = f else {
-        return f;
-    };
-    ranges(s, v, g, start)
-}
-
-// The check from the fields after the ranges on.
-fn after_ranges(s: &[u8], r: usize, v: usize, e: usize, g: usize, at: usize) -> Checked
-    ensures { λ c. ⌜ c ≡ afterRanges (now (s .entry)) r v e g at ⌝ }
-{
-    match closing_fields(s, at) {
-        Got::Num(_, end) => {
-            if end == s.len() {
-                Checked::Accepted { r, v, e, g }
-            } else {
-                Checked::Refused(10)
-            }
-        }
-        Got::Fault(n) => Checked::Refused(n),
-    }
-}
-
-// The check from the fields after the vectors on.
-fn after_vectors(s: &[u8], r: usize, v: usize, e: usize, at: usize) -> Checked
-    ensures { λ c. ⌜ c ≡ afterVectors (now (s .entry)) r v e at ⌝ }
-{
-    match range_list(s, v, at) {
-        Got::Num(g, next) => after_ranges(s, r, v, e, g, next),
-        Got::Fault(n) => Checked::Refused(n),
-    }
-}
-
-// The check from the vectors on.
-fn after_count(s: &[u8], r: usize, v: usize, at: usize) -> Checked
-    requires { ⌜ r ≤ 16 ⌝ }
-    ensures { λ c. ⌜ c ≡ afterCount (now (s .entry)) r v at ⌝ }
-{
-    match vectors(s, r, v, at) {
-        Got::Num(e, next) => after_vectors(s, r, v, e, next),
-        Got::Fault(n) => Checked::Refused(n),
-    }
-}
-
-// The check from the fields after the replica map on.
-fn after_map(s: &[u8], r: usize, at: usize) -> Checked
-    requires { ⌜ r ≤ 16 ⌝ }
-    ensures { λ c. ⌜ c ≡ afterMap (now (s .entry)) r at ⌝ }
-{
-    match vector_count(s, at) {
-        Got::Num(v, next) => after_count(s, r, v, next),
-        Got::Fault(n) => Checked::Refused(n),
-    }
-}
-
-// Checks the bytes of a knowledge, field by field: its counts, or the number of the first fault.
-pub fn check_fields(s: &[u8]) -> Checked
-    ensures { λ r. ⌜ r ≡ checked basic (now (s .entry)) ⌝ }
-{
-    match replica_map(s) {
-        Got::Num(r, at) => after_map(s, r, at),
-        Got::Fault(n) => Checked::Refused(n),
-    }
+    elements(s, r, n, start)
 }

@@ -11,7 +11,7 @@ use Rattle.layout.specs.declared.Checked.{Checked}
 use Rattle.layout.specs.declared.Checked.the-variants.{Refused}
 use Rattle.layout.specs.Knowledge.{basic, opening, beforeVectors, beforeElements, beforeRanges, closing}
 use Rattle.layout.specs.Read.{repeat, number, same, fields, limit, empty, among, judged, replicaId, tick, element, firstVector, vector, index, range}
-use Rattle.layout.specs.Parse.{replicaMap, vectorCount, vectorList, rangeList, ended, checked}
+use Rattle.layout.specs.Parse.{replicaMap, vectorCount, vectorList, rangeList, ended, checked, checkedBy}
 use Rattle.layout.proofs.Faults.{example, bytesOf, change, cutAt, answer, changed, cut}
 
 -- a faulty field of the example: its place, the value that stands there instead, and the number it gives
@@ -49,7 +49,7 @@ unfolding example bytesOf change cutAt answer changed cut faulty answers refusal
 first-before-cut = refl
 
 -- the last field is faulty too, which gives 2, and a byte is left over, which gives 10
-pub first-before-last : answers (λ i y. checked basic (bytesOf (change i y (change 38 1 example)) ++ (0 ∷ []))) faulty ≡ refusals faulty
+pub first-before-last : answers (λ i y. checkedBy basic (bytesOf (change i y (change 38 1 example)) ++ (0 ∷ []))) faulty ≡ refusals faulty
 unfolding example bytesOf change cutAt answer changed cut faulty answers refusals beFrom beAt put opening beforeVectors beforeElements beforeRanges closing repeat number same fields limit empty among judged replicaId tick element firstVector vector index range replicaMap vectorCount vectorList rangeList ended checked
 first-before-last = refl
 

@@ -9,7 +9,7 @@ use Rattle.layout.specs.declared.Checked.{Checked}
 use Rattle.layout.specs.declared.Checked.the-variants.{Accepted, Refused}
 use Rattle.layout.specs.Knowledge.{basic, Knowledge, encode}
 use Rattle.layout.specs.Permitted.{base}
-use Rattle.layout.specs.Parse.{checked, parse}
+use Rattle.layout.specs.Parse.{checked, parse, checkedBy}
 use Rattle.ticks.specs.Meaning.{highest, known}
 use Rattle.ticks.specs.Calls.{containAnswer, leadAnswer, mergeReply, projectReply}
 use Rattle.ticks.specs.declared.Contain.{Contain}
@@ -51,7 +51,7 @@ pub data Row : Type 0 where
 
 abbrev pub Holds : Row → Type 0
 Holds (writes k bs n) = (encode k ≡ bs) × (length bs ≡ n)
-Holds (checks s c) = checked basic s ≡ c
+Holds (checks s c) = checkedBy basic s ≡ c
 Holds (reads s p) = parse basic s ≡ p
 Holds (gets r bs n) = (r ≡ gives bs) × (length bs ≡ n)
 Holds (refusesWith r n) = r ≡ refuses n

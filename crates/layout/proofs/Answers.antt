@@ -14,7 +14,7 @@ use Rattle.layout.specs.declared.Checked.the-variants.{Accepted, Refused
 use Rattle.layout.specs.Knowledge.{Rules, basic, Knowledge}
 use Rattle.layout.specs.Permitted.{Permitted}
 use Rattle.layout.specs.Answer.{checkedNumber, checkedSizes, elements}
-use Rattle.layout.specs.Parse.{checked, parse}
+use Rattle.layout.specs.Parse.{checked, parse, checkedBy}
 use Rattle.layout.proofs.BackwardRefused.{refused-numbers}
 use Rattle.layout.proofs.Exact.{sizes-exact, refused-exact, base-permitted}
 use Rattle.codec.specs.Parsed.{accepted, refused}
@@ -70,16 +70,16 @@ sizes-refused n old = refl
 
 -- what the check answers where reading accepts k
 pub record Accepts (R : Rules) (s : List ℕ) (k : Knowledge) : Type 0 where
-  pub number : checkedNumber (checked R s) ≡ 0
+  pub number : checkedNumber (checkedBy R s) ≡ 0
   pub sizes : (old : List ℕ) →
       Sizes (length (k .replicas)) (length (k .vectors)) (elements (k .vectors)) (length (k .ranges)) old (checkedSizes
-      (checked R s) old)
+      (checkedBy R s) old)
 
 -- and where it refuses with n
 pub record Refusal (R : Rules) (s : List ℕ) (n : ℕ) : Type 0 where
-  pub number : checkedNumber (checked R s) ≡ n
+  pub number : checkedNumber (checkedBy R s) ≡ n
   pub table : ((1 ≤ n) × (n ≤ 10)) ⊎ ((id : ℕ) × (1 ≤ n) × (R .judge id ≡ n))
-  pub sizes : (old : List ℕ) → checkedSizes (checked R s) old ≡ old
+  pub sizes : (old : List ℕ) → checkedSizes (checkedBy R s) old ≡ old
 
 module _ (R : Rules) (permitted : Permitted (R .limits)) where
   pub answer-accepted : (s : List ℕ) (k : Knowledge) → Bytes s → parse R s ≡ accepted k → Accepts R s k

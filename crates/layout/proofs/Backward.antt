@@ -21,7 +21,7 @@ use Rattle.layout.specs.Knowledge.{Rules, basic, Range, Knowledge, openi
 use Rattle.layout.specs.Permitted.{mostVectors}
 use Rattle.layout.specs.Answer.{elements}
 use Rattle.layout.specs.Read.{_▷_, repeat, number, fields, limit, replicaId, range}
-use Rattle.layout.specs.Parse.{_▶_, replicaMap, vectorCount, vectorList, rangeList, ended, checked}
+use Rattle.layout.specs.Parse.{_▶_, replicaMap, vectorCount, vectorList, rangeList, ended, checked, checkedBy}
 use Rattle.layout.proofs.BackwardSteps.{then-inv, Counted, fields-inv, count-inv}
 use Rattle.layout.proofs.BackwardRefused.{refused-within}
 use Rattle.layout.proofs.Parts.{whole as whole-lawful}
@@ -68,11 +68,11 @@ pub record RangePart (R : Rules) (s : List ℕ) (v at g b : ℕ) : Type 0 where
   pub bytes : drop at s ≡ putFields beforeRanges (put 4 g (putRanges values (drop b s)))
 
 module _ (R : Rules) (s : List ℕ) (bs : Bytes s) where
-  pub id-part : (r b : ℕ) → replicaMap R s ≡ Num r b → IdPart R s r b
+  pub id-part : (r b : ℕ) → replicaMap (R .limits .replicas) (R .judge) s ≡ Num r b → IdPart R s r b
   unfolding replicaMap
   id-part r b h =
       then-inv (fields s opening 0 0 ▷ number s 4 ▷ limit 0 (R .limits .replicas))
-      (λ n start. repeat (replicaId R s start) n 0 start) r b _ h λ n start u w.
+      (λ n start. repeat (replicaId (R .judge) s start) n 0 start) r b _ h λ n start u w.
       let counted = count-inv s bs opening 0 (R .limits .replicas) 0 0 n start u in
       let all = ids-inv R s bs n start r b w in
       let p : n ≡ r = omega (arith, all .count, all .are .last) in
@@ -87,7 +87,7 @@ module _ (R : Rules) (s : List ℕ) (bs : Bytes s) where
             ∙ ap (λ t. putFields opening (put 4 r t)) (all .are .bytes);
       }
 
-  pub range-part : (v at g b : ℕ) → rangeList R s v at ≡ Num g b → RangePart R s v at g b
+  pub range-part : (v at g b : ℕ) → rangeList (R .limits .ranges) s v at ≡ Num g b → RangePart R s v at g b
   unfolding rangeList
   range-part v at g b h =
       then-inv (fields s beforeRanges 0 at ▷ number s 4 ▷ limit 1 (R .limits .ranges))
@@ -110,7 +110,7 @@ module _ (R : Rules) (s : List ℕ) (bs : Bytes s) where
             ∙ ap (λ t. putFields beforeRanges (put 4 g t)) (all .are .bytes);
       }
 
-  pub vector-count : (at v b : ℕ) → vectorCount R s at ≡ Num v b → Counted s beforeVectors 1 (mostVectors (R .limits)) at v b
+  pub vector-count : (at v b : ℕ) → vectorCount (R .limits .ranges) s at ≡ Num v b → Counted s beforeVectors 1 (mostVectors (R .limits)) at v b
   unfolding vectorCount
   vector-count at v b h = count-inv s bs beforeVectors 1 (mostVectors (R .limits)) 0 at v b h
 
@@ -149,20 +149,20 @@ module _ (R : Rules) (s : List ℕ) (bs : Bytes s) where
         gs = ranges .count;
       }
 
-  accepted : (r v e g : ℕ) → checked R s ≡ Accepted r v e g → Means R s r v e g
+  accepted : (r v e g : ℕ) → checkedBy R s ≡ Accepted r v e g → Means R s r v e g
   unfolding checked ended
   accepted r v e g h =
-      next-inv (replicaMap R s)
-      (λ r at. vectorCount R s at ▶ λ v at. vectorList s r v at ▶ λ e at. rangeList R s v at ▶ λ g at.
+      next-inv (replicaMap (R .limits .replicas) (R .judge) s)
+      (λ r at. vectorCount (R .limits .ranges) s at ▶ λ v at. vectorList s r v at ▶ λ e at. rangeList (R .limits .ranges) s v at ▶ λ g at.
       fields s closing 0 at ▶ ended s (Accepted r v e g))
       r v e g _ h λ r₁ a is₁ h₁.
-      next-inv (vectorCount R s a)
-      (λ v at. vectorList s r₁ v at ▶ λ e at. rangeList R s v at ▶ λ g at. fields s closing 0 at ▶ ended s (Accepted r₁ v e g))
+      next-inv (vectorCount (R .limits .ranges) s a)
+      (λ v at. vectorList s r₁ v at ▶ λ e at. rangeList (R .limits .ranges) s v at ▶ λ g at. fields s closing 0 at ▶ ended s (Accepted r₁ v e g))
       r v e g _ h₁ λ v₁ b is₂ h₂.
       next-inv (vectorList s r₁ v₁ b)
-      (λ e at. rangeList R s v₁ at ▶ λ g at. fields s closing 0 at ▶ ended s (Accepted r₁ v₁ e g))
+      (λ e at. rangeList (R .limits .ranges) s v₁ at ▶ λ g at. fields s closing 0 at ▶ ended s (Accepted r₁ v₁ e g))
       r v e g _ h₂ λ e₁ c is₃ h₃.
-      next-inv (rangeList R s v₁ c) (λ g at. fields s closing 0 at ▶ ended s (Accepted r₁ v₁ e₁ g)) r v e g _ h₃ λ g₁ d is₄ h₄.
+      next-inv (rangeList (R .limits .ranges) s v₁ c) (λ g at. fields s closing 0 at ▶ ended s (Accepted r₁ v₁ e₁ g)) r v e g _ h₃ λ g₁ d is₄ h₄.
       next-inv (fields s closing 0 d) (ended s (Accepted r₁ v₁ e₁ g₁)) r v e g _ h₄ λ x end is₅ h₅.
       let (whole, is₆) = ended-inv (eqb end (length s)) (Accepted r₁ v₁ e₁ g₁) r v e g h₅ in
       let counted = vector-count a v₁ b is₂ in
@@ -183,9 +183,9 @@ module _ (R : Rules) (s : List ℕ) (bs : Bytes s) where
       }
 
 -- accepted bytes are the encoding of some lawful knowledge of the sizes that the check gives
-pub backward : (R : Rules) (s : List ℕ) (r v e g : ℕ) → Bytes s → checked R s ≡ Accepted r v e g → Means R s r v e g
+pub backward : (R : Rules) (s : List ℕ) (r v e g : ℕ) → Bytes s → checkedBy R s ≡ Accepted r v e g → Means R s r v e g
 backward R s r v e g bs h = accepted R s bs r v e g h
 
 -- a refusal's number is one of the table's
-pub refused-number : (s : List ℕ) (n : ℕ) → checked basic s ≡ Refused n → (1 ≤ n) × (n ≤ 10)
+pub refused-number : (s : List ℕ) (n : ℕ) → checkedBy basic s ≡ Refused n → (1 ≤ n) × (n ≤ 10)
 refused-number s n h = refused-within 10 (omega arith) basic s (λ id. omega arith) n h

@@ -135,7 +135,7 @@ module _ (R : Rules) (s : List ℕ) (bs : Bytes s) where
   abbrev IdsFrom : ℕ → ℕ → ℕ → List ℕ → ℕ → ℕ → Type 0
   IdsFrom start k at l z b = at ≡ start + 16 * k → Ids R s start k at l z b
 
-  id-inv : (start k at y c z b : ℕ) (l : List ℕ) → replicaId R s start k at ≡ Num y c → IdsFrom start y c l z b
+  id-inv : (start k at y c z b : ℕ) (l : List ℕ) → replicaId (R .judge) s start k at ≡ Num y c → IdsFrom start y c l z b
       → (a : ℕ) × IdsFrom start k at (a ∷ l) z b
   unfolding replicaId putIds
   id-inv start k at y c z b l e rest =
@@ -157,11 +157,11 @@ module _ (R : Rules) (s : List ℕ) (bs : Bytes s) where
             },
       )
 
-  pub ids-inv : (n start z b : ℕ) → repeat (replicaId R s start) n 0 start ≡ Num z b
+  pub ids-inv : (n start z b : ℕ) → repeat (replicaId (R .judge) s start) n 0 start ≡ Num z b
       → Looped (λ k at l z b. Ids R s start k at l z b) n 0 start z b
   unfolding putIds
   ids-inv n start z b e =
-      let all = repeat-inv (replicaId R s start) (IdsFrom start)
+      let all = repeat-inv (replicaId (R .judge) s start) (IdsFrom start)
       (λ x at place. record { bytes = refl; lawful = tt; distinct = tt; apart = tt; last = sym (add-zero x) }) (id-inv start) n 0 start z b e in
       record { values = all .values; count = all .count; are = all .are (sym (ap (λ m. start + m) (mul-zero 16) ∙ add-zero start)) }
 

@@ -14,7 +14,7 @@ use Rattle.layout.specs.declared.Checked.the-variants.{Accepted, Refused
 use Rattle.layout.specs.Knowledge.{Rules, largestTick, Field, opening, beforeVectors, beforeElements, beforeRanges, closing}
 use Rattle.layout.specs.Permitted.{mostVectors}
 use Rattle.layout.specs.Read.{_▷_, repeat, number, same, fields, limit, empty, among, judged, replicaId, tick, element, firstVector, vector, index, range}
-use Rattle.layout.specs.Parse.{_▶_, replicaMap, vectorCount, vectorList, rangeList, ended, checked}
+use Rattle.layout.specs.Parse.{_▶_, replicaMap, vectorCount, vectorList, rangeList, ended, checked, checkedBy}
 
 -- P holds of the number of a fault of a part, and of a refusal of the check
 record Known (P : ℕ → Type 0) (g : Got) : Type 0 where
@@ -82,7 +82,7 @@ module _ (P : ℕ → Type 0) (ten : (k : ℕ) → 1 ≤ k → k ≤ 10 → P k)
   judged-known zero k at h = num P k at
   judged-known (suc n) k at h = fault P (suc n) (h n refl)
 
-  id-known : (R : Rules) → ((id n : ℕ) → R .judge id ≡ suc n → P (R .judge id)) → (start k at : ℕ) → Known P (replicaId R s start k at)
+  id-known : (R : Rules) → ((id n : ℕ) → R .judge id ≡ suc n → P (R .judge id)) → (start k at : ℕ) → Known P (replicaId (R .judge) s start k at)
   unfolding replicaId
   id-known R h start k at = then P (number s 16 k at) _ (number-known 16 k at)
       λ id b. test P (among s 16 16 start k id) _ _ (fault P 5 (ten 5 (omega arith) (omega arith))) (judged-known (R .judge id) (k + 1) b (h id))
@@ -121,26 +121,26 @@ module _ (P : ℕ → Type 0) (ten : (k : ℕ) → 1 ≤ k → k ≤ 10 → P k)
   range-known v low at = then P (number s 24 low at) _ (number-known 24 low at)
       λ bound b. test P (leb low bound) _ _ (index-known v (suc bound) b) (fault P 8 (ten 8 (omega arith) (omega arith)))
 
-  checked-within : (R : Rules) → ((id n : ℕ) → R .judge id ≡ suc n → P (R .judge id)) → Within P (checked R s)
+  checked-within : (R : Rules) → ((id n : ℕ) → R .judge id ≡ suc n → P (R .judge id)) → Within P (checkedBy R s)
   unfolding checked replicaMap vectorCount vectorList rangeList ended
   checked-within R h =
-      next P (replicaMap R s) _
+      next P (replicaMap (R .limits .replicas) (R .judge) s) _
       (then P (fields s opening 0 0 ▷ number s 4 ▷ limit 0 (R .limits .replicas)) _ (count-known opening 0 (R .limits .replicas) 0 0)
-      λ r start. repeated P (replicaId R s start) (id-known R h start) r 0 start)
-      λ r a. next P (vectorCount R s a) _ (count-known beforeVectors 1 (mostVectors (R .limits)) 0 a)
+      λ r start. repeated P (replicaId (R .judge) s start) (id-known R h start) r 0 start)
+      λ r a. next P (vectorCount (R .limits .ranges) s a) _ (count-known beforeVectors 1 (mostVectors (R .limits)) 0 a)
       λ v b. next P (vectorList s r v b) _ (then P (firstVector s 0 b) _ (first-known 0 b) (repeated P (vector s r) (vector-known r) (v - 1)))
-      λ e c. next P (rangeList R s v c) _
+      λ e c. next P (rangeList (R .limits .ranges) s v c) _
       (then P (fields s beforeRanges 0 c ▷ number s 4 ▷ limit 1 (R .limits .ranges)) _ (count-known beforeRanges 1 (R .limits .ranges) 0 c)
       λ g start. then P (repeat (range s v) g 0 start) _ (repeated P (range s v) (range-known v) g 0 start) λ low b. num P _ _)
       λ g d. next P (fields s closing 0 d) _ (fields-known closing 0 d)
       λ x end. over P (eqb end (length s)) _ _ (accept P r v e g) (refuse P 10 (ten 10 (omega arith) (omega arith)))
 
 pub refused-numbers : (P : ℕ → Type 0) → ((k : ℕ) → 1 ≤ k → k ≤ 10 → P k) → (R : Rules) →
-    ((id n : ℕ) → R .judge id ≡ suc n → P (R .judge id)) → (s : List ℕ) (n : ℕ) → checked R s ≡ Refused n → P n
+    ((id n : ℕ) → R .judge id ≡ suc n → P (R .judge id)) → (s : List ℕ) (n : ℕ) → checkedBy R s ≡ Refused n → P n
 refused-numbers P ten R judged s n e = checked-within P ten s R judged .number n e
 
 -- where the rules' own numbers are at most m, and m is 10 or more
-pub refused-within : (m : ℕ) → 10 ≤ m → (R : Rules) (s : List ℕ) → ((id : ℕ) → R .judge id ≤ m) → (n : ℕ) → checked R s ≡ Refused n
+pub refused-within : (m : ℕ) → 10 ≤ m → (R : Rules) (s : List ℕ) → ((id : ℕ) → R .judge id ≤ m) → (n : ℕ) → checkedBy R s ≡ Refused n
     → (1 ≤ n) × (n ≤ m)
 refused-within m ten R s h n e =
     refused-numbers (λ k. (1 ≤ k) × (k ≤ m)) (λ k lo hi. (lo, omega arith)) R (λ id i j. (omega arith, h id)) s n e

@@ -16,7 +16,7 @@ use lib.Dec.{lit≤}
 use Rattle.layout.specs.Knowledge.{Rules, largestTick, Knowledge, encode, Lawful}
 use Rattle.layout.specs.Permitted.{Permitted, base, longest, mostVectors}
 use Rattle.layout.specs.Answer.{elements}
-use Rattle.layout.specs.Parse.{checked, told, parse}
+use Rattle.layout.specs.Parse.{checked, told, parse, checkedBy}
 use Rattle.layout.specs.Decode.{decode}
 use Rattle.layout.proofs.Forward.{forward, decoded, encode-length, encode-bytes}
 use Rattle.layout.proofs.Backward.{Means, backward}
@@ -42,7 +42,7 @@ module _ (R : Rules) (permitted : Permitted (R .limits)) where
       let same : m .value ≡ k = sym (decoded R (m .value) permitted (m .lawful)) ∙ cc (ap decode (m .bytes)) in
       (m .bytes ∙ ap encode same, subst (Lawful R) same (m .lawful))
 
-  from-checked : (s : List ℕ) (k : Knowledge) (c : Checked) → Bytes s → checked R s ≡ c → told s c ≡ accepted k → (s ≡ encode k) × Lawful R k
+  from-checked : (s : List ℕ) (k : Knowledge) (c : Checked) → Bytes s → checkedBy R s ≡ c → told s c ≡ accepted k → (s ≡ encode k) × Lawful R k
   unfolding told
   from-checked s k (Accepted r v e g) b h q = from-means s r v e g k (backward R s r v e g b h) q
   from-checked s k (Refused n) b h q = absurd (let z : _≡_ {A = ℕ} 0 1 = cc in omega arith)
@@ -50,7 +50,7 @@ module _ (R : Rules) (permitted : Permitted (R .limits)) where
   pub exact : (s : List ℕ) (k : Knowledge) → Bytes s → (parse R s ≡ accepted k) ↔ ((s ≡ encode k) × Lawful R k)
   unfolding parse
   exact s k b = (
-    (λ h. from-checked s k (checked R s) b refl h),
+    (λ h. from-checked s k (checkedBy R s) b refl h),
     λ h. ap (parse R) (h .0) ∙ accepted-lawful k (h .1),
   )
 
@@ -63,25 +63,25 @@ module _ (R : Rules) (permitted : Permitted (R .limits)) where
   encode-injective a b la lb h = sym (decoded R a permitted la) ∙ ap decode h ∙ decoded R b permitted lb
 
   -- the sizes that the check answers, and the length that they give
-  pub sizes-exact : (s : List ℕ) (k : Knowledge) → Bytes s → parse R s ≡ accepted k → checked R s ≡ Accepted (length (k .replicas)) (length (k .vectors)) (elements (k .vectors)) (length (k .ranges))
+  pub sizes-exact : (s : List ℕ) (k : Knowledge) → Bytes s → parse R s ≡ accepted k → checkedBy R s ≡ Accepted (length (k .replicas)) (length (k .vectors)) (elements (k .vectors)) (length (k .ranges))
   sizes-exact s k b h =
       let m = exact s k b .0 h in
-      ap (checked R) (m .0) ∙ forward R k permitted (m .1)
+      ap (checkedBy R) (m .0) ∙ forward R k permitted (m .1)
 
-  pub length-exact : (s : List ℕ) (r v e g : ℕ) → Bytes s → checked R s ≡ Accepted r v e g → length s ≡ 77 + 16 * r + 8 * v + 12 * e + 28 * g
+  pub length-exact : (s : List ℕ) (r v e g : ℕ) → Bytes s → checkedBy R s ≡ Accepted r v e g → length s ≡ 77 + 16 * r + 8 * v + 12 * e + 28 * g
   length-exact s r v e g b h =
       let m = backward R s r v e g b h in
       omega (arith, ap length (m .bytes), encode-length (m .value), m .rs, m .vs, m .es, m .gs)
 
   -- the check refuses a number exactly where reading does
-  pub refused-exact : (s : List ℕ) (n : ℕ) → (checked R s ≡ Refused n) ↔ (parse R s ≡ refused n)
+  pub refused-exact : (s : List ℕ) (n : ℕ) → (checkedBy R s ≡ Refused n) ↔ (parse R s ≡ refused n)
   unfolding parse
-  refused-exact s n = (λ h. ap (told s) h ∙ told-refusal s n, λ h. told-refused s n (checked R s) h)
+  refused-exact s n = (λ h. ap (told s) h ∙ told-refusal s n, λ h. told-refused s n (checkedBy R s) h)
 
 -- document 01's limits are permitted
 pub base-permitted : Permitted base
 unfolding longest
-base-permitted = record { someRange = lit≤ tt; replicas = lit≤ tt; ranges = lit≤ tt; records = lit≤ tt; lengths = lit≤ tt }
+base-permitted = record { someReplica = lit≤ tt; someRange = lit≤ tt; replicas = lit≤ tt; ranges = lit≤ tt; records = lit≤ tt; lengths = lit≤ tt }
 
 -- document 01's numbers: the largest tick is 2^63 − 1; at most 16 replicas, 64 ranges, 65 vectors and 256 records
 pub largest-tick : suc largestTick ≡ 2 ^ 63

@@ -14,7 +14,7 @@ use Rattle.layout.specs.Knowledge.{Rules, Element, Range, opening, befor
 use Rattle.layout.specs.Permitted.{Permitted}
 use Rattle.layout.specs.Answer.{elements}
 use Rattle.layout.specs.Read.{_▷_, repeat, number, fields, limit, empty, replicaId, element, firstVector, vector, range}
-use Rattle.layout.specs.Parse.{replicaMap, vectorCount, vectorList, rangeList, checked}
+use Rattle.layout.specs.Parse.{replicaMap, vectorCount, vectorList, rangeList, checked, checkedBy}
 use Rattle.layout.proofs.Parts.{LawfulVector}
 use Rattle.layout.proofs.Chain.{Stands, over, fields-over, fields-read, fresh-all, beforeElements-fits}
 use Rattle.layout.proofs.ForwardRead.{num, ids-over, ids-read, elements-over, elements-read, vector-begun, vector-over, vectors-over, vectors-read, first-read, ranges-over, ranges-read, lowest}
@@ -60,29 +60,29 @@ first-fixed-fault s y at j f = rw f
 module _ (R : Rules) (permitted : Permitted (R .limits)) where
   -- a fault in the opening or in the count r
   pub opening-fault : (s : List ℕ) (j : ℕ) → (fields s opening 0 0 ▷ number s 4 ▷ limit 0 (R .limits .replicas)) ≡ Fault j →
-      checked R s ≡ Refused j
+      checkedBy R s ≡ Refused j
   unfolding checked replicaMap
   opening-fault s j f = rw f
 
   -- in the next replica id
   pub id-fault : (s : List ℕ) (r : ℕ) (ids t : List ℕ) (j : ℕ) → Stands s 0 (mapBytes r ids t) → FirstIds R r ids → length ids < r →
-      ((start b : ℕ) → Stands s start (putIds ids t) → Stands s b t → replicaId R s start (length ids) b ≡ Fault j) →
-      checked R s ≡ Refused j
+      ((start b : ℕ) → Stands s start (putIds ids t) → Stands s b t → replicaId (R .judge) s start (length ids) b ≡ Fault j) →
+      checkedBy R s ≡ Refused j
   unfolding checked opening
   id-fault s r ids t j h l c f =
       let g : Stands s 27 (putIds ids t) = over s 23 4 r (putIds ids t) (fields-over s 0 opening (put 4 r (putIds ids t)) h) in
-      let so-far : repeat (replicaId R s 27) (length ids) 0 27 ≡ Num (length ids) (27 + 16 * length ids) =
+      let so-far : repeat (replicaId (R .judge) s 27) (length ids) 0 27 ≡ Num (length ids) (27 + 16 * length ids) =
       ids-read R s 27 0 27 ids t (omega arith) g (l .lawful) (l .distinct) (fresh-all s 16 16 27 ids) ∙
       num (0 + length ids) (length ids) (27 + 16 * length ids) (27 + 16 * length ids) (omega arith) refl in
-      let all : replicaMap R s ≡ Fault j =
+      let all : replicaMap (R .limits .replicas) (R .judge) s ≡ Fault j =
       map-begun R s r (putIds ids t) (permitted .replicas) h (l .most) ∙
-      repeat-fault (replicaId R s 27) (length ids) r 0 27 (length ids) (27 + 16 * length ids) j c so-far
+      repeat-fault (replicaId (R .judge) s 27) (length ids) r 0 27 (length ids) (27 + 16 * length ids) j c so-far
       (f 27 (27 + 16 * length ids) g (ids-over s 27 ids t g)) in
       rw all
 
   -- in the fields before the vectors or in the count v
   pub vectors-fault : (s : List ℕ) (ids t : List ℕ) (j : ℕ) → Stands s 0 (mapBytes (length ids) ids t) → FirstIds R (length ids) ids →
-      ((b : ℕ) → Stands s b t → vectorCount R s b ≡ Fault j) → checked R s ≡ Refused j
+      ((b : ℕ) → Stands s b t → vectorCount (R .limits .ranges) s b ≡ Fault j) → checkedBy R s ≡ Refused j
   unfolding checked
   vectors-fault s ids t j h l f =
       rw (
@@ -94,7 +94,7 @@ module _ (R : Rules) (permitted : Permitted (R .limits)) where
   list-fault : (s : List ℕ) (ids : List ℕ) (v : ℕ) (t : List ℕ) (j : ℕ) →
       Stands s 0 (mapBytes (length ids) ids (putFields beforeVectors (put 4 v t))) → FirstIds R (length ids) ids →
       1 ≤ v → v ≤ R .limits .ranges + 1 →
-      ((b : ℕ) → Stands s b t → vectorList s (length ids) v b ≡ Fault j) → checked R s ≡ Refused j
+      ((b : ℕ) → Stands s b t → vectorList s (length ids) v b ≡ Fault j) → checkedBy R s ≡ Refused j
   unfolding checked
   list-fault s ids v t j h l some most f =
       let rest = putFields beforeVectors (put 4 v t) in
@@ -109,7 +109,7 @@ module _ (R : Rules) (permitted : Permitted (R .limits)) where
   -- in the first vector
   pub first-fault : (s : List ℕ) (ids : List ℕ) (v : ℕ) (t : List ℕ) (j : ℕ) → Stands s 0 (vectorBytes ids v [] t) →
       FirstIds R (length ids) ids → FirstVectors R (length ids) v [] →
-      ((b : ℕ) → Stands s b t → firstVector s 0 b ≡ Fault j) → checked R s ≡ Refused j
+      ((b : ℕ) → Stands s b t → firstVector s 0 b ≡ Fault j) → checkedBy R s ≡ Refused j
   unfolding vectorList putVectors
   first-fault s ids v t j h l w f = list-fault s ids v t j h l (w .some) (w .most) λ b g. rw (f b g)
 
@@ -134,7 +134,7 @@ module _ (R : Rules) (permitted : Permitted (R .limits)) where
 
   pub vector-fault : (s : List ℕ) (ids : List ℕ) (v : ℕ) (vs : List (List Element)) (t : List ℕ) (j : ℕ) →
       Stands s 0 (vectorBytes ids v vs t) → FirstIds R (length ids) ids → FirstVectors R (length ids) v vs →
-      1 ≤ length vs → length vs < v → ((e b : ℕ) → Stands s b t → vector s (length ids) e b ≡ Fault j) → checked R s ≡ Refused j
+      1 ≤ length vs → length vs < v → ((e b : ℕ) → Stands s b t → vector s (length ids) e b ≡ Fault j) → checkedBy R s ≡ Refused j
   vector-fault s ids v vs t j h l w some c f =
       list-fault s ids v (putVectors vs t) j h l (w .some) (w .most) λ b g.
       let few : length ids < 4294967296 = omega (arith, l .most, permitted .replicas) in
@@ -143,7 +143,7 @@ module _ (R : Rules) (permitted : Permitted (R .limits)) where
   -- in the fields before the ranges, in the count g or in the ranges
   pub ranges-fault : (s : List ℕ) (ids : List ℕ) (vs : List (List Element)) (t : List ℕ) (j : ℕ) →
       Stands s 0 (vectorBytes ids (length vs) vs t) → FirstIds R (length ids) ids → FirstVectors R (length ids) (length vs) vs →
-      ((b : ℕ) → Stands s b t → rangeList R s (length vs) b ≡ Fault j) → checked R s ≡ Refused j
+      ((b : ℕ) → Stands s b t → rangeList (R .limits .ranges) s (length vs) b ≡ Fault j) → checkedBy R s ≡ Refused j
   unfolding checked
   ranges-fault s ids vs t j h l w f =
       let list = putVectors vs t in
@@ -160,7 +160,7 @@ module _ (R : Rules) (permitted : Permitted (R .limits)) where
       )
 
   pub range-count-fault : (s : List ℕ) (v at j : ℕ) →
-      (fields s beforeRanges 0 at ▷ number s 4 ▷ limit 1 (R .limits .ranges)) ≡ Fault j → rangeList R s v at ≡ Fault j
+      (fields s beforeRanges 0 at ▷ number s 4 ▷ limit 1 (R .limits .ranges)) ≡ Fault j → rangeList (R .limits .ranges) s v at ≡ Fault j
   unfolding rangeList
   range-count-fault s v at j f = rw f
 
@@ -168,7 +168,7 @@ module _ (R : Rules) (permitted : Permitted (R .limits)) where
   pub range-fault : (s : List ℕ) (ids : List ℕ) (vs : List (List Element)) (g : ℕ) (xs : List Range) (t : List ℕ) (j : ℕ) →
       Stands s 0 (rangeBytes ids vs g xs t) → FirstIds R (length ids) ids → FirstVectors R (length ids) (length vs) vs →
       FirstRanges R (length vs) g xs → length xs < g →
-      ((b : ℕ) → Stands s b t → range s (length vs) (lowest 0 xs) b ≡ Fault j) → checked R s ≡ Refused j
+      ((b : ℕ) → Stands s b t → range s (length vs) (lowest 0 xs) b ≡ Fault j) → checkedBy R s ≡ Refused j
   range-fault s ids vs g xs t j h l w x c f =
       ranges-fault s ids vs (putFields beforeRanges (put 4 g (putRanges xs t))) j h l w λ b u.
       let start = b + 12 + 4 in
@@ -184,7 +184,7 @@ module _ (R : Rules) (permitted : Permitted (R .limits)) where
   pub closing-fault : (s : List ℕ) (ids : List ℕ) (vs : List (List Element)) (xs : List Range) (t : List ℕ) (j : ℕ) →
       Stands s 0 (rangeBytes ids vs (length xs) xs t) → FirstIds R (length ids) ids → FirstVectors R (length ids) (length vs) vs →
       FirstRanges R (length vs) (length xs) xs →
-      ((b : ℕ) → Stands s b t → fields s closing 0 b ≡ Fault j) → checked R s ≡ Refused j
+      ((b : ℕ) → Stands s b t → fields s closing 0 b ≡ Fault j) → checkedBy R s ≡ Refused j
   unfolding checked
   closing-fault s ids vs xs t j h l w x f =
       let spans = putFields beforeRanges (put 4 (length xs) (putRanges xs t)) in

@@ -132,13 +132,13 @@ key-at s r at (x ∷ xs) t (suc j) m h l b =
 
 -- 1 and 5, for a replica id; and the rules' own number for one that was not there before
 pub id-cut : (R : Rules) (s : List ℕ) (start k at : ℕ) (t : List ℕ) → Stands s at t → length t < 16 →
-    replicaId R s start k at ≡ Fault 1
+    replicaId (R .judge) s start k at ≡ Fault 1
 unfolding replicaId
 id-cut R s start k at t h l = rw (number-cut s at 16 k t h l)
 
 pub id-seen : (R : Rules) (s : List ℕ) (start at : ℕ) (ids : List ℕ) (x j : ℕ) (t : List ℕ) →
     Stands s start (putIds ids (put 16 x t)) → Stands s at (put 16 x t) → All (LawfulId R) ids → x < 256 ^ 16 →
-    j < length ids → x ≡ getD ids j 0 → replicaId R s start (length ids) at ≡ Fault 5
+    j < length ids → x ≡ getD ids j 0 → replicaId (R .judge) s start (length ids) at ≡ Fault 5
 unfolding replicaId
 id-seen R s start at ids x j t g h l m b e =
     rw (
@@ -149,7 +149,7 @@ id-seen R s start at ids x j t g h l m b e =
 
 pub id-judged : (R : Rules) (s : List ℕ) (start at : ℕ) (ids : List ℕ) (x n : ℕ) (t : List ℕ) →
     Stands s start (putIds ids (put 16 x t)) → Stands s at (put 16 x t) → All (LawfulId R) ids → x < 256 ^ 16 →
-    ((j : ℕ) → j < length ids → x ≡ getD ids j 0 → ⊥) → R .judge x ≡ suc n → replicaId R s start (length ids) at ≡ Fault (suc n)
+    ((j : ℕ) → j < length ids → x ≡ getD ids j 0 → ⊥) → R .judge x ≡ suc n → replicaId (R .judge) s start (length ids) at ≡ Fault (suc n)
 unfolding replicaId judged
 id-judged R s start at ids x n t g h l m new e =
     let fresh : Fresh s 16 16 start (length ids) x = record {

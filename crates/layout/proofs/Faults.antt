@@ -11,7 +11,7 @@ use Rattle.layout.specs.declared.Checked.{Checked}
 use Rattle.layout.specs.declared.Checked.the-variants.{Accepted, Refused}
 use Rattle.layout.specs.Knowledge.{basic, Field, opening, beforeVectors, beforeElements, beforeRanges, closing}
 use Rattle.layout.specs.Read.{repeat, number, same, fields, limit, empty, among, judged, replicaId, tick, element, firstVector, vector, index, range}
-use Rattle.layout.specs.Parse.{replicaMap, vectorCount, vectorList, rangeList, ended, checked}
+use Rattle.layout.specs.Parse.{replicaMap, vectorCount, vectorList, rangeList, ended, checked, checkedBy}
 
 -- the fields of the example, each with its size; counted from 0
 pub data Sized : Type 0 where
@@ -48,13 +48,13 @@ cutAt zero (of n x ∷ fs) = take (n - 1) (put n x [])
 cutAt (suc i) (of n x ∷ fs) = put n x (cutAt i fs)
 
 unfoldable pub answer : List Sized → Checked
-answer fs = checked basic (bytesOf fs)
+answer fs = checkedBy basic (bytesOf fs)
 
 unfoldable pub changed : ℕ → ℕ → Checked
 changed i y = answer (change i y example)
 
 unfoldable pub cut : ℕ → List Sized → Checked
-cut i fs = checked basic (cutAt i fs)
+cut i fs = checkedBy basic (cutAt i fs)
 
 -- the example itself is accepted
 pub accepted-example : answer example ≡ Accepted 2 2 2 2
@@ -62,7 +62,7 @@ unfolding example bytesOf change cutAt answer changed cut beFrom beAt put openin
 accepted-example = refl
 
 -- 1: no bytes at all
-pub fault-1-none : checked basic [] ≡ Refused 1
+pub fault-1-none : checkedBy basic [] ≡ Refused 1
 unfolding example bytesOf change cutAt answer changed cut beFrom beAt put opening beforeVectors beforeElements beforeRanges closing repeat number same fields limit empty among judged replicaId tick element firstVector vector index range replicaMap vectorCount vectorList rangeList ended checked
 fault-1-none = refl
 
@@ -117,6 +117,6 @@ unfolding example bytesOf change cutAt answer changed cut beFrom beAt put openin
 fault-9 = (refl, refl)
 
 -- 10: bytes left over
-pub fault-10 : checked basic (bytesOf example ++ (0 ∷ [])) ≡ Refused 10
+pub fault-10 : checkedBy basic (bytesOf example ++ (0 ∷ [])) ≡ Refused 10
 unfolding example bytesOf change cutAt answer changed cut beFrom beAt put opening beforeVectors beforeElements beforeRanges closing repeat number same fields limit empty among judged replicaId tick element firstVector vector index range replicaMap vectorCount vectorList rangeList ended checked
 fault-10 = refl

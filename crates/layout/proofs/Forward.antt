@@ -16,7 +16,7 @@ use Rattle.layout.proofs.Parts.{LawfulId, LawfulVector, LawfulRange, Pa
 use Rattle.layout.specs.Permitted.{Permitted, mostVectors, mostCount}
 use Rattle.layout.specs.Answer.{elements}
 use Rattle.layout.specs.Read.{_▷_, repeat, fields, replicaId, range}
-use Rattle.layout.specs.Parse.{_▶_, replicaMap, vectorCount, vectorList, rangeList, ended, checked}
+use Rattle.layout.specs.Parse.{_▶_, replicaMap, vectorCount, vectorList, rangeList, ended, checked, checkedBy}
 use Rattle.layout.specs.Decode.{idsAt, vectorsAt, afterVectors, rangesAt, decode}
 use Rattle.layout.proofs.Chain.{Stands, stands-whole, stands-length, moved, over, reads, number-reads, limit-holds}
 use Rattle.layout.proofs.Chain.{fields-over, fields-read, fresh-all, opening-fits, beforeVectors-fits, beforeRanges-fits, closing-fits}
@@ -39,7 +39,7 @@ map-over s ids t h = ids-over s 27 ids t (map-start s ids t h)
 
 -- a count r within its limit stands there: then the ids are read, one after the other
 pub map-begun : (R : Rules) (s : List ℕ) (r : ℕ) (t : List ℕ) → R .limits .replicas ≤ mostCount →
-    Stands s 0 (putFields opening (put 4 r t)) → r ≤ R .limits .replicas → replicaMap R s ≡ repeat (replicaId R s 27) r 0 27
+    Stands s 0 (putFields opening (put 4 r t)) → r ≤ R .limits .replicas → replicaMap (R .limits .replicas) (R .judge) s ≡ repeat (replicaId (R .judge) s 27) r 0 27
 unfolding replicaMap opening
 map-begun R s r t m h c =
     rw (
@@ -50,7 +50,7 @@ map-begun R s r t m h c =
 
 pub map-read : (R : Rules) (s : List ℕ) (ids t : List ℕ) → R .limits .replicas ≤ mostCount →
     Stands s 0 (putFields opening (put 4 (length ids) (putIds ids t))) → length ids ≤ R .limits .replicas →
-    All (LawfulId R) ids → Distinct ids → replicaMap R s ≡ Num (length ids) (27 + 16 * length ids)
+    All (LawfulId R) ids → Distinct ids → replicaMap (R .limits .replicas) (R .judge) s ≡ Num (length ids) (27 + 16 * length ids)
 map-read R s ids t m h c l u =
     map-begun R s (length ids) (putIds ids t) m h c ∙
     ids-read R s 27 0 27 ids t (omega arith) (map-start s ids t h) l u (fresh-all s 16 16 27 ids) ∙
@@ -69,7 +69,7 @@ vectors-start s at v t h =
 
 pub count-read : (R : Rules) (s : List ℕ) (at v : ℕ) (t : List ℕ) → R .limits .ranges ≤ mostCount →
     Stands s at (putFields beforeVectors (put 4 v t)) → 1 ≤ v → v ≤ mostVectors (R .limits) →
-    vectorCount R s at ≡ Num v (at + 21)
+    vectorCount (R .limits .ranges) s at ≡ Num v (at + 21)
 unfolding vectorCount beforeVectors
 count-read R s at v t m h l u =
     rw (
@@ -115,7 +115,7 @@ ranges-start s at g t h =
 -- a count g within its limits stands there: then the ranges are read, one after the other
 pub spans-begun : (R : Rules) (s : List ℕ) (v at g : ℕ) (t : List ℕ) → R .limits .ranges ≤ mostCount →
     Stands s at (putFields beforeRanges (put 4 g t)) → 1 ≤ g → g ≤ R .limits .ranges →
-    rangeList R s v at ≡ (repeat (range s v) g 0 (at + 12 + 4) ▷ λ low next. Num g next)
+    rangeList (R .limits .ranges) s v at ≡ (repeat (range s v) g 0 (at + 12 + 4) ▷ λ low next. Num g next)
 unfolding rangeList beforeRanges
 spans-begun R s v at g t m h n c =
     rw (
@@ -127,7 +127,7 @@ spans-begun R s v at g t m h n c =
 pub spans-read : (R : Rules) (s : List ℕ) (v at : ℕ) (xs : List Range) (t : List ℕ) → R .limits .ranges ≤ mostCount → v ≤ 4294967296 →
     Stands s at (putFields beforeRanges (put 4 (length xs) (putRanges xs t))) → 1 ≤ length xs → length xs ≤ R .limits .ranges →
     All (LawfulRange v) xs → Rising 0 (bounds xs) →
-    rangeList R s v at ≡ Num (length xs) (at + 16 + 28 * length xs)
+    rangeList (R .limits .ranges) s v at ≡ Num (length xs) (at + 16 + 28 * length xs)
 spans-read R s v at xs t m w h n c l u =
     spans-begun R s v at (length xs) (putRanges xs t) m h n c ∙
     rw (
@@ -185,7 +185,7 @@ pub encode-length : (k : Knowledge) →
 encode-length k = end-over (encode k) _ (at-end k) ∙ omega arith
 
 pub forward : (R : Rules) (k : Knowledge) → Permitted (R .limits) → Lawful R k →
-    checked R (encode k) ≡ Accepted (length (k .replicas)) (length (k .vectors)) (elements (k .vectors)) (length (k .ranges))
+    checkedBy R (encode k) ≡ Accepted (length (k .replicas)) (length (k .vectors)) (elements (k .vectors)) (length (k .ranges))
 unfolding checked
 forward R k p lawful =
     let l : Parts R k = parts R k lawful in

@@ -30,14 +30,14 @@ ids-over s at (x ∷ xs) t h =
     (ids-over s (at + 16) xs t (over s at 16 x (putIds xs t) h))
 
 pub id-read : (R : Rules) (s : List ℕ) (start k at id : ℕ) (t : List ℕ) → Stands s at (put 16 id t) → LawfulId R id →
-    Fresh s 16 16 start k id → replicaId R s start k at ≡ Num (k + 1) (at + 16)
+    Fresh s 16 16 start k id → replicaId (R .judge) s start k at ≡ Num (k + 1) (at + 16)
 unfolding replicaId judged
 id-read R s start k at id t h l d =
     rw (number-reads s at 16 id k t h (l .size), among-none s 16 16 start k id d, l .acceptable, _▷_)
 
 pub ids-read : (R : Rules) (s : List ℕ) (start k at : ℕ) (ids : List ℕ) (t : List ℕ) → at ≡ start + 16 * k →
     Stands s at (putIds ids t) → All (LawfulId R) ids → Distinct ids → All (Fresh s 16 16 start k) ids →
-    repeat (replicaId R s start) (length ids) k at ≡ Num (k + length ids) (at + 16 * length ids)
+    repeat (replicaId (R .judge) s start) (length ids) k at ≡ Num (k + length ids) (at + 16 * length ids)
 unfolding repeat putIds
 ids-read R s start k at [] t e h l u d = num k (k + 0) at (at + 16 * 0) (omega arith) (omega arith)
 ids-read R s start k at (x ∷ xs) t e h l u d =

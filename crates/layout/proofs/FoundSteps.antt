@@ -136,7 +136,7 @@ module _ (s : List ℕ) (bs : Bytes s) where
   judged-found (suc n) k at j e = (n, refl, cc)
 
   -- a replica id
-  pub id-found {ℓ} : (R : Rules) (start k at j : ℕ) (C : Type ℓ) → replicaId R s start k at ≡ Fault j →
+  pub id-found {ℓ} : (R : Rules) (start k at j : ℕ) (C : Type ℓ) → replicaId (R .judge) s start k at ≡ Fault j →
       (Hit 16 (λ x. among s 16 16 start k x ≡ true) 5 j (drop at s) → C) →
       ((n : ℕ) → Hit 16 (λ x. (among s 16 16 start k x ≡ false) × (R .judge x ≡ suc n)) (suc n) j (drop at s) → C) → C
   unfolding replicaId

@@ -13,6 +13,7 @@ pub mod Backward
 pub mod Prefix
 pub mod Lengths
 pub mod Exact
+pub mod Within
 pub mod Faults
 pub mod Table
 pub mod FaultSteps

@@ -10,7 +10,7 @@ use Rattle.layout.specs.declared.Checked.the-variants.{Accepted}
 use Rattle.layout.specs.Knowledge.{basic, Element, Range, Knowledge, encode}
 use Rattle.layout.specs.Knowledge.{opening, beforeVectors, beforeElements, beforeRanges, closing, putFields, putIds, putElements, putVectors, putRanges}
 use Rattle.layout.specs.Read.{repeat, number, same, fields, limit, empty, among, judged, replicaId, tick, element, firstVector, vector, index, range}
-use Rattle.layout.specs.Parse.{replicaMap, vectorCount, vectorList, rangeList, ended, checked}
+use Rattle.layout.specs.Parse.{replicaMap, vectorCount, vectorList, rangeList, ended, checked, checkedBy}
 
 -- an element of a key and a tick, a range of a bound and an index, a knowledge of its parts
 abbrev pub el : ℕ → ℕ → Element
@@ -64,16 +64,16 @@ keysFall = knowledge (3 ∷ 5 ∷ []) ([] ∷ (el 1 4 ∷ el 0 7 ∷ []) ∷ [])
 
 -- r, v, e and g of each
 pub record AllAccepted : Type 0 where
-  pub tick-zero : checked basic (encode tickZero) ≡ Accepted 2 2 2 1
-  pub unused-replica : checked basic (encode unusedReplica) ≡ Accepted 2 2 1 1
-  pub unused-vector : checked basic (encode unusedVector) ≡ Accepted 1 3 2 1
-  pub equal-vectors : checked basic (encode equalVectors) ≡ Accepted 1 3 2 3
-  pub empty-twice : checked basic (encode emptyTwice) ≡ Accepted 1 3 1 2
-  pub equal-neighbours : checked basic (encode equalNeighbours) ≡ Accepted 1 2 1 3
-  pub first-above : checked basic (encode firstAbove) ≡ Accepted 1 2 1 1
-  pub later-first : checked basic (encode laterFirst) ≡ Accepted 1 3 2 2
-  pub replicas-fall : checked basic (encode replicasFall) ≡ Accepted 2 2 2 1
-  pub keys-fall : checked basic (encode keysFall) ≡ Accepted 2 2 2 1
+  pub tick-zero : checkedBy basic (encode tickZero) ≡ Accepted 2 2 2 1
+  pub unused-replica : checkedBy basic (encode unusedReplica) ≡ Accepted 2 2 1 1
+  pub unused-vector : checkedBy basic (encode unusedVector) ≡ Accepted 1 3 2 1
+  pub equal-vectors : checkedBy basic (encode equalVectors) ≡ Accepted 1 3 2 3
+  pub empty-twice : checkedBy basic (encode emptyTwice) ≡ Accepted 1 3 1 2
+  pub equal-neighbours : checkedBy basic (encode equalNeighbours) ≡ Accepted 1 2 1 3
+  pub first-above : checkedBy basic (encode firstAbove) ≡ Accepted 1 2 1 1
+  pub later-first : checkedBy basic (encode laterFirst) ≡ Accepted 1 3 2 2
+  pub replicas-fall : checkedBy basic (encode replicasFall) ≡ Accepted 2 2 2 1
+  pub keys-fall : checkedBy basic (encode keysFall) ≡ Accepted 2 2 2 1
 
 pub all-accepted : AllAccepted
 unfolding tickZero unusedReplica unusedVector equalVectors emptyTwice equalNeighbours firstAbove laterFirst replicasFall keysFall beFrom beAt put opening beforeVectors beforeElements beforeRanges closing putFields putIds putElements putVectors putRanges encode repeat number same fields limit empty among judged replicaId tick element firstVector vector index range replicaMap vectorCount vectorList rangeList ended checked

@@ -15,7 +15,7 @@ use Rattle.layout.specs.declared.Checked.the-variants.{Refused}
 use Rattle.layout.specs.Knowledge.{Rules, Element, Range, Field, opening, beforeVectors, beforeElements, beforeRanges, putFields, All, keys, bounds}
 use Rattle.layout.specs.Permitted.{Permitted}
 use Rattle.layout.specs.Read.{_▷_, number, same, fields, limit}
-use Rattle.layout.specs.Parse.{vectorCount, checked}
+use Rattle.layout.specs.Parse.{vectorCount, checked, checkedBy}
 use Rattle.layout.proofs.Chain.{Stands, stands-whole, Fit, opening-fits, beforeVectors-fits, beforeElements-fits, beforeRanges-fits, closing-fits}
 use Rattle.layout.proofs.ForwardRead.{lowest}
 use Rattle.layout.proofs.FaultSteps.{fixed-cut, fixed-differs, fields-fault, count-cut, count-low, count-high, counted-fault, first-cut, first-filled, id-cut, id-seen, id-judged, key-cut, key-above, key-seen, tick-fault, tick-cut, tick-above, bound-cut, bound-low, index-fault, index-cut, index-above}
@@ -27,7 +27,7 @@ use Rattle.layout.proofs.FaultPlaces.{opening-fault, id-fault, vectors-
 -- both halves of a line by one law: a fault of the part where t stands is the check's
 line : (R : Rules) (n : ℕ) (p : List ℕ → List ℕ) (Bad : ℕ → Type 0) (j : ℕ) →
     (Part : List ℕ → ℕ → List ℕ → Type 0) →
-    ((t : List ℕ) (i : ℕ) → Part (p t) i t → checked R (p t) ≡ Refused i) →
+    ((t : List ℕ) (i : ℕ) → Part (p t) i t → checkedBy R (p t) ≡ Refused i) →
     ((s t : List ℕ) → length t < n → Part s 1 t) →
     ((s : List ℕ) (x : ℕ) (t : List ℕ) → x < 256 ^ n → Bad x → Part s j (put n x t)) →
     Refuses R n p Bad j
@@ -57,7 +57,7 @@ module _ (before : List Field) (f : Field) (after : List Field) (fits : All Fit 
 
   -- a line of a fixed field
   fixed-line : (R : Rules) (p : List ℕ → List ℕ) →
-      ((t : List ℕ) (i : ℕ) → Fixed before f after (p t) i t → checked R (p t) ≡ Refused i) → Refuses R (f .size) p (Differs f) 2
+      ((t : List ℕ) (i : ℕ) → Fixed before f after (p t) i t → checkedBy R (p t) ≡ Refused i) → Refuses R (f .size) p (Differs f) 2
   fixed-line R p whole = line R (f .size) p (Differs f) 2 (Fixed before f after) whole cut-fixed wrong-fixed
 
 le-or-lt : (a b : ℕ) → (a ≤ b) ⊎ (b < a)
@@ -72,7 +72,7 @@ abbrev Count : ℕ → ℕ → List ℕ → ℕ → List ℕ → Type 0
 Count lo hi s i t = (y at : ℕ) → Stands s at t → (number s 4 y at ▷ limit lo hi) ≡ Fault i
 
 count-line : (R : Rules) (p : List ℕ → List ℕ) (lo hi : ℕ) (Bad : ℕ → Type 0) → ((x : ℕ) → Bad x → (x < lo) ⊎ (hi < x)) →
-    ((t : List ℕ) (i : ℕ) → Count lo hi (p t) i t → checked R (p t) ≡ Refused i) → Refuses R 4 p Bad 3
+    ((t : List ℕ) (i : ℕ) → Count lo hi (p t) i t → checkedBy R (p t) ≡ Refused i) → Refuses R 4 p Bad 3
 count-line R p lo hi Bad beyond whole = line R 4 p Bad 3 (Count lo hi) whole
     (λ s t l y at h. count-cut s lo hi y at t h l)
     λ s x t l b y at h. elim (le-or-lt lo x) [
@@ -125,7 +125,7 @@ module _ (R : Rules) (permitted : Permitted (R .limits)) where
       FirstVectors R (length ids) v vs → length vs < v →
       (before : List Field) (f : Field) (after : List Field) → Parted beforeElements before f after →
       (t : List ℕ) (i : ℕ) → Fixed before f after (vectorBytes ids v vs (putFields before t)) i t →
-      checked R (vectorBytes ids v vs (putFields before t)) ≡ Refused i
+      checkedBy R (vectorBytes ids v vs (putFields before t)) ≡ Refused i
   vector-fixed ids v [] l w c before f after e t i fault =
       let s = vectorBytes ids v [] (putFields before t) in
       first-fault R permitted s ids v (putFields before t) i (stands-whole s) l w λ b h.
@@ -137,7 +137,7 @@ module _ (R : Rules) (permitted : Permitted (R .limits)) where
       (counted s beforeElements 0 (length ids) i n b (ap (λ fs. fields s fs n b) e ∙ fault n b h))
 
   vectorCount-counted : (s : List ℕ) (at i : ℕ) →
-      (fields s beforeVectors 0 at ▷ number s 4 ▷ limit 1 (R .limits .ranges + 1)) ≡ Fault i → vectorCount R s at ≡ Fault i
+      (fields s beforeVectors 0 at ▷ number s 4 ▷ limit 1 (R .limits .ranges + 1)) ≡ Fault i → vectorCount (R .limits .ranges) s at ≡ Fault i
   unfolding vectorCount
   vectorCount-counted s at i e = e
 

@@ -11,7 +11,7 @@ use Rattle.layout.specs.declared.Checked.{Checked}
 use Rattle.layout.specs.declared.Checked.the-variants.{Accepted, Refused}
 use Rattle.layout.specs.Knowledge.{Rules, Element, Range, Knowledge, encode, All, Distinct, Rising, keys, bounds, Lawful}
 use Rattle.layout.specs.Permitted.{Permitted}
-use Rattle.layout.specs.Parse.{checked}
+use Rattle.layout.specs.Parse.{checked, checkedBy}
 use Rattle.layout.proofs.Parts.{LawfulId, LawfulElement, LawfulVector, LawfulRange, Parts, parts}
 use Rattle.layout.proofs.Forward.{forward}
 use Rattle.layout.proofs.Prefix.{Cut, stopped, whole, ends, over, cut}
@@ -23,8 +23,8 @@ accepted-refused : (r v e g n : ℕ) (C : Type 0) → Refused n ≡ Accepted r v
 accepted-refused r v e g n C h = let z : _≡_ {A = ℕ} 0 1 = cc in absurd (omega arith)
 
 -- a proper beginning of accepted bytes
-pub shorter : (R : Rules) (s : List ℕ) (m r v e g : ℕ) → m < length s → checked R s ≡ Accepted r v e g →
-    checked R (take m s) ≡ Refused 1
+pub shorter : (R : Rules) (s : List ℕ) (m r v e g : ℕ) → m < length s → checkedBy R s ≡ Accepted r v e g →
+    checkedBy R (take m s) ≡ Refused 1
 shorter R s m r v e g l h = go (cut R s m) h
   where
     go : {top : ℕ} {a b : Checked} → Cut top m s a b → b ≡ Accepted r v e g → a ≡ Refused 1
@@ -34,8 +34,8 @@ shorter R s m r v e g l h = go (cut R s m) h
     go (over c u w) q = accepted-refused r v e g 10 _ q
 
 -- accepted bytes, and more after them
-pub longer : (R : Rules) (s : List ℕ) (m r v e g : ℕ) → m < length s → checked R (take m s) ≡ Accepted r v e g →
-    checked R s ≡ Refused 10
+pub longer : (R : Rules) (s : List ℕ) (m r v e g : ℕ) → m < length s → checkedBy R (take m s) ≡ Accepted r v e g →
+    checkedBy R s ≡ Refused 10
 longer R s m r v e g l h = go (cut R s m) h
   where
     go : {top : ℕ} {a b : Checked} → Cut top m s a b → a ≡ Accepted r v e g → b ≡ Refused 10
@@ -223,5 +223,5 @@ module _ (R : Rules) (permitted : Permitted (R .limits)) (k : Knowledge) (lawful
     beginning = λ n h. shorter R (encode k) n _ _ _ _ h (forward R k permitted lawful);
     left-over = λ b t.
         longer R (encode k ++ (b ∷ t)) (length (encode k)) _ _ _ _ (omega (arith, length-append (encode k) (b ∷ t)))
-        (ap (checked R) (take-append-seam (encode k) (b ∷ t)) ∙ forward R k permitted lawful);
+        (ap (checkedBy R) (take-append-seam (encode k) (b ∷ t)) ∙ forward R k permitted lawful);
   }

@@ -24,7 +24,7 @@ use Rattle.layout.specs.declared.Checked.the-variants.{Accepted, Refused
 use Rattle.layout.specs.Permitted.{longest, mostVectors, base}
 use Rattle.layout.specs.Knowledge.{Rules, largestTick, basic, Field, opening, beforeVectors, beforeElements, beforeRanges, closing}
 use Rattle.layout.specs.Read.{_▷_, repeat, number, same, fields, limit, empty, among, judged, replicaId, tick, element, firstVector, vector, index, range}
-use Rattle.layout.specs.Parse.{replicaMap, vectorCount, vectorList, rangeList, _▶_, ended, checked}
+use Rattle.layout.specs.Parse.{replicaMap, vectorCount, vectorList, rangeList, _▶_, ended, checked, checkedBy}
 
 pub longest-base : longest base ≡ 14933
 unfolding longest
@@ -180,7 +180,7 @@ module _ (top m : ℕ) where
 
     replicaId-alike : (R : Rules) (start most : ℕ) → start + 16 * most ≤ top → (n k at : ℕ) → at ≤ m →
         Left 16 start most (suc n) k at →
-        Same (Left 16 start most n) (replicaId R (take m s) start k at) (replicaId R s start k at)
+        Same (Left 16 start most n) (replicaId (R .judge) (take m s) start k at) (replicaId (R .judge) s start k at)
     unfolding replicaId
     replicaId-alike R start most h n k at i q =
         then _ _ (number-alike 16 k at (at + 16) refl (omega arith)) λ id next j e.
@@ -234,19 +234,19 @@ module _ (top m : ℕ) where
         test (leb low bound) _ _ _ _ (λ t. index-alike v (suc bound) next b (omega arith) h) λ t. neither _
 
     replicaMap-alike : (R : Rules) → 27 + 16 * R .limits .replicas ≤ top →
-        Same (λ r at. (r ≤ R .limits .replicas) × (at ≤ 27 + 16 * R .limits .replicas)) (replicaMap R (take m s)) (replicaMap R s)
+        Same (λ r at. (r ≤ R .limits .replicas) × (at ≤ 27 + 16 * R .limits .replicas)) (replicaMap (R .limits .replicas) (R .judge) (take m s)) (replicaMap (R .limits .replicas) (R .judge) s)
     unfolding replicaMap opening sizes
     replicaMap-alike R h =
         then _ _
         (then _ _ (count-alike opening 0 0 27 (omega arith) refl (omega arith)) λ y b j p. limit-self 0 (R .limits .replicas) y b 27 j p)
         λ r start j p.
         weaken
-        (repeated (Left 16 start (R .limits .replicas)) (replicaId R (take m s) start) (replicaId R s start)
+        (repeated (Left 16 start (R .limits .replicas)) (replicaId (R .judge) (take m s) start) (replicaId (R .judge) s start)
         (replicaId-alike R start (R .limits .replicas) (omega arith)) r 0 start j (omega arith))
         λ k next q. (omega arith, omega arith)
 
     vectorCount-alike : (R : Rules) (at : ℕ) → at ≤ m → at + 21 ≤ top →
-        Same (Within (R .limits .ranges + 1) (at + 21)) (vectorCount R (take m s) at) (vectorCount R s at)
+        Same (Within (R .limits .ranges + 1) (at + 21)) (vectorCount (R .limits .ranges) (take m s) at) (vectorCount (R .limits .ranges) s at)
     unfolding vectorCount beforeVectors sizes
     vectorCount-alike R at i h =
         then _ _ (count-alike beforeVectors 0 at (at + 21) i (omega arith) h)
@@ -266,7 +266,7 @@ module _ (top m : ℕ) where
           few = omega arith
 
     rangeList-alike : (R : Rules) (v at : ℕ) → at ≤ m → at + 16 + 28 * R .limits .ranges ≤ top →
-        Same (λ g b. b ≤ at + 16 + 28 * R .limits .ranges) (rangeList R (take m s) v at) (rangeList R s v at)
+        Same (λ g b. b ≤ at + 16 + 28 * R .limits .ranges) (rangeList (R .limits .ranges) (take m s) v at) (rangeList (R .limits .ranges) s v at)
     unfolding rangeList beforeRanges sizes
     rangeList-alike R v at i h =
         then _ _
@@ -301,7 +301,7 @@ vector-bytes : (g r x : ℕ) → r ≤ x → g * (8 + 12 * r) ≤ 8 * g + 12 * (
 vector-bytes g r x h =
     omega (arith, mul-add g 8 (12 * r), mul-left-comm g 12 r, mul-comm g 8, mul-comm g r, mul-le-mul-right g h)
 
-pub cut : (R : Rules) (s : List ℕ) (m : ℕ) → Cut (longest (R .limits)) m s (checked R (take m s)) (checked R s)
+pub cut : (R : Rules) (s : List ℕ) (m : ℕ) → Cut (longest (R .limits)) m s (checkedBy R (take m s)) (checkedBy R s)
 unfolding checked closing sizes longest
 cut R s m =
     let top = longest (R .limits) in
@@ -315,7 +315,7 @@ cut R s m =
     ended-cut top m s (Accepted r v e g) x end o (omega arith)
 
 -- any m above the length at all limits
-pub prefix-above : (R : Rules) (s : List ℕ) (m : ℕ) → longest (R .limits) < m → checked R (take m s) ≡ checked R s
+pub prefix-above : (R : Rules) (s : List ℕ) (m : ℕ) → longest (R .limits) < m → checkedBy R (take m s) ≡ checkedBy R s
 prefix-above R s m h = go (cut R s m) where
   go : {a b : Checked} → Cut (longest (R .limits)) m s a b → a ≡ b
   go (stopped n) = refl
@@ -323,8 +323,8 @@ prefix-above R s m h = go (cut R s m) where
   go (ends c l) = absurd (omega arith)
   go (over c l o) = absurd (omega arith)
 
-pub prefix : (R : Rules) (s : List ℕ) → checked R (take (longest (R .limits) + 1) s) ≡ checked R s
+pub prefix : (R : Rules) (s : List ℕ) → checkedBy R (take (longest (R .limits) + 1) s) ≡ checkedBy R s
 prefix R s = prefix-above R s (longest (R .limits) + 1) (omega arith)
 
-pub prefix-base : (s : List ℕ) → checked basic (take 14934 s) ≡ checked basic s
+pub prefix-base : (s : List ℕ) → checkedBy basic (take 14934 s) ≡ checkedBy basic s
 prefix-base s = prefix-above basic s 14934 (omega (arith, longest-base))

@@ -13,7 +13,7 @@ use Rattle.codec.specs.Number.{put}
 use Rattle.layout.specs.declared.Checked.the-variants.{Refused}
 use Rattle.layout.specs.Knowledge.{Rules, largestTick, Element, Range, Knowledge, Field, opening, beforeVectors, beforeElements, beforeRanges, closing}
 use Rattle.layout.specs.Knowledge.{putFields, putIds, putElements, putVectors, putRanges, encode, All, Distinct, Rising, keys, bounds, Lawful}
-use Rattle.layout.specs.Parse.{checked}
+use Rattle.layout.specs.Parse.{checked, checkedBy}
 use Rattle.layout.proofs.Parts.{LawfulId, LawfulElement, LawfulVector, LawfulRange}
 
 -- the bytes of a knowledge of r replicas up to and with the first of them, in front of t
@@ -58,8 +58,8 @@ pub record FirstRanges (R : Rules) (v g : ℕ) (xs : List Range) : Type 0 where
 -- a field of n bytes, with the bytes that p puts before it: 1 where the bytes end inside it; j for each bad value,
 -- whatever follows
 pub record Refuses (R : Rules) (n : ℕ) (p : List ℕ → List ℕ) (Bad : ℕ → Type 0) (j : ℕ) : Type 0 where
-  pub ends : (t : List ℕ) → length t < n → checked R (p t) ≡ Refused 1
-  pub bad : (x : ℕ) (t : List ℕ) → x < 256 ^ n → Bad x → checked R (p (put n x t)) ≡ Refused j
+  pub ends : (t : List ℕ) → length t < n → checkedBy R (p t) ≡ Refused 1
+  pub bad : (x : ℕ) (t : List ℕ) → x < 256 ^ n → Bad x → checkedBy R (p (put n x t)) ≡ Refused j
 
 -- f is one of the fixed fields fs, with these before it and those after it
 abbrev pub Parted : List Field → List Field → Field → List Field → Type 0
@@ -196,5 +196,5 @@ pub record NumbersOf (R : Rules) (k : Knowledge) : Type 0 where
       Refuses R (f .size) (λ t. rangeBytes (k .replicas) (k .vectors) (length (k .ranges)) (k .ranges) (putFields before t))
       (Differs f) 2
   -- 1, each proper beginning; 10, at least one byte more
-  pub beginning : (n : ℕ) → n < length (encode k) → checked R (take n (encode k)) ≡ Refused 1
-  pub left-over : (b : ℕ) (t : List ℕ) → checked R (encode k ++ (b ∷ t)) ≡ Refused 10
+  pub beginning : (n : ℕ) → n < length (encode k) → checkedBy R (take n (encode k)) ≡ Refused 1
+  pub left-over : (b : ℕ) (t : List ℕ) → checkedBy R (encode k ++ (b ∷ t)) ≡ Refused 10

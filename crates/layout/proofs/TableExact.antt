@@ -18,7 +18,7 @@ use Rattle.layout.specs.Knowledge.{Rules, Element, Range, Knowledge, ope
 use Rattle.layout.specs.Knowledge.{putFields, putIds, putElements, putVectors, encode, All, keys, Lawful}
 use Rattle.layout.specs.Permitted.{Permitted, mostVectors}
 use Rattle.layout.specs.Read.{_▷_, repeat, number, fields, limit, empty, among, replicaId, element, firstVector, vector, range}
-use Rattle.layout.specs.Parse.{_▶_, replicaMap, vectorCount, vectorList, rangeList, ended, checked, parse}
+use Rattle.layout.specs.Parse.{_▶_, replicaMap, vectorCount, vectorList, rangeList, ended, checked, parse, checkedBy}
 use Rattle.layout.proofs.Parts.{LawfulElement, whole as whole-lawful}
 use Rattle.layout.proofs.Chain.{Stands}
 use Rattle.layout.proofs.ForwardRead.{lowest}
@@ -87,8 +87,8 @@ module _ (R : Rules) (permitted : Permitted (R .limits)) (s : List ℕ) (bs : By
       λ c q hit. at-field count-r (drop c s) q (hit-map (above-only (R .limits .replicas)) hit)
 
   ids-found : (n start : ℕ) → Counted s opening 0 (R .limits .replicas) 0 n start →
-      repeat (replicaId R s start) n 0 start ≡ Fault j → Faulty R s j
-  ids-found n start counted e = repeat-found (replicaId R s start) n 0 start j _ e λ m z b l h q.
+      repeat (replicaId (R .judge) s start) n 0 start ≡ Fault j → Faulty R s j
+  ids-found n start counted e = repeat-found (replicaId (R .judge) s start) n 0 start j _ e λ m z b l h q.
       let all = ids-inv R s bs m start z b h in
       let ids = all .values in
       let same : z ≡ length ids = omega (arith, all .are .last) in
@@ -96,7 +96,7 @@ module _ (R : Rules) (permitted : Permitted (R .limits)) (s : List ℕ) (bs : By
       let less : length ids < n = omega (arith, all .count) in
       let stands : Stands s start (putIds ids (drop b s)) = record { inside = counted .inside; rest = all .are .bytes } in
       let bytes : s ≡ mapBytes n ids (drop b s) = counted .bytes ∙ ap (λ t. putFields opening (put 4 n t)) (all .are .bytes) in
-      id-found s bs R start (length ids) b j _ (subst (λ k. replicaId R s start k b ≡ Fault j) same q)
+      id-found s bs R start (length ids) b j _ (subst (λ k. replicaId (R .judge) s start k b ≡ Fault j) same q)
       (λ hit. at-field (replica-id n ids first less) (drop b s) bytes
       (hit-map
       (λ x a.
@@ -111,16 +111,16 @@ module _ (R : Rules) (permitted : Permitted (R .limits)) (s : List ℕ) (bs : By
         a .1,
       )) hit)
 
-  map-found : replicaMap R s ≡ Fault j → Faulty R s j
+  map-found : replicaMap (R .limits .replicas) (R .judge) s ≡ Fault j → Faulty R s j
   unfolding replicaMap
   map-found e =
       then-fault (fields s opening 0 0 ▷ number s 4 ▷ limit 0 (R .limits .replicas))
-      (λ r start. repeat (replicaId R s start) r 0 start) j _ e opening-found
+      (λ r start. repeat (replicaId (R .judge) s start) r 0 start) j _ e opening-found
       λ n start u w. ids-found n start (count-inv s bs opening 0 (R .limits .replicas) 0 0 n start u) w
 
   -- after the replica map
   module _ (ids : List ℕ) (a : ℕ) (map : FirstIds R (length ids) ids) (bytes : s ≡ mapBytes (length ids) ids (drop a s)) where
-    vector-count-found : vectorCount R s a ≡ Fault j → Faulty R s j
+    vector-count-found : vectorCount (R .limits .ranges) s a ≡ Fault j → Faulty R s j
     unfolding vectorCount
     vector-count-found e =
         counted-found s bs beforeVectors (limit 1 (R .limits .ranges + 1)) (λ x. (x < 1) ⊎ (R .limits .ranges + 1 < x)) 3 0 a j _
@@ -240,7 +240,7 @@ module _ (R : Rules) (permitted : Permitted (R .limits)) (s : List ℕ) (bs : By
           at-field (index ids vs g xs x map clocks begun fewer small (fits-found xs x fits)) (drop d′ s)
           (whole ∙ ap (rangeBytes ids vs g xs) p) hit
 
-      ranges-found : rangeList R s (length vs) c ≡ Fault j → Faulty R s j
+      ranges-found : rangeList (R .limits .ranges) s (length vs) c ≡ Fault j → Faulty R s j
       unfolding rangeList
       ranges-found e =
           then-fault (fields s beforeRanges 0 c ▷ number s 4 ▷ limit 1 (R .limits .ranges))
@@ -283,26 +283,26 @@ module _ (R : Rules) (permitted : Permitted (R .limits)) (s : List ℕ) (bs : By
             })
 
         -- the bytes after the last field
-        rest-found : (u : List ℕ) → s ≡ rangeBytes ids vs (length xs) xs (putFields closing u) → checked R s ≡ Refused j →
+        rest-found : (u : List ℕ) → s ≡ rangeBytes ids vs (length xs) xs (putFields closing u) → checkedBy R s ≡ Refused j →
             j ≡ 10 → Faulty R s j
         unfolding encode
         rest-found [] q e ten =
             let full : s ≡ encode value = q in
-            refused-accepted j _ _ _ _ (sym e ∙ ap (checked R) full ∙ forward R value permitted lawful)
+            refused-accepted j _ _ _ _ (sym e ∙ ap (checkedBy R) full ∙ forward R value permitted lawful)
         rest-found (b ∷ t) q e ten = at-end value lawful b t (q ∙ sym (encode-append value (b ∷ t))) ten
 
-        end-found : (r v e g x end : ℕ) → fields s closing 0 d ≡ Num x end → checked R s ≡ Refused j →
+        end-found : (r v e g x end : ℕ) → fields s closing 0 d ≡ Num x end → checkedBy R s ≡ Refused j →
             ended s (Accepted r v e g) x end ≡ Refused j → Faulty R s j
         end-found r v e g x end is h q =
             rest-found (drop end s) (there ∙ ap (rangeBytes ids vs (length xs) xs) (fields-inv s bs closing 0 d x end is)) h
             (ended-found s r v e g x end j q)
 
   -- the parts one after the other
-  pub refused-found : checked R s ≡ Refused j → Faulty R s j
+  pub refused-found : checkedBy R s ≡ Refused j → Faulty R s j
   unfolding checked
   refused-found h =
-      next-fault (replicaMap R s)
-      (λ r at. vectorCount R s at ▶ λ v at. vectorList s r v at ▶ λ e at. rangeList R s v at ▶ λ g at.
+      next-fault (replicaMap (R .limits .replicas) (R .judge) s)
+      (λ r at. vectorCount (R .limits .ranges) s at ▶ λ v at. vectorList s r v at ▶ λ e at. rangeList (R .limits .ranges) s v at ▶ λ g at.
       fields s closing 0 at ▶ ended s (Accepted r v e g))
       j _ h map-found λ r a is₁ h₁.
       let part = id-part R s bs r a is₁ in
@@ -310,12 +310,12 @@ module _ (R : Rules) (permitted : Permitted (R .limits)) (s : List ℕ) (bs : By
       let map : FirstIds R (length ids) ids =
       record { most = rw (part .count) (part .high); lawful = part .are .lawful; distinct = part .are .distinct } in
       let bytes : s ≡ mapBytes (length ids) ids (drop a s) = part .bytes ∙ ap (λ n. mapBytes n ids (drop a s)) (sym (part .count)) in
-      next-fault (vectorCount R s a)
-      (λ v at. vectorList s r v at ▶ λ e at. rangeList R s v at ▶ λ g at. fields s closing 0 at ▶ ended s (Accepted r v e g))
+      next-fault (vectorCount (R .limits .ranges) s a)
+      (λ v at. vectorList s r v at ▶ λ e at. rangeList (R .limits .ranges) s v at ▶ λ g at. fields s closing 0 at ▶ ended s (Accepted r v e g))
       j _ h₁ (vector-count-found ids a map bytes) λ v b is₂ h₂.
       let counted = vector-count R s bs a v b is₂ in
       next-fault (vectorList s r v b)
-      (λ e at. rangeList R s v at ▶ λ g at. fields s closing 0 at ▶ ended s (Accepted r v e g))
+      (λ e at. rangeList (R .limits .ranges) s v at ▶ λ g at. fields s closing 0 at ▶ ended s (Accepted r v e g))
       j _ h₂ (λ q. list-found ids a map bytes v b counted (subst (λ n. vectorList s n v b ≡ Fault j) (sym (part .count)) q))
       λ e c is₃ h₃.
       let all = vector-list-inv s bs (length ids) v b e c (counted .low)
@@ -326,10 +326,10 @@ module _ (R : Rules) (permitted : Permitted (R .limits)) (s : List ℕ) (bs : By
       let here : s ≡ vectorBytes ids (length vs) vs (drop c s) =
       vector-bytes ids a map bytes v b counted vs c (all .are .bytes) ∙
       ap (λ n. vectorBytes ids n vs (drop c s)) (sym (all .count)) in
-      next-fault (rangeList R s v c) (λ g at. fields s closing 0 at ▶ ended s (Accepted r v e g))
-      j _ h₃ (λ q. ranges-found ids a map bytes vs c clocks here (subst (λ n. rangeList R s n c ≡ Fault j) (sym (all .count)) q))
+      next-fault (rangeList (R .limits .ranges) s v c) (λ g at. fields s closing 0 at ▶ ended s (Accepted r v e g))
+      j _ h₃ (λ q. ranges-found ids a map bytes vs c clocks here (subst (λ n. rangeList (R .limits .ranges) s n c ≡ Fault j) (sym (all .count)) q))
       λ g d is₄ h₄.
-      let ranges = range-part R s bs (length vs) c g d (subst (λ n. rangeList R s n c ≡ Num g d) (sym (all .count)) is₄) in
+      let ranges = range-part R s bs (length vs) c g d (subst (λ n. rangeList (R .limits .ranges) s n c ≡ Num g d) (sym (all .count)) is₄) in
       let xs = ranges .values in
       let spans : FirstRanges R (length vs) (length xs) xs =
       record {
@@ -347,18 +347,18 @@ module _ (R : Rules) (permitted : Permitted (R .limits)) (s : List ℕ) (bs : By
 
 -- and from the table to the check
 hit-refused : (R : Rules) (n : ℕ) (p : List ℕ → List ℕ) (Bad : ℕ → Type 0) (k j : ℕ) (u : List ℕ) →
-    Refuses R n p Bad k → Hit n Bad k j u → checked R (p u) ≡ Refused j
+    Refuses R n p Bad k → Hit n Bad k j u → checkedBy R (p u) ≡ Refused j
 hit-refused R n p Bad k j u line (cut-short e l) = line .ends u l ∙ ap Refused (sym e)
-hit-refused R n p Bad k j u line (bad-value x t e q l b) = ap (λ w. checked R (p w)) q ∙ line .bad x t l b ∙ ap Refused (sym e)
+hit-refused R n p Bad k j u line (bad-value x t e q l b) = ap (λ w. checkedBy R (p w)) q ∙ line .bad x t l b ∙ ap Refused (sym e)
 
-found-refused : (R : Rules) → Permitted (R .limits) → (s : List ℕ) (j : ℕ) → Faulty R s j → checked R s ≡ Refused j
+found-refused : (R : Rules) → Permitted (R .limits) → (s : List ℕ) (j : ℕ) → Faulty R s j → checkedBy R s ≡ Refused j
 found-refused R permitted s j (at-field line u e hit) =
-    ap (checked R) e ∙ hit-refused R _ _ _ _ j u (numbers-exact R permitted line) hit
+    ap (checkedBy R) e ∙ hit-refused R _ _ _ _ j u (numbers-exact R permitted line) hit
 found-refused R permitted s j (at-end k lawful b t e q) =
-    ap (checked R) e ∙ numbers-lawful R permitted k lawful .left-over b t ∙ ap Refused (sym q)
+    ap (checkedBy R) e ∙ numbers-lawful R permitted k lawful .left-over b t ∙ ap Refused (sym q)
 
 -- the check refuses with j exactly where the bytes have the fault j of the table
-pub table-exact : (R : Rules) → Permitted (R .limits) → (s : List ℕ) → Bytes s → (j : ℕ) → (checked R s ≡ Refused j) ↔ Faulty R s j
+pub table-exact : (R : Rules) → Permitted (R .limits) → (s : List ℕ) → Bytes s → (j : ℕ) → (checkedBy R s ≡ Refused j) ↔ Faulty R s j
 table-exact R permitted s bs j = (refused-found R permitted s bs j, found-refused R permitted s j)
 
 -- and so does reading

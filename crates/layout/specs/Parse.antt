@@ -10,24 +10,24 @@ use Rattle.layout.specs.Knowledge.{Rules, Knowledge, opening, beforeVect
 use Rattle.layout.specs.Decode.{decode}
 use Rattle.layout.specs.Read.{_▷_, repeat, number, fields, limit, replicaId, firstVector, vector, range}
 
--- the bytes up to the last replica id: r, and the place after them
-unfoldable pub replicaMap : Rules → List ℕ → Got
-replicaMap R s =
-    fields s opening 0 0 ▷ number s 4 ▷ limit 0 (R .limits .replicas) ▷ λ r start.
-    repeat (replicaId R s start) r 0 start
+-- the bytes up to the last replica id, with the most replicas: r, and the place after them
+unfoldable pub replicaMap : ℕ → (ℕ → ℕ) → List ℕ → Got
+replicaMap most judge s =
+    fields s opening 0 0 ▷ number s 4 ▷ limit 0 most ▷ λ r start.
+    repeat (replicaId judge s start) r 0 start
 
--- the fields up to the count v
-unfoldable pub vectorCount : Rules → List ℕ → ℕ → Got
-vectorCount R s at = fields s beforeVectors 0 at ▷ number s 4 ▷ limit 1 (R .limits .ranges + 1)
+-- the fields up to the count v, with the most ranges: a vector for each, and vector 0
+unfoldable pub vectorCount : ℕ → List ℕ → ℕ → Got
+vectorCount most s at = fields s beforeVectors 0 at ▷ number s 4 ▷ limit 1 (most + 1)
 
 -- the v clock vectors: e
 unfoldable pub vectorList : List ℕ → ℕ → ℕ → ℕ → Got
 vectorList s r v at = firstVector s 0 at ▷ repeat (vector s r) (v - 1)
 
--- the bytes up to the end of the ranges: g
-unfoldable pub rangeList : Rules → List ℕ → ℕ → ℕ → Got
-rangeList R s v at =
-    fields s beforeRanges 0 at ▷ number s 4 ▷ limit 1 (R .limits .ranges) ▷ λ g start.
+-- the bytes up to the end of the ranges, with the most ranges: g
+unfoldable pub rangeList : ℕ → List ℕ → ℕ → ℕ → Got
+rangeList most s v at =
+    fields s beforeRanges 0 at ▷ number s 4 ▷ limit 1 most ▷ λ g start.
     repeat (range s v) g 0 start ▷ λ low next. Num g next
 
 infixl 40 _▶_
@@ -40,13 +40,17 @@ Fault n ▶ f = Refused n
 unfoldable pub ended : List ℕ → Checked → ℕ → ℕ → Checked
 ended s c x at = elim (eqb at (length s)) [ true ↦ c | false ↦ Refused 10 ]
 
-unfoldable pub checked : Rules → List ℕ → Checked
-checked R s =
-    replicaMap R s ▶ λ r at.
-    vectorCount R s at ▶ λ v at.
+-- the check, with the most replicas, the most ranges and the judgement of ids
+unfoldable pub checked : ℕ → ℕ → (ℕ → ℕ) → List ℕ → Checked
+checked replicas ranges judge s =
+    replicaMap replicas judge s ▶ λ r at.
+    vectorCount ranges s at ▶ λ v at.
     vectorList s r v at ▶ λ e at.
-    rangeList R s v at ▶ λ g at.
+    rangeList ranges s v at ▶ λ g at.
     fields s closing 0 at ▶ ended s (Accepted r v e g)
+
+abbrev pub checkedBy : Rules → List ℕ → Checked  -- the same by rules
+checkedBy R s = checked (R .limits .replicas) (R .limits .ranges) (R .judge) s
 
 unfoldable pub told : List ℕ → Checked → Parsed Knowledge
 told s (Accepted r v e g) = accepted (decode s)
@@ -54,4 +58,4 @@ told s (Refused n) = refused n
 
 -- the answer of reading: the knowledge, or the refusal's number
 unfoldable pub parse : Rules → List ℕ → Parsed Knowledge
-parse R s = told s (checked R s)
+parse R s = told s (checkedBy R s)

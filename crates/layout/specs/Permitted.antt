@@ -1,6 +1,9 @@
--- The limits that the laws hold for. There is nothing to believe here: document 01's limits are permitted (`base-permitted`).
+-- The limits that the laws hold for, and limits given as numbers. There is nothing to believe here: document 01's limits
+-- are permitted (`base-permitted`), so are all limits given as numbers (`within-permitted`), and document 01's are such
+-- (`base-within`).
 use Rattle.codec.specs.Prelude.{ℕ, _+_, _*_, _≤_}
-use Rattle.layout.specs.Knowledge.{Limits, Rules, basic}
+use Rattle.codec.specs.Total.{brought}
+use Rattle.layout.specs.Knowledge.{Limits, basic}
 
 abbrev pub base : Limits
 base = basic .limits
@@ -18,10 +21,29 @@ abbrev pub mostCount : ℕ
 mostCount = 4294967294
 
 -- the only premise of the laws on the limits: counts and lengths have room in their fields, and a knowledge may have
--- the one range that every knowledge has
+-- the one range that every knowledge has, and a replica
 pub record Permitted (L : Limits) : Type 0 where
+  pub someReplica : 1 ≤ L .replicas
   pub someRange : 1 ≤ L .ranges
   pub replicas : L .replicas ≤ mostCount
   pub ranges : L .ranges ≤ mostCount
   pub records : L .records ≤ mostCount
   pub lengths : longest L ≤ mostCount
+
+-- the largest limits that a call may be given
+abbrev pub largestReplicas : ℕ
+largestReplicas = 16
+
+abbrev pub largestRanges : ℕ
+largestRanges = 64
+
+abbrev pub largestRecords : ℕ
+largestRecords = 256
+
+-- limits given as numbers: each is brought into 1 to its largest
+abbrev pub within : ℕ → ℕ → ℕ → Limits
+within replicas ranges records = record {
+  replicas = brought replicas largestReplicas;
+  ranges = brought ranges largestRanges;
+  records = brought records largestRecords;
+}

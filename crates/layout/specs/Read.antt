@@ -5,7 +5,7 @@ use Rattle.codec.specs.Prelude.{ℕ, zero, suc, _+_, Bool, true, false, List, [
 use Rattle.codec.specs.Number.{beAt}
 use Rattle.layout.specs.declared.Got.{Got}
 use Rattle.layout.specs.declared.Got.the-variants.{Num, Fault}
-use Rattle.layout.specs.Knowledge.{Rules, largestTick, Field, beforeElements}
+use Rattle.layout.specs.Knowledge.{largestTick, Field, beforeElements}
 
 infixl 40 _▷_
 -- the next part is read only where the one before has no fault
@@ -48,11 +48,11 @@ unfoldable pub judged : ℕ → ℕ → ℕ → Got
 judged zero k at = Num k at
 judged (suc n) k at = Fault (suc n)
 
--- a replica id, with k ids before it from `start` on. 5: replica id seen before
-unfoldable pub replicaId : Rules → List ℕ → ℕ → ℕ → ℕ → Got
-replicaId R s start k at =
+-- a replica id that the rules judge, with k ids before it from `start` on. 5: replica id seen before
+unfoldable pub replicaId : (ℕ → ℕ) → List ℕ → ℕ → ℕ → ℕ → Got
+replicaId judge s start k at =
     number s 16 k at ▷ λ id next.
-    elim (among s 16 16 start k id) [ true ↦ Fault 5 | false ↦ judged (R .judge id) (k + 1) next ]
+    elim (among s 16 16 start k id) [ true ↦ Fault 5 | false ↦ judged (judge id) (k + 1) next ]
 
 -- 7: tick above the largest
 unfoldable pub tick : List ℕ → ℕ → ℕ → Got

@@ -1,4 +1,18 @@
-// The types of the knowledge layout that code and definitions share. No function stands here.
+// The types of the knowledge layout that code and definitions share, and the limits. No function stands here.
+
+// document 01's limits: the most replicas, ranges and records
+pub const REPLICAS: u32 = 16;
+
+pub const RANGES: u32 = 64;
+
+pub const RECORDS: u32 = 256;
+
+// the largest limits that a call may be given
+pub const LARGEST_REPLICAS: u32 = 16;
+
+pub const LARGEST_RANGES: u32 = 64;
+
+pub const LARGEST_RECORDS: u32 = 256;
 
 // The place of a replica id in a knowledge's replica map, counted from 0.
 pub struct ReplicaKey(pub u32);

@@ -1,28 +1,26 @@
--- `codec::read4` meets its contract: `four` and `read_slowly` read the number, and past the end it is 0.
+-- `codec::read4` meets its contract: `four` reads the number, and where a byte is missing it is 0.
 use mathlib.Core.Path.{sym}
+use Rattle.codec.proofs.Total.{read-there, read-missing}
 use native.Mathlib.Omega.{arith}
-use Rattle.codec.proofs.Numbers.{be-past}
+use borrow.Author.Needs.{needs}
 use Rattle.codec.proofs.read4.Statement.{statement}
 use Rattle.codec.proofs.read4.Tie as tie
 
+beyond-requires : tie.Need-beyond-requires
+beyond-requires c κs = search needs
+
 returns : tie.Need-returns
-returns c = (sym (be-past _ 4 _ (omega arith)), omega arith)
-
-sub-if2 : tie.Need-sub-if2
-sub-if2 c = omega arith
-
-read-slowly-requires : tie.Need-read-slowly-requires
-read-slowly-requires c κs = omega arith
-
-returns-2 : tie.Need-returns-2
-returns-2 c = omega arith
+returns c =
+    (sym (read-missing _ 4 _ (c .before .beyond .ensures .0 (c .if1 .taken))), omega arith)
 
 four-requires : tie.Need-four-requires
-four-requires c κs = omega arith
+four-requires c κs =
+    omega (arith, c .before .beyond .ensures .1 (c .if1 .left))
 
-returns-3 : tie.Need-returns-3
-returns-3 c = omega arith
+returns-2 : tie.Need-returns-2
+returns-2 c =
+    let a = c .before .before .before .before .args in
+    (omega (arith, read-there (a .s .now) 4 (a .at) (c .before .before .beyond .ensures .1 (c .before .if1 .left))), omega arith)
 
 pub read4-spec : {M : Type 1} → statement M
-read4-spec =
-    tie.close (tie.spec returns sub-if2 read-slowly-requires returns-2 four-requires returns-3)
+read4-spec = tie.close (tie.spec beyond-requires returns four-requires returns-2)

@@ -12,7 +12,8 @@ Inv-loop s at n x₀ i₀ x i =
     (beAt s n at ≡ beFrom s (n - i) (at + i) x) × (i ≤ n) × (x < 256 ^ i)
 
 abbrev μ-loop : tie.MeasureT-loop
-μ-loop s at n x₀ i₀ x i = n - i
+μ-loop s at n x₀ i₀ x i =
+    n - i
 
 loop-holds : tie.Need-loop-holds Inv-loop μ-loop
 loop-holds c =
@@ -22,32 +23,29 @@ mul-x : tie.Need-mul-x Inv-loop μ-loop
 mul-x c =
     record { fits = omega (arith, digits-fit (c .before .loop .x) 0 (c .before .loop .i) (omega arith) (omega arith) (omega arith)) }
 
-add-one : tie.Need-add-one Inv-loop μ-loop
-add-one c =
-    omega arith
+add-read1 : tie.Need-add-read1 Inv-loop μ-loop
+add-read1 c = omega arith
 
-one-requires : tie.Need-one-requires Inv-loop μ-loop
-one-requires c κs =
-    omega arith
+read1-requires : tie.Need-read1-requires Inv-loop μ-loop
+read1-requires c κs =
+    tt
 
 add-x : tie.Need-add-x Inv-loop μ-loop
 add-x c =
-    record { fits = digits-fit (c .before .before .loop .x) (c .one .result) (c .before .before .loop .i) (omega arith) (omega arith) (omega arith) }
+    record { fits = digits-fit (c .before .before .loop .x) (c .read1 .result) (c .before .before .loop .i) (omega arith) (omega arith) (omega arith) }
 
 add-i : tie.Need-add-i Inv-loop μ-loop
-add-i c =
-    omega arith
+add-i c = omega arith
 
 loop-less : tie.Need-loop-less Inv-loop μ-loop
-loop-less c =
-    omega arith
+loop-less c = omega arith
 
 loop-again : tie.Need-loop-again Inv-loop μ-loop
 loop-again c =
     let l = c .before .before .loop in (
-      digits-on _ _ _ _ _ _ (l .inv .0) (omega arith) (c .one .ensures .0),
+      digits-on _ _ _ _ _ _ (l .inv .0) (omega arith) (omega arith) (c .read1 .ensures .0),
       omega arith,
-      digit-more (l .x) (c .one .result) (l .i) (omega arith) (omega arith),
+      digit-more (l .x) (c .read1 .result) (l .i) (omega arith) (omega arith),
     )
 
 returns : tie.Need-returns Inv-loop μ-loop
@@ -62,8 +60,8 @@ number-at-spec =
     μ-loop
     loop-holds
     mul-x
-    add-one
-    one-requires
+    add-read1
+    read1-requires
     add-x
     add-i
     loop-less

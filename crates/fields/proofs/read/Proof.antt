@@ -1,39 +1,37 @@
 -- `fields::read` meets its contract. Each return has the test that the definition makes there.
+use Rattle.fields.proofs.Steps.{number-cut, number-read}
 use native.Mathlib.Omega.{arith}
-use Rattle.fields.proofs.Steps.{steps}
 use borrow.Author.Needs.{needs}
 use Rattle.fields.proofs.read.Statement.{statement}
 use Rattle.fields.proofs.read.Tie as tie
 
 enum-known-g : tie.Need-enum-known-g
-enum-known-g c = omega arith
+enum-known-g c = search needs
 
 enum-told : tie.Need-enum-told
-enum-told c = omega arith
+enum-told c = search needs
 
 returns : tie.Need-returns
 returns c = search needs
 
+beyond-requires : tie.Need-beyond-requires
+beyond-requires c κs = search needs
+
 returns-2 : tie.Need-returns-2
 returns-2 c =
-    search steps
+    number-cut _ _ _ _ _ (c .before .before .before .g .given .1) (c .before .beyond .ensures .0 (c .if1 .taken))
 
-sub-if2 : tie.Need-sub-if2
-sub-if2 c = omega arith
+number-at-requires : tie.Need-number-at-requires
+number-at-requires c κs =
+    (omega arith, c .before .beyond .ensures .1 (c .if1 .left))
+
+add-t7 : tie.Need-add-t7
+add-t7 c =
+    omega (arith, c .before .before .beyond .ensures .1 (c .before .if1 .left))
 
 returns-3 : tie.Need-returns-3
 returns-3 c =
-    search steps
-
-number-at-requires : tie.Need-number-at-requires
-number-at-requires c κs = omega arith
-
-add-t7 : tie.Need-add-t7
-add-t7 c = omega arith
-
-returns-4 : tie.Need-returns-4
-returns-4 c =
-    search steps
+    number-read _ _ _ _ _ _ (c .before .before .before .before .g .given .1) (c .before .before .beyond .ensures .1 (c .before .if1 .left)) (c .number-at .ensures)
 
 pub read-spec : {M : Type 1} → statement M
 read-spec =
@@ -42,9 +40,8 @@ read-spec =
     enum-known-g
     enum-told
     returns
+    beyond-requires
     returns-2
-    sub-if2
-    returns-3
     number-at-requires
     add-t7
-    returns-4)
+    returns-3)

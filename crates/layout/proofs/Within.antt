@@ -1,0 +1,29 @@
+-- Limits given as numbers: each is brought into 1 to its largest, so they are permitted whatever the numbers are, since the longest
+-- knowledge at the largest limits has room in its fields. Document 01's limits are themselves such.
+use Prim.Native.Nat.{ℕ, _*_, _≤_}
+use mathlib.Core.Path.{_≡_, refl}
+use native.Mathlib.Nat.{mul-le-mul}
+use native.Mathlib.Omega.{arith}
+use Rattle.codec.specs.Total.{brought}
+use Rattle.codec.proofs.Total.{brought-within}
+use Rattle.layout.specs.Permitted.{base, longest, Permitted, largestReplicas, largestRanges, largestRecords, within}
+
+pub within-permitted : (replicas ranges records : ℕ) → Permitted (within replicas ranges records)
+unfolding longest
+within-permitted replicas ranges records =
+    let r = brought-within replicas largestReplicas (omega arith) in
+    let g = brought-within ranges largestRanges (omega arith) in
+    let n = brought-within records largestRecords (omega arith) in
+    let m : brought replicas largestReplicas * brought ranges largestRanges ≤ largestReplicas * largestRanges = mul-le-mul (r .1) (g .1) in
+    record {
+      someReplica = r .0;
+      someRange = g .0;
+      replicas = omega arith;
+      ranges = omega arith;
+      records = omega arith;
+      lengths = omega arith;
+    }
+
+pub base-within : within (base .replicas) (base .ranges) (base .records) ≡ base
+unfolding brought
+base-within = refl

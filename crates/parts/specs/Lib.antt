@@ -1,0 +1,2 @@
+-- The method of the reading of lists.
+pub mod Method
