@@ -7,7 +7,8 @@ use Rattle.layout.specs.Knowledge.{Element, Range, Knowledge}
 use Rattle.ticks.specs.Meaning.{highest}
 use Rattle.replication.specs.Record.{Rec}
 use Rattle.replication.specs.Call.{Brought}
-use Rattle.replication.specs.Formats.{Store, Batch}
+use Rattle.replication.specs.Formats.{Store}
+use Rattle.replication.specs.BatchFormat.{Batch}
 use mathlib.Core.Bool.{false}
 
 -- the empty knowledge as a value: r = 0, v = 1, g = 1

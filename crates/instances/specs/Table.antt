@@ -17,7 +17,8 @@ use Rattle.ticks.specs.declared.Contain.the-variants as C
 use Rattle.ticks.specs.declared.Lead.{Lead}
 use Rattle.ticks.specs.declared.Lead.the-variants as D
 use Rattle.replication.specs.Record.{Rec}
-use Rattle.replication.specs.Formats.{Store, encodeStore, Batch, encodeBatch}
+use Rattle.replication.specs.Formats.{Store, encodeStore}
+use Rattle.replication.specs.BatchFormat.{Batch, encodeBatch}
 use Rattle.replication.specs.Operate.{nextTick}
 use Rattle.replication.specs.Calls.{newReply, editReply, makeReply, applyReply}
 use Rattle.replication.specs.Queries.{winnerPart, learnedPart}

@@ -20,7 +20,8 @@ use Rattle.ticks.specs.Operations.{merge, covers}
 use Rattle.ticks.proofs.Operations.{known-merge}
 use Rattle.ticks.proofs.Algebra.{contains-exact}
 use Rattle.ticks.proofs.Search.{covers-exact}
-use Rattle.replication.specs.Formats.{Store, encodeStore, Batch, find}
+use Rattle.replication.specs.Formats.{Store, encodeStore, find}
+use Rattle.replication.specs.BatchFormat.{Batch}
 use Rattle.replication.specs.Valid.{LawfulStore}
 use Rattle.replication.specs.Reading.{both}
 use Rattle.replication.specs.OpenBatch.{lacksChange}

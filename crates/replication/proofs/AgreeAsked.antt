@@ -12,12 +12,12 @@ use Rattle.layout.proofs.Exact.{exact}
 use Rattle.ticks.specs.Meaning.{highest, known}
 use Rattle.ticks.specs.Calls.{idOf}
 use Rattle.ticks.proofs.LawfulResults.{below-top}
-use Rattle.replication.specs.Formats.{Batch}
+use Rattle.replication.specs.BatchFormat.{Batch}
 use Rattle.replication.specs.Call.{Call, edit, delete, make, apply, Given}
 use Rattle.replication.specs.Calls.{makeReply}
-use Rattle.replication.specs.Lists.{World, outcome, batchNumber, writes, keep, run, asks, asked}
+use Rattle.replication.specs.Lists.{World, outcome, batchNumber, writes, keep, run}
+use Rattle.replication.specs.Batches.{asks, asked, IsBatch}
 use Rattle.replication.specs.Machine.{State}
-use Rattle.replication.specs.Promise.{IsBatch}
 use Rattle.replication.proofs.Arguments.{id-below}
 use Rattle.replication.proofs.AgreeLines.{make-met}
 use Rattle.replication.proofs.AgreeInvariant.{Follows, opens}

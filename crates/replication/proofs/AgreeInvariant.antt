@@ -12,8 +12,10 @@ use Rattle.layout.specs.Knowledge.{Limits}
 use Rattle.layout.specs.Permitted.{Permitted}
 use Rattle.ticks.specs.Meaning.{highest, known}
 use Rattle.replication.specs.Record.{Rec}
-use Rattle.replication.specs.Formats.{Store, encodeStore, Batch, encodeBatch, find}
-use Rattle.replication.specs.Valid.{LawfulStore, LawfulBatch}
+use Rattle.replication.specs.Formats.{Store, encodeStore, find}
+use Rattle.replication.specs.BatchFormat.{Batch, encodeBatch}
+use Rattle.replication.specs.Valid.{LawfulStore}
+use Rattle.replication.specs.ValidBatch.{LawfulBatch}
 use Rattle.replication.specs.OpenStore.{openStore}
 use Rattle.replication.specs.OpenBatch.{openBatch}
 use Rattle.replication.specs.Machine.{Ticks, Remembered, State, greatest}

@@ -19,15 +19,15 @@ use Rattle.ticks.specs.Operations.{covers, coversFor, largest, tooManyReplicas,
 use Rattle.ticks.specs.Calls.{idOf, readAs, wrongLength, wrongSpan, resultLines}
 use Rattle.ticks.proofs.ForCalls.{or-false, length-right, span-right, Within, within-lines}
 use Rattle.codec.proofs.Replies.{read-accepted, fault-refused}
-use Rattle.replication.specs.Formats.{Store, encodeStore, Batch, encodeBatch, find}
+use Rattle.replication.specs.Formats.{Store, encodeStore, find}
+use Rattle.replication.specs.BatchFormat.{Batch, encodeBatch}
 use Rattle.replication.specs.Operate.{changed, made, applied}
 use Rattle.replication.specs.OpenStore.{openStore}
 use Rattle.replication.specs.OpenBatch.{openBatch}
-use Rattle.replication.specs.Calls.{then, storeOr, batchOr, uncovered, ownAhead, gone, exhausted, tooManyRecords, storeLines, editLines, edited, editReply, deleteLines, deleted, deleteReply, makeLines, makes, makeReply, applyLines, applyReply, tombstone, wrongBrought, liveContent}
+use Rattle.replication.specs.Calls.{then, storeOr, batchOr, uncovered, ownAhead, gone, exhausted, tooManyRecords, storeLines, editLines, edited, editReply, deleteLines, deleted, deleteReply, makeLines, makes, makeReply, applyLines, applyReply, tombstone, wrongBrought, liveContent, RightBrought}
 use Rattle.replication.specs.Lists.{outcome}
 use Rattle.replication.specs.Record.{Rec}
 use Rattle.replication.specs.Call.{Brought}
-use Rattle.replication.specs.Valid.{RightBrought}
 use Rattle.codec.specs.Parsed.{line, ownFault, readOr, Parsed, accepted, refused}
 
 -- ---- the buffer

@@ -20,7 +20,8 @@ use Rattle.ticks.specs.Calls.{idOf}
 use Rattle.ticks.proofs.Operations.{known-project-inside, known-project-below, known-project-above}
 use Rattle.ticks.proofs.LawfulResults.{below-top}
 use Rattle.ticks.proofs.ForCalls.{id-is, Within}
-use Rattle.replication.specs.Formats.{Store, Batch, encodeBatch, find}
+use Rattle.replication.specs.Formats.{Store, find}
+use Rattle.replication.specs.BatchFormat.{Batch, encodeBatch}
 use Rattle.replication.specs.Operate.{selected, made}
 use Rattle.replication.specs.Machine.{Ticks, Remembered, State, value, greatest, acts}
 use Rattle.replication.specs.Lists.{World, keep}

@@ -16,10 +16,11 @@ use Rattle.ticks.specs.Meaning.{highest}
 use Rattle.ticks.specs.Calls.{idOf}
 use Rattle.ticks.proofs.Operations.{known-empty, normal-empty}
 use Rattle.ticks.proofs.LawfulResults.{below-top, lawful-empty}
-use Rattle.replication.specs.Formats.{Store, newStore, encodeStore, Batch, items}
+use Rattle.replication.specs.Formats.{Store, newStore, encodeStore, items}
+use Rattle.replication.specs.BatchFormat.{Batch}
 use Rattle.replication.specs.OpenStore.{openStore}
 use Rattle.replication.specs.OpenBatch.{openBatch}
-use Rattle.replication.specs.Calls.{liveContent, tombstone, editReply, deleteReply, makeReply, applyReply}
+use Rattle.replication.specs.Calls.{liveContent, tombstone, editReply, deleteReply, makeReply, applyReply, RightBrought}
 use Rattle.replication.specs.Lists.{World, start, outcome, batchNumber, applyTo, writes, keep, run, trace}
 use Rattle.replication.specs.Machine.{live, dead, Ticks, Remembered, State, initial, value, greatest, changes, rememberedAt, applies, acts, history}
 use Rattle.replication.proofs.Best.{Mem, greatest-nil}
@@ -37,7 +38,7 @@ use Rattle.replication.proofs.AgreeApply.{apply-follows}
 use Rattle.codec.specs.Parsed.{accepted}
 use Rattle.replication.specs.Call.{Brought, Fed, Given, apply, Call, edit, delete, make}
 use Rattle.replication.specs.Record.{Rec, Content}
-use Rattle.replication.specs.Valid.{RightBrought, LawfulStore}
+use Rattle.replication.specs.Valid.{LawfulStore}
 
 -- ---- the start
 

@@ -23,7 +23,8 @@ use Rattle.layout.proofs.Forward.{encode-bytes}
 use Rattle.layout.proofs.Exact.{exact, read-back}
 use Rattle.ticks.specs.Written.{isNormal, eqKnowledge}
 use Rattle.ticks.specs.Operations.{project}
-use Rattle.replication.specs.Formats.{putRecs, Batch, encodeBatch, batchFields}
+use Rattle.replication.specs.Formats.{putRecs}
+use Rattle.replication.specs.BatchFormat.{Batch, encodeBatch, batchFields}
 use Rattle.replication.specs.Reading.{recsAt, validRecs}
 use Rattle.replication.specs.OpenBatch.{firstId, lastId, neededLength, learnedLength, batchCount, batchNeeded, batchLearned, batchTable, batchWith, batchAfter, batchFrom, decodeBatch, carried, validBatch, ifValidBatch, openBatch}
 use Rattle.replication.proofs.PartBytes.{part-over, part-reads, part-length, part-back, no-bytes, append-bytes, part-bytes, test-back, valid-back, both-left, both-right}

@@ -21,8 +21,10 @@ use Rattle.ticks.specs.Operations.{merge, coversFor}
 use Rattle.ticks.proofs.Operations.{known-merge, normal-merge}
 use Rattle.ticks.proofs.LawfulResults.{below-top, lawful-merge}
 use Rattle.ticks.proofs.ForCover.{covers-for-exact}
-use Rattle.replication.specs.Formats.{Store, encodeStore, Batch, find}
-use Rattle.replication.specs.Valid.{LawfulRec, ContainedIn, LawfulStore, LawfulBatch}
+use Rattle.replication.specs.Formats.{Store, encodeStore, find}
+use Rattle.replication.specs.BatchFormat.{Batch}
+use Rattle.replication.specs.Valid.{LawfulRec, ContainedIn, LawfulStore}
+use Rattle.replication.specs.ValidBatch.{LawfulBatch}
 use Rattle.replication.specs.OpenStore.{openStore}
 use Rattle.replication.specs.OpenBatch.{openBatch}
 use Rattle.replication.specs.Operate.{winnerOf, join, applied}

@@ -24,8 +24,10 @@ use Rattle.ticks.specs.Calls.{idOf}
 use Rattle.ticks.proofs.Operations.{known-normalise, normal-normalise, normal-project, known-project-inside, known-project-below, known-project-above}
 use Rattle.ticks.proofs.LawfulResults.{below-top, top-below, lawful-normalise, lawful-project}
 use Rattle.ticks.proofs.ForCalls.{id-is, Within}
-use Rattle.replication.specs.Formats.{Store, Batch, encodeBatch, find}
-use Rattle.replication.specs.Valid.{LawfulRec, ContainedIn, LawfulStore, LawfulBatch}
+use Rattle.replication.specs.Formats.{Store, find}
+use Rattle.replication.specs.BatchFormat.{Batch, encodeBatch}
+use Rattle.replication.specs.Valid.{LawfulRec, ContainedIn, LawfulStore}
+use Rattle.replication.specs.ValidBatch.{LawfulBatch}
 use Rattle.replication.specs.Reading.{both}
 use Rattle.replication.specs.OpenStore.{openStore}
 use Rattle.replication.specs.OpenBatch.{lacksChange, openBatch}

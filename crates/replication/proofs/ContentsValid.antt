@@ -22,8 +22,10 @@ use Rattle.ticks.proofs.Operations.{normal-test}
 use Rattle.ticks.proofs.Algebra.{contains-yes, contains-more, contains-exact, project-outside, project-same}
 use Rattle.ticks.proofs.Largest.{alike-exact}
 use Rattle.ticks.proofs.LawfulResults.{top-below, below-top}
-use Rattle.replication.specs.Formats.{Store, encodeStore, Batch, encodeBatch}
-use Rattle.replication.specs.Valid.{LawfulRec, ContainedIn, LawfulStore, LawfulBatch}
+use Rattle.replication.specs.Formats.{Store, encodeStore}
+use Rattle.replication.specs.BatchFormat.{Batch, encodeBatch}
+use Rattle.replication.specs.Valid.{LawfulRec, ContainedIn, LawfulStore}
+use Rattle.replication.specs.ValidBatch.{LawfulBatch}
 use Rattle.replication.specs.Reading.{both}
 use Rattle.replication.specs.OpenStore.{decodeStore, versionsIn, validStore, ifValid, openStore}
 use Rattle.replication.specs.OpenBatch.{decodeBatch, lacksChange, carried, validBatch, ifValidBatch, openBatch}

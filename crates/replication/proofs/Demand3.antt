@@ -21,7 +21,8 @@ use Rattle.ticks.specs.Calls.{idOf, wrongLength}
 use Rattle.ticks.proofs.Answers.{length-exact}
 use Rattle.ticks.proofs.ForCalls.{id-is}
 use Rattle.ticks.proofs.ForCover.{covers-for-exact}
-use Rattle.replication.specs.Formats.{Store, newStore, encodeStore, Batch, find}
+use Rattle.replication.specs.Formats.{Store, newStore, encodeStore, find}
+use Rattle.replication.specs.BatchFormat.{Batch}
 use Rattle.codec.specs.Number.{Bytes, put}
 use Rattle.codec.specs.Reply.{gives, refuses}
 use Rattle.codec.proofs.Numbers.{put-length, put-be}
@@ -30,10 +31,10 @@ use Rattle.replication.specs.OpenStore.{openStore}
 use Rattle.replication.specs.OpenBatch.{lacksChange, openBatch}
 use Rattle.ticks.specs.Table.{inSpan}
 use Rattle.replication.specs.Calls.{newReply, applyReply, ownAhead}
-use Rattle.replication.specs.Lists.{World, start, outcome, batchNumber, asked}
+use Rattle.replication.specs.Lists.{World, start, outcome, batchNumber}
+use Rattle.replication.specs.Batches.{asked, IsBatch, Carries, BatchAgrees, Batches}
 use Rattle.replication.specs.Machine.{Ticks, Remembered, State, initial, greatest, applies}
-use Rattle.replication.specs.Promise.{ends, machine, IsStore, IsBatch, Agrees, SameKnown, Twofold, Promise}
-use Rattle.replication.specs.Batches.{Carries, BatchAgrees, Batches}
+use Rattle.replication.specs.Promise.{ends, machine, IsStore, Agrees, Twofold, Promise}
 use Rattle.replication.proofs.Best.{holds-contained, greatest-top}
 use Rattle.replication.proofs.MachineGreatest.{greatest-equal}
 use Rattle.replication.proofs.MachineSteps.{numbered-mem, applies-commute, applies-twice}
@@ -163,11 +164,6 @@ module _ (R : Rules) (permitted : Permitted (R .limits)) (w : World) (m : State)
   number : (n : ℕ) (s : List ℕ) → batchNumber n (w .batches) ≡ some s → Numbered (R .limits) (m .versions) n s (m .batches)
   number n s e = paired-number (R .limits) (m .versions) n s (w .batches) (m .batches) (f .batches) e
 
-  batches-valid : (n : ℕ) (s : List ℕ) → batchNumber n (w .batches) ≡ some s → (b : Batch) × IsBatch (R .limits) s b
-  batches-valid n s e =
-      let x = number n s e in
-      (x .follows .b, record { bytes = x .follows .bytes; valid = x .follows .valid })
-
   pub batches-agree : (n : ℕ) (s : List ℕ) (ks : List (List ℕ)) (d : MadeAt R n s ks) → batchNumber n (w .batches) ≡ some s
       → BatchAgrees (R .limits) m n (d .for .given) s
   batches-agree n s ks d e =
@@ -192,7 +188,7 @@ module _ (R : Rules) (permitted : Permitted (R .limits)) (w : World) (m : State)
       store-one (R .limits) (w .stores p) (f .stores p small .st) st permitted
       (record { bytes = f .stores p small .bytes; valid = f .stores p small .valid }) x
 
-  pub equal-tables : (p q : ℕ) (a b : Store) → p < 256 ^ 16 → q < 256 ^ 16 → IsStore (R .limits) (w .stores p) a → IsStore (R .limits) (w .stores q) b → SameKnown a b → a .records ≡ b .records
+  pub equal-tables : (p q : ℕ) (a b : Store) → p < 256 ^ 16 → q < 256 ^ 16 → IsStore (R .limits) (w .stores p) a → IsStore (R .limits) (w .stores q) b → ((i r : ℕ) → i ≤ highest → r < 256 ^ 16 → known (a .knowledge) i r ≡ known (b .knowledge) i r) → a .records ≡ b .records
   equal-tables p q a b sp sq xa xb same =
       let ea : f .stores p sp .st ≡ a = follows-one p sp a xa in
       let eb : f .stores q sq .st ≡ b = follows-one q sq b xb in
@@ -211,7 +207,7 @@ module _ (R : Rules) (permitted : Permitted (R .limits)) (w : World) (m : State)
           go true e =
               sym (f .stores p sp .ticks i r h)
               ∙ (ap (λ (x : Store). known (x .knowledge) i r) ea
-              ∙ (same .same i r h (ltb-true r (256 ^ 16) e)
+              ∙ (same i r h (ltb-true r (256 ^ 16) e)
               ∙ (ap (λ (x : Store). known (x .knowledge) i r) (sym eb) ∙ f .stores q sq .ticks i r h)))
           go false e = f .good .strangers p i r (ltb-false r (256 ^ 16) e) ∙ sym (f .good .strangers q i r (ltb-false r (256 ^ 16) e))
 
@@ -316,11 +312,9 @@ demand3 R permitted calls given =
     record {
       begins = begin;
       agrees = agree R permitted w m f;
-      batches = batches-valid R permitted w m f;
       eitherOrder = λ p n1 n2 a b x y small ea eb t1 t2. either-order R permitted w m f p small n1 n2 a b x y ea eb t1 t2;
       twice = λ p n a x y room1 room2 small ea first second. twice-once R permitted w m f p small n room1 room2 a x y ea first second;
       equalTables = equal-tables R permitted w m f;
-      never18 = never-above R permitted w m f;
     }
 
 -- document 01's limits
@@ -344,6 +338,7 @@ demand3-batches R permitted calls given = record {
         agrees =
             batches-agree R permitted (ends R calls) (machine R calls) (ends-follow R permitted calls given) n s (asked R start calls) d e;
       };
+  never18 = never-above R permitted (ends R calls) (machine R calls) (ends-follow R permitted calls given);
 }
 
 pub demand3-batches-basic : (calls : List Call) → All Given calls → Batches basic calls

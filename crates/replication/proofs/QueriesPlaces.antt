@@ -12,7 +12,8 @@ use lib.ListN.{length}
 use Rattle.codec.specs.Parsed.{accepted}
 use Rattle.layout.specs.Knowledge.{Limits, All}
 use Rattle.replication.specs.Record.{Rec}
-use Rattle.replication.specs.Formats.{Store, Batch}
+use Rattle.replication.specs.Formats.{Store}
+use Rattle.replication.specs.BatchFormat.{Batch}
 use Rattle.replication.specs.Reading.{behind, recAt, whole, recsAt}
 use Rattle.replication.specs.OpenStore.{storeTable, openStore}
 use Rattle.replication.specs.OpenBatch.{batchTable, openBatch}

@@ -14,7 +14,8 @@ use Rattle.codec.proofs.Reading.{be-one}
 use Rattle.layout.specs.Knowledge.{Limits, All}
 use Rattle.layout.proofs.Chain.{Stands}
 use Rattle.replication.specs.Record.{Rec}
-use Rattle.replication.specs.Formats.{putRec, Store, Batch}
+use Rattle.replication.specs.Formats.{putRec, Store}
+use Rattle.replication.specs.BatchFormat.{Batch}
 use Rattle.replication.specs.Valid.{LawfulRec}
 use Rattle.replication.specs.Reading.{recLength, behind, recAt, whole}
 use Rattle.replication.specs.OpenStore.{storeTable, openStore}

@@ -26,7 +26,8 @@ use Rattle.ticks.specs.Calls.{idOf, wrongLength}
 use Rattle.ticks.proofs.Lists.{less, same, more, order}
 use Rattle.ticks.proofs.ForCalls.{id-is}
 use Rattle.ticks.proofs.Answers.{length-exact}
-use Rattle.replication.specs.Formats.{putRec, putRecs, Store, Batch, find}
+use Rattle.replication.specs.Formats.{putRec, putRecs, Store, find}
+use Rattle.replication.specs.BatchFormat.{Batch}
 use Rattle.replication.specs.Reading.{recLength, behind, recAt, whole}
 use Rattle.replication.proofs.QueriesPlaces.{places-whole, store-table, batch-table}
 use Rattle.replication.specs.OpenStore.{storeTable, openStore}

@@ -15,7 +15,8 @@ use Rattle.codec.specs.Reply.{Reply, gives, refuses, Line, firstFault}
 use Rattle.layout.specs.Knowledge.{Limits, anyId}
 use Rattle.ticks.specs.Operations.{merge}
 use Rattle.ticks.proofs.Lists.{Among}
-use Rattle.replication.specs.Formats.{Store, encodeStore, Batch}
+use Rattle.replication.specs.Formats.{Store, encodeStore}
+use Rattle.replication.specs.BatchFormat.{Batch}
 use Rattle.replication.specs.OpenStore.{openStore}
 use Rattle.replication.specs.OpenBatch.{openBatch}
 use Rattle.replication.specs.Operate.{join, applied}

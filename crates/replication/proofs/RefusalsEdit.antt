@@ -20,12 +20,11 @@ use Rattle.ticks.proofs.ForCalls.{id-is}
 use Rattle.replication.specs.Formats.{Store, encodeStore, find}
 use Rattle.replication.specs.OpenStore.{openStore}
 use Rattle.replication.specs.Operate.{changed}
-use Rattle.replication.specs.Calls.{storeOr, gone, exhausted, storeLines, editLines, edited, editReply, deleteLines, deleted, deleteReply, tombstone, liveContent, wrongBrought}
+use Rattle.replication.specs.Calls.{storeOr, gone, exhausted, storeLines, editLines, edited, editReply, deleteLines, deleted, deleteReply, tombstone, liveContent, wrongBrought, RightBrought}
 use Rattle.replication.proofs.RefusalsTable.{Rule, rule, Told, told-cons, At, only, refused-at, refused-among, given-none, refuses-same}
 use Rattle.replication.proofs.RefusalsTests.{Gone, Present, means-19, Exhausted, Unexhausted, means-20, means-length, means-lengths, rule11, rule12, rule13, told-store, opened-lawful}
 use Rattle.codec.specs.Parsed.{accepted, refused, Parsed, ownFault, readOr, line}
 use Rattle.replication.specs.Call.{Brought}
-use Rattle.replication.specs.Valid.{RightBrought}
 
 -- ---- the replies, by what opens
 

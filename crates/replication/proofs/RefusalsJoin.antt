@@ -17,7 +17,8 @@ use Rattle.layout.specs.Permitted.{Permitted}
 use Rattle.ticks.specs.Operations.{merge}
 use Rattle.ticks.specs.Table.{sorted}
 use Rattle.ticks.proofs.Lists.{Among, among-left, among-right, among-cases, sorted-in, sorted-only, sorted-rising, rising-unique}
-use Rattle.replication.specs.Formats.{Store, Batch, items, encodeStore}
+use Rattle.replication.specs.Formats.{Store, items, encodeStore}
+use Rattle.replication.specs.BatchFormat.{Batch}
 use Rattle.replication.specs.OpenStore.{versionsIn, openStore}
 use Rattle.replication.specs.OpenBatch.{carried, openBatch}
 use Rattle.replication.specs.Operate.{join, applied}

@@ -26,13 +26,15 @@ use Rattle.ticks.specs.Operations.{largest}
 use Rattle.ticks.proofs.ForCalls.{id-is}
 use Rattle.ticks.proofs.Largest.{largest-bounds}
 use Rattle.ticks.proofs.Meaning.{lawful-largest}
-use Rattle.replication.specs.Formats.{Store, Batch, find}
+use Rattle.replication.specs.Formats.{Store, find}
+use Rattle.replication.specs.BatchFormat.{Batch}
 use Rattle.replication.specs.OpenStore.{openStore}
 use Rattle.replication.specs.OpenBatch.{openBatch}
-use Rattle.replication.specs.Calls.{exhausted, editReply, deleteReply, makeReply, applyReply}
+use Rattle.replication.specs.Calls.{exhausted, editReply, deleteReply, makeReply, applyReply, RightBrought}
 use Rattle.replication.specs.Lists.{World, outcome, batchNumber}
 use Rattle.replication.specs.Machine.{Remembered, State, value, greatest, largestKnown, rememberedAt}
-use Rattle.replication.specs.Promise.{IsBatch, ends, machine}
+use Rattle.replication.specs.Promise.{ends, machine}
+use Rattle.replication.specs.Batches.{IsBatch}
 use Rattle.replication.proofs.AgreeInvariant.{store-octets, Follows, opens}
 use Rattle.replication.proofs.AgreeEdit.{largest-same}
 use Rattle.replication.proofs.AgreeRun.{paired-number, batch-open-at}
@@ -46,7 +48,6 @@ use Rattle.ticks.proofs.Lists.{Among}
 use Rattle.layout.specs.Parse.{parse}
 use Rattle.replication.proofs.Arguments.{id-value}
 use Rattle.replication.specs.Call.{Call, Given, Brought}
-use Rattle.replication.specs.Valid.{RightBrought}
 
 -- ---- the buffer
 

@@ -24,7 +24,8 @@ use Rattle.ticks.proofs.Lists.{Among}
 use Rattle.ticks.proofs.ForCalls.{id-is}
 use Rattle.codec.proofs.Replies.{read-accepted}
 use Rattle.codec.proofs.Replies.{read-fault, read-fine}
-use Rattle.replication.specs.Formats.{Store, Batch, encodeBatch}
+use Rattle.replication.specs.Formats.{Store}
+use Rattle.replication.specs.BatchFormat.{Batch, encodeBatch}
 use Rattle.replication.specs.OpenStore.{openStore}
 use Rattle.replication.specs.Operate.{made}
 use Rattle.replication.specs.Calls.{then, storeOr, tooManyRecords, makeLines, makes, makeReply}

@@ -29,15 +29,15 @@ use Rattle.ticks.proofs.Search.{covers-exact}
 use Rattle.ticks.proofs.ForCover.{covers-for-exact}
 use Rattle.ticks.proofs.LawfulResults.{lawful-sound, lawful-ticks}
 use Rattle.ticks.proofs.Largest.{largest-bounds, largest-attained}
-use Rattle.replication.specs.Formats.{Store, Batch}
+use Rattle.replication.specs.Formats.{Store}
+use Rattle.replication.specs.BatchFormat.{Batch}
 use Rattle.replication.specs.OpenStore.{openStore}
-use Rattle.replication.specs.Calls.{uncovered, ownAhead, gone, exhausted, tooManyRecords, storeLines, wrongBrought}
+use Rattle.replication.specs.Calls.{uncovered, ownAhead, gone, exhausted, tooManyRecords, storeLines, wrongBrought, RightBrought}
 use Rattle.replication.proofs.StoreBytes.{store-opened}
 use Rattle.replication.proofs.RefusalsTable.{Rule, rule, Means, FirstOf, NoneOf, Told, told-nil, told-cons, told-then}
 use Rattle.codec.specs.Parsed.{accepted, line}
 use Rattle.replication.specs.Record.{Rec}
 use Rattle.replication.specs.Call.{Brought}
-use Rattle.replication.specs.Valid.{RightBrought}
 
 -- ---- finite searches
 

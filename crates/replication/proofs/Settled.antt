@@ -18,8 +18,10 @@ use Rattle.ticks.proofs.Unique.{normal-unique}
 use Rattle.ticks.proofs.Algebra.{ticks-of-16}
 use Rattle.replication.specs.Record.{Content, Rec}
 use Rattle.replication.specs.Call.{ReplicaId, Call}
-use Rattle.replication.specs.Formats.{find, Store, encodeStore, Batch, encodeBatch}
-use Rattle.replication.specs.Valid.{LawfulStore, LawfulBatch}
+use Rattle.replication.specs.Formats.{find, Store, encodeStore}
+use Rattle.replication.specs.BatchFormat.{Batch, encodeBatch}
+use Rattle.replication.specs.Valid.{LawfulStore}
+use Rattle.replication.specs.ValidBatch.{LawfulBatch}
 use Rattle.replication.specs.Lists.{World}
 use Rattle.replication.specs.Machine.{Remembered, State}
 use Rattle.replication.specs.Promise.{Agrees, machine}

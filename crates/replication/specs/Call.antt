@@ -1,13 +1,12 @@
--- Calls of a list, as values: the runner of lists and the plain history machine share them. Document 01: "A list of calls in demand 3 has
--- edit, delete, make and apply, in any order, with any arguments and any output buffers, refused calls included."
+-- Calls of a list, as values, which the runner of lists and the plain history machine share. Document 01: "A list of calls in demand 3
+-- has edit, delete, make and apply, in any order, with any arguments and any output buffers, refused calls included."
 use Rattle.codec.specs.Prelude.{ℕ, _^_, _<_, Bool, List}
 use Rattle.codec.specs.Number.{Bytes}
 
 abbrev pub ReplicaId : ℕ → Type 0  -- the ids that lists speak of: those of 16 bytes
 ReplicaId p = p < 256 ^ 16
 
--- what an edit brings beside the item, as bytes of any number
-pub record Brought : Type 0 where
+pub record Brought : Type 0 where  -- what an edit brings beside the item, as bytes of any number
   pub tag : List ℕ
 
 -- a call: its replica's id, its arguments as bytes, for an apply the number of the batch in the order in which the list made them, and

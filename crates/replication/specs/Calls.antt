@@ -1,7 +1,7 @@
 -- The calls that write, on bytes. Each is a table of refusals in document 01's order, "Inputs are checked as given: …
 -- store before batch or knowledge, then 17; then 18, 19, 20; then the result (for make: needed before learned)", and
 -- the bytes where no line holds. 14, the output buffer shorter than the result, is looked for last, by `answer`.
-use Rattle.codec.specs.Prelude.{ℕ, Bool, true, false, not, _||_, List, [], _∷_, Option, none, some, eqb, ltb, leb, length}
+use Rattle.codec.specs.Prelude.{ℕ, Bool, true, false, not, _||_, List, [], _∷_, Option, none, some, eqb, ltb, leb, length, _≡_}
 use Rattle.codec.specs.Reply.{Reply, gives, Line, firstFault, refuses}
 use Rattle.layout.specs.Knowledge.{Limits, Rules, anyId, largestTick, Knowledge}
 use Rattle.layout.specs.Parse.{parse}
@@ -11,7 +11,8 @@ use Rattle.codec.specs.Parsed.{Parsed, readOr, line, ownFault}
 use Rattle.ticks.specs.Calls.{idOf, readAs, wrongLength, wrongSpan, resultLines}
 use Rattle.replication.specs.Record.{Content, Rec}
 use Rattle.replication.specs.Call.{Brought}
-use Rattle.replication.specs.Formats.{Store, newStore, encodeStore, Batch, encodeBatch, find}
+use Rattle.replication.specs.Formats.{Store, newStore, encodeStore, find}
+use Rattle.replication.specs.BatchFormat.{Batch, encodeBatch}
 use Rattle.replication.specs.Operate.{changed, made, applied}
 use Rattle.replication.specs.OpenStore.{openStore}
 use Rattle.replication.specs.OpenBatch.{openBatch}
@@ -61,6 +62,10 @@ newReply own = firstFault refuses (line 17 (wrongLength 16 own) ∷ []) (gives (
 -- edit: what it brings, live with the given tag. 17: the tag is not 16 bytes long
 unfoldable pub liveContent : Brought → Content
 liveContent b = record { deleted = false; tag = idOf 16 (b .tag) }
+
+-- 17: what an edit brings has its length
+pub record RightBrought (b : Brought) : Type 0 where
+  pub tag : length (b .tag) ≡ 16
 
 unfoldable pub wrongBrought : Brought → Bool
 wrongBrought b = wrongLength 16 (b .tag)

@@ -1,4 +1,4 @@
--- Records, stores and batches as values and as bytes. Document 01, "Records, store, batch".
+-- Records and stores as values and as bytes. Document 01, "Records, store, batch".
 use Rattle.codec.specs.Prelude.{ℕ, true, false, List, [], _∷_, _++_, Option, none, some, eqb, length}
 use Rattle.layout.specs.Knowledge.{Field, field, putFields, Knowledge, encode}
 use Rattle.ticks.specs.Meaning.{emptyKnowledge}
@@ -12,14 +12,8 @@ kindOf c = elim (c .deleted) [ true ↦ 2 | false ↦ 1 ]
 -- tombstone)"
 unfoldable pub recFields : Rec → List Field
 recFields r =
-    field 1 (kindOf (r .content)) ∷
-    field 24 (r .item) ∷
-    field 16 (r .changeReplica) ∷
-    field 8 (r .changeTick) ∷
-    field 16 (r .createReplica) ∷
-    field 8 (r .createTick) ∷
-    field 16 (r .content .tag) ∷
-    []
+    field 1 (kindOf (r .content)) ∷ field 24 (r .item) ∷ field 16 (r .changeReplica) ∷ field 8 (r .changeTick) ∷
+    field 16 (r .createReplica) ∷ field 8 (r .createTick) ∷ field 16 (r .content .tag) ∷ []
 
 -- a record's bytes in front of t
 unfoldable pub putRec : Rec → List ℕ → List ℕ
@@ -53,25 +47,3 @@ storeFields st = field 1 3 ∷ field 16 (st .own) ∷ field 4 (length (encode (s
 
 unfoldable pub encodeStore : Store → List ℕ
 encodeStore st = putFields (storeFields st) (encode (st .knowledge) ++ putRecs (st .records) [])
-
-pub record Batch : Type 0 where
-  pub first : ℕ
-  pub last : ℕ
-  pub needed : Knowledge
-  pub learned : Knowledge
-  pub records : List Rec
-
--- "Kind 4 batch, body 60: first 24, last 24, needed length 4, learned length 4, record count 4; then needed knowledge, learned
--- knowledge, records."
-unfoldable pub batchFields : Batch → List Field
-batchFields b =
-    field 1 4 ∷
-    field 24 (b .first) ∷
-    field 24 (b .last) ∷
-    field 4 (length (encode (b .needed))) ∷
-    field 4 (length (encode (b .learned))) ∷
-    field 4 (length (b .records)) ∷
-    []
-
-unfoldable pub encodeBatch : Batch → List ℕ
-encodeBatch b = putFields (batchFields b) (encode (b .needed) ++ (encode (b .learned) ++ putRecs (b .records) []))

@@ -3,6 +3,8 @@ pub mod Record
 pub mod Call
 pub mod Formats
 pub mod Valid
+pub mod BatchFormat
+pub mod ValidBatch
 pub mod Reading
 pub mod OpenStore
 pub mod OpenBatch

@@ -1,6 +1,5 @@
--- Lists of calls. Document 01: "A list of calls in demand 3 has edit, delete, make and apply, in any order, with any arguments and any
--- output buffers, refused calls included. It starts from stores that new returned, each under an id of its own." There is a replica
--- under each id of 16 bytes, so that a list may name any number of them and no two share an id.
+-- Lists of calls. Document 01: "It starts from stores that new returned, each under an id of its own." There is a replica under each
+-- id of 16 bytes, so that a list may name any number of them and no two share an id.
 use Rattle.codec.specs.Prelude.{ℕ, zero, suc, _^_, _<_, Bool, true, false, List, [], _∷_, _++_, Option, none, some, leb, eqb, length}
 use Rattle.codec.specs.Reply.{Reply, gives, refuses}
 use Rattle.layout.specs.Knowledge.{Limits, Rules}
@@ -37,8 +36,7 @@ writes R w (delete who item room) = outcome (deleteReply (R .limits) (w .stores 
 writes R w (make who knowledge first last room) = outcome (makeReply R (w .stores who) knowledge first last) room
 writes R w (apply who which room) = applyTo (R .limits) (w .stores who) (batchNumber which (w .batches)) room
 
--- a function with another value at one place
-unfoldable pub putAt : {A : Type 0} → ℕ → A → (ℕ → A) → ℕ → A
+unfoldable pub putAt : {A : Type 0} → ℕ → A → (ℕ → A) → ℕ → A  -- a function with another value at one place
 putAt p x f q = elim (eqb q p) [ true ↦ x | false ↦ f q ]
 
 -- "Each call gets its replica's store bytes as new or the last edit, delete or apply on that replica wrote them; a refused one leaves
@@ -56,16 +54,5 @@ run R w (c ∷ cs) = run R (keep w c (writes R w c)) cs
 
 unfoldable pub trace : Rules → World → List Call → List Fed
 trace R w [] = []
-trace R w (c ∷ cs) = record { call = c; refused = elim (writes R w c) [ none ↦ true | some bs ↦ false ] } ∷ trace R (keep w c (writes R w c)) cs
-
--- the knowledge bytes that the batches of a list were made for, the oldest first: those given to each make that writes
-unfoldable pub asks : Call → Option (List ℕ) → List (List ℕ)
-asks c none = []
-asks (make who knowledge first last room) (some bs) = knowledge ∷ []
-asks (edit who item brought room) (some bs) = []
-asks (delete who item room) (some bs) = []
-asks (apply who which room) (some bs) = []
-
-unfoldable pub asked : Rules → World → List Call → List (List ℕ)
-asked R w [] = []
-asked R w (c ∷ cs) = asks c (writes R w c) ++ asked R (keep w c (writes R w c)) cs
+trace R w (c ∷ cs) =
+    record { call = c; refused = elim (writes R w c) [ none ↦ true | some bs ↦ false ] } ∷ trace R (keep w c (writes R w c)) cs

@@ -1,6 +1,7 @@
 -- The plain history machine, literally document 01's. It takes nothing from the bytes of a store or batch and shares
 -- no definition with the calls: numbers, order of versions, span and create rule are its own.
-use Rattle.codec.specs.Prelude.{ℕ, zero, suc, max, _+_, _*_, _^_, Bool, true, false, List, [], _∷_, _++_, Option, none, some, leb, ltb, eqb}
+use Rattle.codec.specs.Prelude.{ℕ, zero, suc, max, _+_, _*_, _^_, Bool, true, false, List, [], _∷_, _++_}
+use Rattle.codec.specs.Prelude.{Option, none, some, leb, ltb, eqb}
 use Rattle.replication.specs.Record.{Content, Rec}
 use Rattle.replication.specs.Call.{Brought, Call, edit, delete, make, apply, Fed}
 
@@ -31,17 +32,19 @@ unfoldable pub supremum : ℕ → (ℕ → ℕ) → ℕ  -- the largest of f 0, 
 supremum zero f = 0
 supremum (suc n) f = max (supremum n f) (f n)
 
--- "the largest of the maker's known ticks", over all item ids and replica ids
-unfoldable pub largestKnown : Ticks → ℕ
+unfoldable pub largestKnown : Ticks → ℕ  -- "the largest of the maker's known ticks", over all item ids and replica ids
 largestKnown k = supremum (256 ^ 24) (λ i. supremum (256 ^ 16) (λ p. k i p))
 
 -- a version that ticks contain: its tick is 1 or more and at most the known one
 unfoldable pub holds : Ticks → Rec → Bool
 holds k r = elim (leb 1 (r .changeTick)) [ true ↦ leb (r .changeTick) (k (r .item) (r .changeReplica)) | false ↦ false ]
 
--- "by tick and then replica id": is the second version the greater
-unfoldable pub later : Rec → Rec → Bool
-later a b = elim (eqb (a .changeTick) (b .changeTick)) [ true ↦ ltb (a .changeReplica) (b .changeReplica) | false ↦ ltb (a .changeTick) (b .changeTick) ]
+unfoldable pub later : Rec → Rec → Bool  -- "by tick and then replica id": is the second version the greater
+later a b =
+    elim (eqb (a .changeTick) (b .changeTick)) [
+      | true ↦ ltb (a .changeReplica) (b .changeReplica)
+      | false ↦ ltb (a .changeTick) (b .changeTick)
+    ]
 
 unfoldable pub better : Rec → Option Rec → Rec
 better r none = r
@@ -57,24 +60,18 @@ greatest (r ∷ rs) k i =
     ]
 
 -- "with the create version of the maker's greatest contained version of the item or, if none, this version itself"
+abbrev pub recordWith : Content → ℕ → ℕ → ℕ → ℕ → ℕ → Rec
+recordWith content item who t p u =
+    record { item = item; changeReplica = who; changeTick = t; createReplica = p; createTick = u; content = content }
+
 unfoldable pub recordOf : Content → ℕ → ℕ → ℕ → Option Rec → Rec
-recordOf content item who t none =
-    record { item = item; changeReplica = who; changeTick = t; createReplica = who; createTick = t; content = content }
-recordOf content item who t (some g) =
-    record {
-      item = item;
-      changeReplica = who;
-      changeTick = t;
-      createReplica = g .createReplica;
-      createTick = g .createTick;
-      content = content;
-    }
+recordOf content item who t none = recordWith content item who t who t
+recordOf content item who t (some g) = recordWith content item who t (g .createReplica) (g .createTick)
 
 unfoldable pub withTicks : ℕ → Ticks → (ℕ → Ticks) → ℕ → Ticks  -- the ticks of one replica changed
 withTicks who k f q = elim (eqb who q) [ true ↦ k | false ↦ f q ]
 
--- "the maker's tick for itself becomes that for all items"
-unfoldable pub ownTick : ℕ → ℕ → Ticks → Ticks
+unfoldable pub ownTick : ℕ → ℕ → Ticks → Ticks  -- "the maker's tick for itself becomes that for all items"
 ownTick who t k i p = elim (eqb who p) [ true ↦ t | false ↦ k i p ]
 
 -- "Edit or delete: tick 1 + the largest of the maker's known ticks; the record … joins the versions made"
@@ -88,8 +85,7 @@ changes content who item m =
       batches = m .batches;
     }
 
--- "Apply: inside the span each known tick becomes the larger"
-unfoldable pub learns : Remembered → Ticks → Ticks
+unfoldable pub learns : Remembered → Ticks → Ticks  -- "Apply: inside the span each known tick becomes the larger"
 learns b k i p =
     elim (ltb i (b .first)) [ true ↦ k i p | false ↦ elim (ltb (b .last) i) [ true ↦ k i p | false ↦ max (k i p) (b .ticks i p) ] ]
 
@@ -109,8 +105,7 @@ live b = record { deleted = false; tag = value 0 (b .tag) }
 unfoldable pub dead : Content  -- "or a tombstone", whose tag is zeros
 dead = record { deleted = true; tag = 0 }
 
--- one call that was not refused
-unfoldable pub acts : State → Call → State
+unfoldable pub acts : State → Call → State  -- one call that was not refused
 acts m (edit who item b room) = changes (live b) who (value 0 item) m
 acts m (delete who item room) = changes dead who (value 0 item) m
 acts m (make who knowledge first last room) =
@@ -118,7 +113,6 @@ acts m (make who knowledge first last room) =
     record { versions = m .versions; ticks = m .ticks; batches = m .batches ++ (b ∷ []) }
 acts m (apply who which room) = applies who (rememberedAt which (m .batches)) m
 
--- "A refused call does nothing"
-unfoldable pub history : State → List Fed → State
+unfoldable pub history : State → List Fed → State  -- "A refused call does nothing"
 history m [] = m
 history m (x ∷ xs) = history (elim (x .refused) [ true ↦ m | false ↦ acts m (x .call) ]) xs

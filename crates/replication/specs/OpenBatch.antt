@@ -9,7 +9,7 @@ use Rattle.ticks.specs.Written.{isNormal, eqKnowledge}
 use Rattle.ticks.specs.Table.{inSpan}
 use Rattle.ticks.specs.Operations.{project}
 use Rattle.replication.specs.Record.{Rec}
-use Rattle.replication.specs.Formats.{Batch}
+use Rattle.replication.specs.BatchFormat.{Batch}
 use Rattle.replication.specs.Reading.{both, recsAt, validRecs}
 use Rattle.replication.specs.OpenStore.{versionsIn}
 use Rattle.codec.specs.Parsed.{Parsed, accepted, refused}

@@ -3,7 +3,8 @@ use Rattle.codec.specs.Prelude.{ℕ, zero, suc, _+_, Bool, true, false, List, [
 use Rattle.layout.specs.Knowledge.{Knowledge}
 use Rattle.ticks.specs.Operations.{normalise, merge, project, raise, largest}
 use Rattle.replication.specs.Record.{Content, Rec}
-use Rattle.replication.specs.Formats.{find, Store, Batch}
+use Rattle.replication.specs.Formats.{find, Store}
+use Rattle.replication.specs.BatchFormat.{Batch}
 use Rattle.replication.specs.Reading.{both}
 use Rattle.replication.specs.OpenBatch.{lacksChange}
 use Rattle.ticks.specs.Table.{inSpan}

@@ -5,8 +5,8 @@ use Rattle.codec.specs.Reply.{gives}
 use Rattle.layout.specs.Knowledge.{Limits, Rules}
 use Rattle.ticks.specs.Meaning.{highest, known}
 use Rattle.replication.specs.Call.{ReplicaId, Call}
-use Rattle.replication.specs.Formats.{find, Store, encodeStore, Batch, encodeBatch}
-use Rattle.replication.specs.Valid.{LawfulStore, LawfulBatch}
+use Rattle.replication.specs.Formats.{find, Store, encodeStore}
+use Rattle.replication.specs.Valid.{LawfulStore}
 use Rattle.replication.specs.Calls.{newReply, applyReply}
 use Rattle.replication.specs.Lists.{World, start, run, trace, outcome, batchNumber}
 use Rattle.replication.specs.Machine.{State, initial, history, greatest}
@@ -25,14 +25,10 @@ storeAfter R calls p = ends R calls .stores p
 abbrev pub batchOf : Rules → List Call → ℕ → Option (List ℕ)
 batchOf R calls n = batchNumber n (ends R calls .batches)
 
--- s are the bytes of a store that meets document 01's list "A valid store"; and so for a batch
+-- s are the bytes of a store that meets document 01's list "A valid store"
 pub record IsStore (L : Limits) (s : List ℕ) (st : Store) : Type 0 where
   pub bytes : s ≡ encodeStore st
   pub valid : LawfulStore L st
-
-pub record IsBatch (L : Limits) (s : List ℕ) (b : Batch) : Type 0 where
-  pub bytes : s ≡ encodeBatch b
-  pub valid : LawfulBatch L b
 
 -- the store bytes s of replica p: of a valid store, under its own id, and compared with the machine
 pub record Agrees (L : Limits) (s : List ℕ) (m : State) (p : ℕ) : Type 0 where
@@ -44,10 +40,6 @@ pub record Agrees (L : Limits) (s : List ℕ) (m : State) (p : ℕ) : Type 0 whe
   -- "its records, by rising item id, are, for each item with versions made that this replica's ticks in the machine contain, the whole
   -- record of the greatest of these, by tick and then replica id, and no others"; they rise because the store is valid
   pub records : (i : ℕ) → i ≤ highest → find i (store .records) ≡ greatest (m .versions) (m .ticks p) i
-
--- two stores know the same ticks
-pub record SameKnown (a b : Store) : Type 0 where
-  pub same : (i q : ℕ) → i ≤ highest → ReplicaId q → known (a .knowledge) i q ≡ known (b .knowledge) i q
 
 -- one apply after the other, into buffers of any lengths; the bytes are there where neither is refused
 pub record Twofold (L : Limits) (s a b : List ℕ) (result : List ℕ) : Type 0 where
@@ -61,8 +53,6 @@ pub record Promise (R : Rules) (calls : List Call) : Type 0 where
   -- "It starts from stores that new returned, each under an id of its own"
   pub begins : (p : ℕ) → ReplicaId p → newReply (put 16 p []) ≡ gives (start .stores p)
   pub agrees : (p : ℕ) → ReplicaId p → Agrees (R .limits) (storeAfter R calls p) (machine R calls) p
-  -- every batch made is valid
-  pub batches : (n : ℕ) (s : List ℕ) → batchOf R calls n ≡ some s → (b : Batch) × IsBatch (R .limits) s b
   -- two batches of the list in either order end in the same store bytes, and one twice as once, wherever none of these applies is refused
   pub eitherOrder : (p m n : ℕ) (a b x y : List ℕ) → ReplicaId p → batchOf R calls m ≡ some a → batchOf R calls n ≡ some b
       → Twofold (R .limits) (storeAfter R calls p) a b x → Twofold (R .limits) (storeAfter R calls p) b a y → x ≡ y
@@ -71,8 +61,5 @@ pub record Promise (R : Rules) (calls : List Call) : Type 0 where
       → outcome (applyReply (R .limits) x a) secondRoom ≡ some y → x ≡ y
   -- two replicas with equal knowledge hold equal tables
   pub equalTables : (p q : ℕ) (a b : Store) → ReplicaId p → ReplicaId q → IsStore (R .limits) (storeAfter R calls p) a
-      → IsStore (R .limits) (storeAfter R calls q) b → SameKnown a b → a .records ≡ b .records
-  -- the second half of 18 is never met: learned never has a tick of the store's own replica above the store's
-  pub never18 : (p n i : ℕ) (s : List ℕ) (st : Store) (b : Batch) → ReplicaId p → i ≤ highest → batchOf R calls n ≡ some s
-      → IsStore (R .limits) (storeAfter R calls p) st → IsBatch (R .limits) s b
-      → known (b .learned) i (st .own) ≤ known (st .knowledge) i (st .own)
+      → IsStore (R .limits) (storeAfter R calls q) b
+      → ((i r : ℕ) → i ≤ highest → ReplicaId r → known (a .knowledge) i r ≡ known (b .knowledge) i r) → a .records ≡ b .records

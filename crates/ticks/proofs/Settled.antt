@@ -20,8 +20,8 @@ use Rattle.ticks.specs.Calls.{containNumber, containValue, leadNumber, l
 use Rattle.ticks.specs.declared.Contain.{Contain}
 use Rattle.ticks.specs.declared.Lead.{Lead}
 use Rattle.ticks.specs.declared.Cover.{Cover}
-use Rattle.ticks.specs.Answers.{RefusedWith, Decides, ContainSays, Difference, LeadSays, AtLeast, ProperIds, ProperSpan, CoverSays}
-use Rattle.ticks.specs.Demand2.{SameVersions, NormalBytes, Normalised, Merged}
+use Rattle.ticks.specs.Answers.{RefusedWith, ContainSays, Difference, LeadSays, AtLeast, ProperIds, ProperSpan, CoverSays}
+use Rattle.ticks.specs.Demand2.{SameVersions, NormalBytes, Normalised, Merged, Decides}
 use Rattle.ticks.specs.Results.{Projected}
 use Rattle.ticks.proofs.Equality.{clash, eqb-exact, exact?}
 use Rattle.ticks.proofs.Answers.{wrong-ids-exact, span-exact}

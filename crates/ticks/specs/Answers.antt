@@ -6,6 +6,7 @@ use Rattle.codec.specs.Number.{Bytes, beAt}
 use Rattle.layout.specs.Knowledge.{Rules, Knowledge}
 use Rattle.layout.specs.Parse.{parse}
 use Rattle.ticks.specs.Meaning.{known}
+use Rattle.ticks.specs.Demand2.{Decides}
 use Rattle.ticks.specs.declared.Contain.{Contain}
 use Rattle.ticks.specs.declared.Lead.{Lead}
 use Rattle.ticks.specs.declared.Cover.{Cover}
@@ -17,12 +18,6 @@ use Rattle.codec.specs.Parsed.{accepted, refused}
 pub record RefusedWith {A B : Type 0} (number : A → ℕ) (value : A → B → B) (answer : A) (n : ℕ) : Type 0 where
   pub told : number answer ≡ n
   pub stays : (old : B) → value answer old ≡ old
-
--- an answer says whether P holds: its number is 0, its value 1 exactly where P holds and 0 exactly where it does not
-pub record Decides {A : Type 0} (number : A → ℕ) (value : A → ℕ → ℕ) (answer : A) (P : Type 0) : Type 0 where
-  pub fine : number answer ≡ 0
-  pub yes : (old : ℕ) → (value answer old ≡ 1) ↔ P
-  pub no : (old : ℕ) → (value answer old ≡ 0) ↔ (P → ⊥)
 
 -- ids that 17 does not refuse: an item id of 24 bytes and a replica id of 16
 abbrev pub ProperIds : List ℕ → List ℕ → Type 0

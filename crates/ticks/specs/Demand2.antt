@@ -8,7 +8,6 @@ use Rattle.layout.specs.Knowledge.{Rules, Knowledge, Lawful, encode}
 use Rattle.layout.specs.Parse.{parse}
 use Rattle.ticks.specs.Meaning.{highest, known, contains, Normal}
 use Rattle.ticks.specs.Calls.{containNumber, containValue, containAnswer, normaliseReply, mergeReply}
-use Rattle.ticks.specs.Answers.{Decides}
 use Rattle.codec.specs.Parsed.{accepted}
 
 -- the same versions are contained: for every item id of 24 bytes, replica id of 16 bytes and tick
@@ -39,6 +38,12 @@ pub record Merged (R : Rules) (s t bs : List ℕ) : Type 0 where
   pub normal : NormalBytes R bs result
   pub versions : (i p v : ℕ) → i ≤ highest → p < 256 ^ 16
       → (contains result i p v ≡ true) ↔ ((contains one i p v ≡ true) ⊎ (contains other i p v ≡ true))
+
+-- an answer says whether P holds: its number is 0, its value 1 exactly where P holds and 0 exactly where it does not
+pub record Decides {A : Type 0} (number : A → ℕ) (value : A → ℕ → ℕ) (answer : A) (P : Type 0) : Type 0 where
+  pub fine : number answer ≡ 0
+  pub yes : (old : ℕ) → (value answer old ≡ 1) ↔ P
+  pub no : (old : ℕ) → (value answer old ≡ 0) ↔ (P → ⊥)
 
 -- the five claims of the demand, one after the other
 pub record Demand2 (R : Rules) : Type 0 where
