@@ -3,4 +3,5 @@ pub mod Given
 pub mod Spelled
 pub mod Table
 pub mod NotNormal
+pub mod Broken
 pub mod Listed

@@ -16,6 +16,10 @@ pub mod MachineFresh
 pub mod AgreeLines
 pub mod Arguments
 pub mod ContentsValid
+pub mod BrokenRecords
+pub mod BrokenStore
+pub mod BrokenBatch
+pub mod BrokenBytes
 pub mod ContentsMake
 pub mod ContentsEdit
 pub mod ContentsApply
