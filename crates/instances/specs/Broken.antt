@@ -10,7 +10,8 @@ use Rattle.codec.specs.Parsed.{accepted, refused}
 use Rattle.layout.specs.Knowledge.{Limits, Knowledge}
 use Rattle.ticks.specs.Meaning.{highest}
 use Rattle.replication.specs.Record.{Rec}
-use Rattle.replication.specs.Formats.{Store, encodeStore, Batch, encodeBatch}
+use Rattle.replication.specs.Formats.{Store, encodeStore}
+use Rattle.replication.specs.BatchFormat.{Batch, encodeBatch}
 use Rattle.replication.specs.OpenStore.{openStore}
 use Rattle.replication.specs.OpenBatch.{openBatch}
 use Rattle.instances.specs.Given.{emptyValue, el, ran, one, two, again, fresh, store}

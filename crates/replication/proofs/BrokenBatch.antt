@@ -21,8 +21,9 @@ use Rattle.ticks.specs.Operations.{project}
 use Rattle.ticks.proofs.Algebra.{project-outside, project-same}
 use Rattle.ticks.proofs.LawfulResults.{top-below, below-top}
 use Rattle.replication.specs.Record.{Rec}
-use Rattle.replication.specs.Formats.{Batch, encodeBatch}
-use Rattle.replication.specs.Valid.{LawfulRec, ContainedIn, LawfulBatch}
+use Rattle.replication.specs.BatchFormat.{Batch, encodeBatch}
+use Rattle.replication.specs.Valid.{LawfulRec, ContainedIn}
+use Rattle.replication.specs.ValidBatch.{LawfulBatch}
 use Rattle.replication.specs.OpenBatch.{openBatch, decodeBatch}
 use Rattle.replication.proofs.RecordBytes.{FitsRec}
 use Rattle.replication.proofs.BatchBytes.{FitsBatch, batch-bytes, batch-decode}

@@ -21,7 +21,8 @@ use Rattle.layout.proofs.Runs.{ReadAs, run-reads}
 use Rattle.layout.proofs.Exact.{exact}
 use Rattle.ticks.specs.Meaning.{Normal}
 use Rattle.ticks.proofs.Operations.{normal-test}
-use Rattle.replication.specs.Formats.{putRecs, Store, storeFields, encodeStore, Batch, batchFields, encodeBatch}
+use Rattle.replication.specs.Formats.{putRecs, Store, storeFields, encodeStore}
+use Rattle.replication.specs.BatchFormat.{Batch, batchFields, encodeBatch}
 use Rattle.replication.specs.OpenStore.{openStore}
 use Rattle.replication.specs.OpenBatch.{openBatch}
 use Rattle.replication.proofs.PartBytes.{part-over, part-reads}
