@@ -1,14 +1,14 @@
 -- 15 and 16 for what no value of a store or batch can show: the byte of kind, the exact length, a record of no known kind, and
 -- knowledge bytes that are of no knowledge in normal form. Each law holds for any bytes, by the places of the fields as document 01
 -- gives them: a store has its knowledge length at 17, its record count at 21 and its knowledge at 25; a batch has its
--- lengths at 49 and 53, its record count at 57 and its needed knowledge at 61; a record has 89 bytes. Bytes that open were read
--- there field by field, and the records up to the very end.
+-- lengths at 49 and 53, its record count at 57 and its needed knowledge at 61. Bytes that open were read
+-- there field by field, and the records one behind the other up to the very end.
 use Prim.Native.Nat.{ℕ, _+_, _*_, _^_, _≤_, _<_}
 use mathlib.Core.Path.{_≡_, refl, sym, ap, ap₂, _∙_}
 use mathlib.Core.Logic.{inl, inr}
 use mathlib.Core.List.{List, [], _∷_, _++_}
 use native.Mathlib.Omega.{arith}
-use lib.ListN.{length, getD, take, drop, length-append, length-take}
+use lib.ListN.{length, getD, take, drop, length-append, length-drop, take-append-drop}
 use lib.Seq.{take-append-seam}
 use Rattle.codec.specs.Number.{Bytes, beAt}
 use Rattle.codec.specs.Parsed.{Parsed, accepted, refused}
@@ -30,7 +30,7 @@ use Rattle.replication.proofs.RecordBytes.{KnownKind}
 use Rattle.replication.proofs.StoreBytes.{store-read, valid-store}
 use Rattle.replication.proofs.BatchBytes.{batch-read, valid-batch}
 use Rattle.replication.proofs.ContentsValid.{store-number, batch-number}
-use Rattle.replication.proofs.BrokenRecords.{recs-length, recs-kinds}
+use Rattle.replication.proofs.BrokenRecords.{behindAll, recs-length, recs-kinds, behind-more}
 
 -- ---- reading
 
@@ -45,7 +45,7 @@ no-kind x (inl e) a b = absurd (a e)
 no-kind x (inr e) a b = absurd (b e)
 
 -- knowledge bytes that are of a lawful knowledge in normal form
-pub record NormalBytes (L : Limits) (s : List ℕ) : Type 0 where
+pub record OfNormalForm (L : Limits) (s : List ℕ) : Type 0 where
   pub knowledge : Knowledge
   pub bytes : s ≡ encode knowledge
   pub lawful : Lawful (anyId L) knowledge
@@ -61,7 +61,7 @@ module _ (L : Limits) (s : List ℕ) where
       go (refused k) e = e ∙ ap refused (store-number L s k e)
       go (accepted st) e = absurd (n st e)
 
-  store-sized : (st : Store) → openStore L s ≡ accepted st → length s ≡ 25 + beAt s 4 17 + 89 * beAt s 4 21
+  store-sized : (st : Store) → openStore L s ≡ accepted st → length s ≡ behindAll s (25 + beAt s 4 17) (beAt s 4 21)
   store-sized st e = recs-length s (beAt s 4 21) (25 + beAt s 4 17) (st .records) (store-read L s st e .0 .records)
 
   -- the byte of kind is not 3
@@ -69,21 +69,21 @@ module _ (L : Limits) (s : List ℕ) where
   store-kind n = store-refused (λ st e. n (sym (one-byte s 0) ∙ store-read L s st e .0 .kind))
 
   -- "exact length": the length is not that of the header, the knowledge and the records
-  pub store-length : (length s ≡ 25 + beAt s 4 17 + 89 * beAt s 4 21 → ⊥) → openStore L s ≡ refused 15
+  pub store-length : (length s ≡ behindAll s (25 + beAt s 4 17) (beAt s 4 21) → ⊥) → openStore L s ≡ refused 15
   store-length n = store-refused (λ st e. n (store-sized st e))
 
   -- a record of no known kind
-  pub store-record-kind : (j : ℕ) → j < beAt s 4 21 → (getD s (25 + beAt s 4 17 + 89 * j) 0 ≡ 1 → ⊥) →
-      (getD s (25 + beAt s 4 17 + 89 * j) 0 ≡ 2 → ⊥) → openStore L s ≡ refused 15
+  pub store-record-kind : (j : ℕ) → j < beAt s 4 21 → (getD s (behindAll s (25 + beAt s 4 17) j) 0 ≡ 1 → ⊥) →
+      (getD s (behindAll s (25 + beAt s 4 17) j) 0 ≡ 2 → ⊥) → openStore L s ≡ refused 15
   store-record-kind j l a b =
       store-refused (λ st e.
-      let x = 25 + beAt s 4 17 + 89 * j in
+      let x = behindAll s (25 + beAt s 4 17) j in
       no-kind (beAt s 1 x) (recs-kinds s (beAt s 4 21) (25 + beAt s 4 17) (st .records) (store-read L s st e .0 .records) j l)
       (λ h. a (sym (one-byte s x) ∙ h)) (λ h. b (sym (one-byte s x) ∙ h)))
 
   -- the knowledge bytes are of no lawful knowledge in normal form, or the check of knowledge refuses them
   module _ (permitted : Permitted L) (kb : List ℕ) (bytes : Bytes kb) (part : take (beAt s 4 17) (drop 25 s) ≡ kb) where
-    pub store-knowledge : (NormalBytes L kb → ⊥) → openStore L s ≡ refused 15
+    pub store-knowledge : (OfNormalForm L kb → ⊥) → openStore L s ≡ refused 15
     store-knowledge n =
         store-refused (λ st e.
         let o = store-read L s st e in
@@ -101,35 +101,38 @@ module _ (L : Limits) (s : List ℕ) where
 pub store-bytes-behind : (L : Limits) (s t : List ℕ) (st : Store) → openStore L s ≡ accepted st → 1 ≤ length t →
     openStore L (s ++ t) ≡ refused 15
 store-bytes-behind L s t st e l =
-    let z = store-sized L s st e in
-    store-length L (s ++ t)
-    (λ h. omega (arith, z, h, length-append s t, front-reads s t 4 17 (omega (arith, z)), front-reads s t 4 21 (omega (arith, z)), l))
+    let o = store-read L s st e .0 in
+    let size : beAt (s ++ t) 4 17 ≡ beAt s 4 17 = front-reads s t 4 17 (omega (arith, o .inside)) in
+    let count : beAt (s ++ t) 4 21 ≡ beAt s 4 21 = front-reads s t 4 21 (omega (arith, o .inside)) in
+    let same = ap₂ (λ (x y : ℕ). behindAll (s ++ t) (25 + x) y) size count
+    ∙ behind-more s t (beAt s 4 21) (25 + beAt s 4 17) (st .records) (o .records) (front-reads s t) in
+    store-length L (s ++ t) (λ h. omega (arith, store-sized L s st e, h, same, length-append s t, l))
 
 pub store-bytes-missing : (L : Limits) (s : List ℕ) (n : ℕ) (st : Store) → openStore L s ≡ accepted st → n < length s →
     openStore L (take n s) ≡ refused 15
 store-bytes-missing L s n st e l =
-    let z = store-sized L s st e in
-    let m = length-take n s in
-    store-length L (take n s)
-    (λ h.
-    let big : 25 ≤ n = omega (arith, m, h, l) in
-    omega (arith, z, h, m, be-take s 4 17 n (omega (arith, big)), be-take s 4 21 n (omega (arith, big)), l))
+    store-refused L (take n s)
+    (λ u f.
+    let g : openStore L s ≡ refused 15 =
+    ap (openStore L) (sym (take-append-drop n s)) ∙ store-bytes-behind L (take n s) (drop n s) u f (omega (arith, length-drop n s, l)) in
+    let z : _≡_ {A = ℕ} 0 1 = cc in
+    omega arith)
 
 -- a store by its parts: the header, knowledge bytes, and what follows them
-abbrev pub storeOf : ℕ → ℕ → List ℕ → List ℕ → List ℕ
-storeOf own count kb t = putFields (field 1 3 ∷ field 16 own ∷ field 4 (length kb) ∷ field 4 count ∷ []) (kb ++ t)
+abbrev pub storeParts : ℕ → ℕ → List ℕ → List ℕ → List ℕ
+storeParts own count kb t = putFields (field 1 3 ∷ field 16 own ∷ field 4 (length kb) ∷ field 4 count ∷ []) (kb ++ t)
 
 pub store-of : (st : Store) →
-    encodeStore st ≡ storeOf (st .own) (length (st .records)) (encode (st .knowledge)) (putRecs (st .records) [])
+    encodeStore st ≡ storeParts (st .own) (length (st .records)) (encode (st .knowledge)) (putRecs (st .records) [])
 unfolding encodeStore storeFields
 store-of st = refl
 
 pub store-parts-knowledge : (L : Limits) (own count : ℕ) (kb t : List ℕ) → Permitted L → own < 256 ^ 16 → count < 256 ^ 4 →
     length kb < 256 ^ 4 → Bytes kb →
-    (NormalBytes L kb → ⊥) → openStore L (storeOf own count kb t) ≡ refused 15
+    (OfNormalForm L kb → ⊥) → openStore L (storeParts own count kb t) ≡ refused 15
 store-parts-knowledge L own count kb t permitted a b c bytes n =
     let fs = field 1 3 ∷ field 16 own ∷ field 4 (length kb) ∷ field 4 count ∷ [] in
-    let s = storeOf own count kb t in
+    let s = storeParts own count kb t in
     let w : ReadAs s 0 0 fs =
     run-reads s 0 0 fs (kb ++ t) (stands-whole s) (record { below = omega arith }, (record { below = a }, (record { below = c }, (record { below = b }, tt)))) in
     let at : Stands s 25 (kb ++ t) = fields-over s 0 fs (kb ++ t) (stands-whole s) in
@@ -145,7 +148,7 @@ module _ (L : Limits) (s : List ℕ) where
       go (refused k) e = e ∙ ap refused (batch-number L s k e)
       go (accepted b) e = absurd (n b e)
 
-  batch-sized : (b : Batch) → openBatch L s ≡ accepted b → length s ≡ 61 + beAt s 4 49 + beAt s 4 53 + 89 * beAt s 4 57
+  batch-sized : (b : Batch) → openBatch L s ≡ accepted b → length s ≡ behindAll s (61 + beAt s 4 49 + beAt s 4 53) (beAt s 4 57)
   batch-sized b e = recs-length s (beAt s 4 57) (61 + beAt s 4 49 + beAt s 4 53) (b .records) (batch-read L s b e .0 .records)
 
   -- the byte of kind is not 4
@@ -153,28 +156,28 @@ module _ (L : Limits) (s : List ℕ) where
   batch-kind n = batch-refused (λ b e. n (sym (one-byte s 0) ∙ batch-read L s b e .0 .kind))
 
   -- "exact length"
-  pub batch-length : (length s ≡ 61 + beAt s 4 49 + beAt s 4 53 + 89 * beAt s 4 57 → ⊥) → openBatch L s ≡ refused 16
+  pub batch-length : (length s ≡ behindAll s (61 + beAt s 4 49 + beAt s 4 53) (beAt s 4 57) → ⊥) → openBatch L s ≡ refused 16
   batch-length n = batch-refused (λ b e. n (batch-sized b e))
 
   -- a record of no known kind
-  pub batch-record-kind : (j : ℕ) → j < beAt s 4 57 → (getD s (61 + beAt s 4 49 + beAt s 4 53 + 89 * j) 0 ≡ 1 → ⊥) →
-      (getD s (61 + beAt s 4 49 + beAt s 4 53 + 89 * j) 0 ≡ 2 → ⊥) → openBatch L s ≡ refused 16
+  pub batch-record-kind : (j : ℕ) → j < beAt s 4 57 → (getD s (behindAll s (61 + beAt s 4 49 + beAt s 4 53) j) 0 ≡ 1 → ⊥) →
+      (getD s (behindAll s (61 + beAt s 4 49 + beAt s 4 53) j) 0 ≡ 2 → ⊥) → openBatch L s ≡ refused 16
   batch-record-kind j l a c =
       batch-refused (λ b e.
-      let x = 61 + beAt s 4 49 + beAt s 4 53 + 89 * j in
+      let x = behindAll s (61 + beAt s 4 49 + beAt s 4 53) j in
       no-kind (beAt s 1 x) (recs-kinds s (beAt s 4 57) (61 + beAt s 4 49 + beAt s 4 53) (b .records) (batch-read L s b e .0 .records) j l)
       (λ h. a (sym (one-byte s x) ∙ h)) (λ h. c (sym (one-byte s x) ∙ h)))
 
   -- the bytes of needed, or of learned, are of no lawful knowledge in normal form, or the check of knowledge refuses them
   module _ (permitted : Permitted L) (kb : List ℕ) (bytes : Bytes kb) where
-    pub batch-needed : take (beAt s 4 49) (drop 61 s) ≡ kb → (NormalBytes L kb → ⊥) → openBatch L s ≡ refused 16
+    pub batch-needed : take (beAt s 4 49) (drop 61 s) ≡ kb → (OfNormalForm L kb → ⊥) → openBatch L s ≡ refused 16
     batch-needed part n =
         batch-refused (λ b e.
         let o = batch-read L s b e in
         let x = exact (anyId L) permitted kb (b .needed) bytes .0 (sym (ap (parse (anyId L)) part) ∙ o .0 .needed) in
         n (record { knowledge = b .needed; bytes = x .0; lawful = x .1; normal = normal-test (b .needed) .0 (valid-batch L b .0 (o .1) .needed) }))
 
-    pub batch-learned : take (beAt s 4 53) (drop (61 + beAt s 4 49) s) ≡ kb → (NormalBytes L kb → ⊥) → openBatch L s ≡ refused 16
+    pub batch-learned : take (beAt s 4 53) (drop (61 + beAt s 4 49) s) ≡ kb → (OfNormalForm L kb → ⊥) → openBatch L s ≡ refused 16
     batch-learned part n =
         batch-refused (λ b e.
         let o = batch-read L s b e in
@@ -200,56 +203,42 @@ module _ (L : Limits) (s : List ℕ) where
 pub batch-bytes-behind : (L : Limits) (s t : List ℕ) (b : Batch) → openBatch L s ≡ accepted b → 1 ≤ length t →
     openBatch L (s ++ t) ≡ refused 16
 batch-bytes-behind L s t b e l =
-    let z = batch-sized L s b e in
-    batch-length L (s ++ t)
-    (λ h.
-    omega (
-      arith,
-      z,
-      h,
-      length-append s t,
-      front-reads s t 4 49 (omega (arith, z)),
-      front-reads s t 4 53 (omega (arith, z)),
-      front-reads s t 4 57 (omega (arith, z)),
-      l,
-    ))
+    let o = batch-read L s b e .0 in
+    let needed : beAt (s ++ t) 4 49 ≡ beAt s 4 49 = front-reads s t 4 49 (omega (arith, o .inside)) in
+    let learned : beAt (s ++ t) 4 53 ≡ beAt s 4 53 = front-reads s t 4 53 (omega (arith, o .inside)) in
+    let count : beAt (s ++ t) 4 57 ≡ beAt s 4 57 = front-reads s t 4 57 (omega (arith, o .inside)) in
+    let same = ap₂ (λ (x y : ℕ). behindAll (s ++ t) (61 + x + y) (beAt (s ++ t) 4 57)) needed learned
+    ∙ (ap (behindAll (s ++ t) (61 + beAt s 4 49 + beAt s 4 53)) count
+    ∙ behind-more s t (beAt s 4 57) (61 + beAt s 4 49 + beAt s 4 53) (b .records) (o .records) (front-reads s t)) in
+    batch-length L (s ++ t) (λ h. omega (arith, batch-sized L s b e, h, same, length-append s t, l))
 
 pub batch-bytes-missing : (L : Limits) (s : List ℕ) (n : ℕ) (b : Batch) → openBatch L s ≡ accepted b → n < length s →
     openBatch L (take n s) ≡ refused 16
 batch-bytes-missing L s n b e l =
-    let z = batch-sized L s b e in
-    let m = length-take n s in
-    batch-length L (take n s)
-    (λ h.
-    let big : 61 ≤ n = omega (arith, m, h, l) in
-    omega (
-      arith,
-      z,
-      h,
-      m,
-      be-take s 4 49 n (omega (arith, big)),
-      be-take s 4 53 n (omega (arith, big)),
-      be-take s 4 57 n (omega (arith, big)),
-      l,
-    ))
+    batch-refused L (take n s)
+    (λ u f.
+    let g : openBatch L s ≡ refused 16 =
+    ap (openBatch L) (sym (take-append-drop n s)) ∙ batch-bytes-behind L (take n s) (drop n s) u f (omega (arith, length-drop n s, l)) in
+    let z : _≡_ {A = ℕ} 0 1 = cc in
+    omega arith)
 
 -- a batch by its parts: the header, the bytes of both knowledges, and what follows them
-abbrev pub batchOf : ℕ → ℕ → ℕ → List ℕ → List ℕ → List ℕ → List ℕ
-batchOf first last count nb lb t =
+abbrev pub batchParts : ℕ → ℕ → ℕ → List ℕ → List ℕ → List ℕ → List ℕ
+batchParts first last count nb lb t =
     putFields (field 1 4 ∷ field 24 first ∷ field 24 last ∷ field 4 (length nb) ∷ field 4 (length lb) ∷ field 4 count ∷ []) (nb ++ (lb ++ t))
 
 pub batch-of : (b : Batch) →
-    encodeBatch b ≡ batchOf (b .first) (b .last) (length (b .records)) (encode (b .needed)) (encode (b .learned)) (putRecs (b .records) [])
+    encodeBatch b ≡ batchParts (b .first) (b .last) (length (b .records)) (encode (b .needed)) (encode (b .learned)) (putRecs (b .records) [])
 unfolding encodeBatch batchFields
 batch-of b = refl
 
 module _ (first last count : ℕ) (nb lb t : List ℕ) (firstFits : first < 256 ^ 24) (lastFits : last < 256 ^ 24) (countFits : count < 256 ^ 4)
     (neededFits : length nb < 256 ^ 4) (learnedFits : length lb < 256 ^ 4) where
-  parts-read : (take (beAt (batchOf first last count nb lb t) 4 49) (drop 61 (batchOf first last count nb lb t)) ≡ nb) ×
-      (take (beAt (batchOf first last count nb lb t) 4 53) (drop (61 + beAt (batchOf first last count nb lb t) 4 49) (batchOf first last count nb lb t)) ≡ lb)
+  parts-read : (take (beAt (batchParts first last count nb lb t) 4 49) (drop 61 (batchParts first last count nb lb t)) ≡ nb) ×
+      (take (beAt (batchParts first last count nb lb t) 4 53) (drop (61 + beAt (batchParts first last count nb lb t) 4 49) (batchParts first last count nb lb t)) ≡ lb)
   parts-read =
       let fs = field 1 4 ∷ field 24 first ∷ field 24 last ∷ field 4 (length nb) ∷ field 4 (length lb) ∷ field 4 count ∷ [] in
-      let s = batchOf first last count nb lb t in
+      let s = batchParts first last count nb lb t in
       let w : ReadAs s 0 0 fs =
       run-reads s 0 0 fs (nb ++ (lb ++ t)) (stands-whole s) (
         record { below = omega arith },
@@ -263,10 +252,10 @@ module _ (first last count : ℕ) (nb lb t : List ℕ) (firstFits : first < 256 
         ap₂ (λ (x y : ℕ). take x (drop (61 + y) s)) m n ∙ part-reads s (61 + length nb) lb t behind,
       )
 
-  pub batch-parts-needed : (L : Limits) → Permitted L → Bytes nb → (NormalBytes L nb → ⊥) →
-      openBatch L (batchOf first last count nb lb t) ≡ refused 16
-  batch-parts-needed L permitted bytes n = batch-needed L (batchOf first last count nb lb t) permitted nb bytes (parts-read .0) n
+  pub batch-parts-needed : (L : Limits) → Permitted L → Bytes nb → (OfNormalForm L nb → ⊥) →
+      openBatch L (batchParts first last count nb lb t) ≡ refused 16
+  batch-parts-needed L permitted bytes n = batch-needed L (batchParts first last count nb lb t) permitted nb bytes (parts-read .0) n
 
-  pub batch-parts-learned : (L : Limits) → Permitted L → Bytes lb → (NormalBytes L lb → ⊥) →
-      openBatch L (batchOf first last count nb lb t) ≡ refused 16
-  batch-parts-learned L permitted bytes n = batch-learned L (batchOf first last count nb lb t) permitted lb bytes (parts-read .1) n
+  pub batch-parts-learned : (L : Limits) → Permitted L → Bytes lb → (OfNormalForm L lb → ⊥) →
+      openBatch L (batchParts first last count nb lb t) ≡ refused 16
+  batch-parts-learned L permitted bytes n = batch-learned L (batchParts first last count nb lb t) permitted lb bytes (parts-read .1) n

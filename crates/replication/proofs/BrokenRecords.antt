@@ -1,9 +1,9 @@
 -- The conditions on the records of a store or batch, in document 01's words and in plain numbers. They are written from the paper's
 -- text and cite nothing of specs/Valid.antt, so that a condition that is lost there and in the definitions alike is missed here. A
 -- record is one of the records where these are some records, then it, then others; so the laws go along the records in front of it.
--- Last, what bytes read as records say: how many bytes they are, and that each begins with a known kind.
+-- Last, what bytes read as records say: where they end, and that each begins with a known kind.
 use Prim.Native.Nat.{ℕ, zero, suc, _+_, _*_, _^_, _≤_, _<_}
-use mathlib.Core.Path.{_≡_, refl, ap, subst}
+use mathlib.Core.Path.{_≡_, refl, ap, subst, _∙_}
 use mathlib.Core.Bool.{true}
 use mathlib.Core.List.{List, [], _∷_, _++_}
 use mathlib.Core.Option.{some}
@@ -14,7 +14,7 @@ use Rattle.layout.specs.Knowledge.{All, Rising}
 use Rattle.replication.specs.Record.{Rec}
 use Rattle.replication.specs.Formats.{items}
 use Rattle.replication.specs.Valid.{LawfulRec}
-use Rattle.replication.specs.Reading.{behind, recsAt}
+use Rattle.replication.specs.Reading.{recLength, behind, recsAt}
 use Rattle.replication.proofs.Tables.{rising-nil, rising-cons, rising-low, rising-rest}
 use Rattle.replication.proofs.RecordBytes.{FitsRec, KnownKind, whole-back, more-back, end-back}
 
@@ -100,22 +100,39 @@ lawful-record r l =
       tombstone = λ d. omega (arith, l .content .bare d);
     }
 
--- ---- records in bytes: a record has 89 bytes and begins with a known kind
+-- ---- records in bytes: the last ends with the bytes, and each begins with a known kind
 
-pub recs-length : (s : List ℕ) (n at : ℕ) (rs : List Rec) → recsAt s n at ≡ some rs → length s ≡ at + 89 * n
+-- the place behind the n records from a place on
+unfoldable pub behindAll : List ℕ → ℕ → ℕ → ℕ
+behindAll s at zero = at
+behindAll s at (suc n) = behindAll s (behind s at) n
+
+pub recs-length : (s : List ℕ) (n at : ℕ) (rs : List Rec) → recsAt s n at ≡ some rs → length s ≡ behindAll s at n
+unfolding behindAll
 recs-length s zero at rs e = omega (arith, end-back s at rs e .1)
 recs-length s (suc n) at rs e =
-    more-back s n at rs (length s ≡ at + 89 * suc n) e
-    (λ qs w f g. omega (arith, recs-length s n (behind s at) qs f, whole-back s at w .size))
+    more-back s n at rs (length s ≡ behindAll s (behind s at) n) e (λ qs w f g. recs-length s n (behind s at) qs f)
 
 pub recs-kinds : (s : List ℕ) (n at : ℕ) (rs : List Rec) → recsAt s n at ≡ some rs → (j : ℕ) → j < n →
-    KnownKind (beAt s 1 (at + 89 * j))
+    KnownKind (beAt s 1 (behindAll s at j))
+unfolding behindAll
 recs-kinds s zero at rs e j l = absurd (omega arith)
 recs-kinds s (suc n) at rs e zero l =
-    more-back s n at rs (KnownKind (beAt s 1 (at + 89 * 0))) e
-    (λ qs w f g. let p : at ≡ at + 89 * 0 = omega arith in subst (λ (x : ℕ). KnownKind (beAt s 1 x)) p (whole-back s at w .kind))
+    more-back s n at rs (KnownKind (beAt s 1 at)) e (λ qs w f g. whole-back s at w .kind)
 recs-kinds s (suc n) at rs e (suc j) l =
-    more-back s n at rs (KnownKind (beAt s 1 (at + 89 * suc j))) e
+    more-back s n at rs (KnownKind (beAt s 1 (behindAll s (behind s at) j))) e
+    (λ qs w f g. recs-kinds s n (behind s at) qs f j (omega arith))
+
+behind-same : (s t : List ℕ) (at : ℕ) → beAt (s ++ t) 1 at ≡ beAt s 1 at → behind (s ++ t) at ≡ behind s at
+unfolding behind
+behind-same s t at e = ap (λ (k : ℕ). at + recLength k) e
+
+-- more bytes behind change nothing of that
+pub behind-more : (s t : List ℕ) (n at : ℕ) (rs : List Rec) → recsAt s n at ≡ some rs → ((m at : ℕ) → at + m ≤ length s → beAt (s ++ t) m at ≡ beAt s m at) → behindAll (s ++ t) at n ≡ behindAll s at n
+unfolding behindAll
+behind-more s t zero at rs e r = refl
+behind-more s t (suc n) at rs e r =
+    more-back s n at rs (behindAll (s ++ t) (behind (s ++ t) at) n ≡ behindAll s (behind s at) n) e
     (λ qs w f g.
-    let p : behind s at + 89 * j ≡ at + 89 * suc j = omega (arith, whole-back s at w .size) in
-    subst (λ (x : ℕ). KnownKind (beAt s 1 x)) p (recs-kinds s n (behind s at) qs f j (omega arith)))
+    let k = whole-back s at w in
+    ap (λ (x : ℕ). behindAll (s ++ t) x n) (behind-same s t at (r 1 at (omega (arith, k .later, k .inside)))) ∙ behind-more s t n (behind s at) qs f r)
