@@ -1,5 +1,4 @@
--- Bounds and ranges: item ids are compared word by word from the front, and a range is a bound and an index, looked
--- at in that order.
+-- Bounds and ranges: a bound is three words, and a range is a bound and an index, looked at in that order.
 use mathlib.Core.Path.{_≡_, refl, sym, ap, _∙_}
 use mathlib.Core.Bool.{Bool, true, false}
 use mathlib.Core.List.{List}
@@ -17,19 +16,23 @@ use Rattle.layout.specs.Read.{_▷_, repeat, index, range}
 use Rattle.parts.specs.Method.{placeOf, rangesFrom, rangesAfter}
 use Rattle.fields.proofs.Steps.{number-there, number-short}
 
--- two bounds, by the words that were read of them
-pub bounds-less :
-    (s : List ℕ) (from at a b c x y z : ℕ) (r : Bool)
-    → a ≡ beAt s 8 from
-    → b ≡ beAt s 8 (from + 8)
-    → c ≡ beAt s 8 (from + 16)
+-- a bound by its words, and one compared with it
+pub bound-words :
+    (s : List ℕ) (at x y z : ℕ)
     → x ≡ beAt s 8 at
     → y ≡ beAt s 8 (at + 8)
     → z ≡ beAt s 8 (at + 16)
-    → r ≡ ltb (words3 a b c) (words3 x y z)
-    → r ≡ ltb (beAt s 24 from) (beAt s 24 at)
-bounds-less s from at a b c x y z r i j k l m n e =
-    e ∙ rw (i, j, k, l, m, n, words3-be s from, words3-be s at)
+    → words3 x y z ≡ beAt s 24 at
+bound-words s at x y z i j k = rw (i, j, k) (sym (words3-be s at))
+
+pub bound-less :
+    (s : List ℕ) (before at x y z : ℕ) (r : Bool)
+    → x ≡ beAt s 8 at
+    → y ≡ beAt s 8 (at + 8)
+    → z ≡ beAt s 8 (at + 16)
+    → r ≡ ltb before (words3 x y z)
+    → r ≡ ltb before (beAt s 24 at)
+bound-less s before at x y z r i j k e = e ∙ ap (λ (w : ℕ). ltb before w) (bound-words s at x y z i j k)
 
 -- ---- a range
 
@@ -65,25 +68,21 @@ module _ (s : List ℕ) (v low at : ℕ) where
 
 -- ---- the code's answers, which have the place only
 
-module _ (s : List ℕ) (v from at : ℕ) (h : at ≤ length s) where
-  pub place-cut : length s - at < 24 → (low : ℕ) → Fault 1 ≡ placeOf (range s v low at)
-  place-cut l low = ap placeOf (bound-cut s v low at (omega arith))
+module _ (s : List ℕ) (v before at : ℕ) (h : at ≤ length s) where
+  pub place-cut : length s - at < 24 → Fault 1 ≡ placeOf (range s v (suc before) at)
+  place-cut l = ap placeOf (bound-cut s v (suc before) at (omega arith))
 
-  module _ (r : Bool) (l : 24 ≤ length s - at) (e : r ≡ ltb (beAt s 24 from) (beAt s 24 at)) where
-    pub place-low : r ≡ false → Fault 8 ≡ placeOf (range s v (suc (beAt s 24 from)) at)
+  module _ (r : Bool) (l : 24 ≤ length s - at) (e : r ≡ ltb before (beAt s 24 at)) where
+    pub place-low : r ≡ false → Fault 8 ≡ placeOf (range s v (suc before) at)
     place-low t =
-        let k : beAt s 24 at ≤ beAt s 24 from = ltb-false (beAt s 24 from) (beAt s 24 at) (sym e ∙ t) in
-        ap placeOf (bound-low s v (suc (beAt s 24 from)) at (omega arith) (omega arith))
+        let k : beAt s 24 at ≤ before = ltb-false before (beAt s 24 at) (sym e ∙ t) in
+        ap placeOf (bound-low s v (suc before) at (omega arith) (omega arith))
 
-    module _ (t : r ≡ true) where
-      above : suc (beAt s 24 from) ≤ beAt s 24 at
-      above = ltb-true (beAt s 24 from) (beAt s 24 at) (sym e ∙ t)
-
-      -- what follows the bound does not look at the bound before
-      pub place-above : (g : Got) → g ≡ placeOf (range s v 0 at) → g ≡ placeOf (range s v (suc (beAt s 24 from)) at)
-      place-above g f =
-          f
-          ∙ ap placeOf (bound-good s v 0 at (omega arith) (omega arith) ∙ sym (bound-good s v (suc (beAt s 24 from)) at (omega arith) above))
+    -- what follows the bound does not look at the bound before
+    pub place-above : r ≡ true → (g : Got) → g ≡ placeOf (range s v 0 at) → g ≡ placeOf (range s v (suc before) at)
+    place-above t g f =
+        let k : suc before ≤ beAt s 24 at = ltb-true before (beAt s 24 at) (sym e ∙ t) in
+        f ∙ ap placeOf (bound-good s v 0 at (omega arith) (omega arith) ∙ sym (bound-good s v (suc before) at (omega arith) k))
 
 -- the first range has no bound to be above
 module _ (s : List ℕ) (v at : ℕ) (h : at ≤ length s) where
@@ -155,24 +154,22 @@ range-fault s v low at f i n j = by-case (range s v low at) refl
 
 -- ---- all ranges
 
-module _ (whole : Got) (s : List ℕ) (v g k at : ℕ) (inv : whole ≡ rangesAfter s v g (g - k) at) where
-  module _ (h : k < g) (f : Got) (e : f ≡ placeOf (range s v (suc (beAt s 24 (at - 28))) at)) where
-    more : rangesAfter s v g (g - k) at ≡ (range s v (suc (beAt s 24 (at - 28))) at ▷ repeat (range s v) (g - (k + 1)) ▷ λ low next. Num g next)
+module _ (whole : Got) (s : List ℕ) (v g k before at : ℕ) (inv : whole ≡ rangesAfter s v g (g - k) before at) where
+  module _ (h : k < g) (f : Got) (e : f ≡ placeOf (range s v (suc before) at)) where
+    more : rangesAfter s v g (g - k) before at ≡ (range s v (suc before) at ▷ repeat (range s v) (g - (k + 1)) ▷ λ low next. Num g next)
     unfolding rangesAfter repeat
     more = let z : g - k ≡ suc (g - (k + 1)) = omega arith in rw z
 
     pub ranges-stop : (n : ℕ) → f ≡ Fault n → f ≡ whole
-    ranges-stop n t = t ∙ sym (inv ∙ more ∙ rw (range-fault s v (suc (beAt s 24 (at - 28))) at f e n t))
+    ranges-stop n t = t ∙ sym (inv ∙ more ∙ rw (range-fault s v (suc before) at f e n t))
 
-    pub ranges-on : (x b : ℕ) → f ≡ Num x b → whole ≡ rangesAfter s v g (g - (k + 1)) b
+    pub ranges-on : (x b : ℕ) → f ≡ Num x b → (w : ℕ) → w ≡ beAt s 24 at → whole ≡ rangesAfter s v g (g - (k + 1)) w b
     unfolding rangesAfter
-    ranges-on x b t =
-        let w = range-went s v (suc (beAt s 24 (at - 28))) at f e x b t in
-        let p : at ≡ b - 28 = omega (arith, w .place) in
+    ranges-on x b t w p =
         inv
         ∙ more
-        ∙ ap (λ (y : Got). y ▷ repeat (range s v) (g - (k + 1)) ▷ λ low next. Num g next) (w .is)
-        ∙ ap (λ (y : ℕ). repeat (range s v) (g - (k + 1)) (suc (beAt s 24 y)) b ▷ λ low next. Num g next) p
+        ∙ ap (λ (y : Got). y ▷ repeat (range s v) (g - (k + 1)) ▷ λ low next. Num g next) (range-went s v (suc before) at f e x b t .is)
+        ∙ ap (λ (y : ℕ). repeat (range s v) (g - (k + 1)) (suc y) b ▷ λ low next. Num g next) (sym p)
 
   pub ranges-end : g ≤ k → Num g at ≡ whole
   unfolding rangesAfter repeat
@@ -190,11 +187,9 @@ module _ (s : List ℕ) (v g start : ℕ) (n : g ≡ 0 → ⊥) (f : Got) (e : f
   pub ranges-first-fault : (j : ℕ) → f ≡ Fault j → f ≡ rangesFrom s v g start
   ranges-first-fault j t = t ∙ sym (some ∙ rw (range-fault s v 0 start f e j t))
 
-  pub ranges-first : (x b : ℕ) → f ≡ Num x b → (h : Got) → h ≡ rangesAfter s v g (g - 1) b → h ≡ rangesFrom s v g start
+  pub ranges-first : (x b : ℕ) → f ≡ Num x b → (w : ℕ) → w ≡ beAt s 24 start → (h : Got) → h ≡ rangesAfter s v g (g - 1) w b → h ≡ rangesFrom s v g start
   unfolding rangesAfter
-  ranges-first x b t h u =
-      let w = range-went s v 0 start f e x b t in
-      let p : b - 28 ≡ start = omega (arith, w .place) in
+  ranges-first x b t w p h u =
       u
-      ∙ ap (λ (y : ℕ). repeat (range s v) (g - 1) (suc (beAt s 24 y)) b ▷ λ low next. Num g next) p
-      ∙ sym (some ∙ ap (λ (y : Got). y ▷ repeat (range s v) (g - 1) ▷ λ low next. Num g next) (w .is))
+      ∙ ap (λ (y : ℕ). repeat (range s v) (g - 1) (suc y) b ▷ λ low next. Num g next) p
+      ∙ sym (some ∙ ap (λ (y : Got). y ▷ repeat (range s v) (g - 1) ▷ λ low next. Num g next) (range-went s v 0 start f e x b t .is))

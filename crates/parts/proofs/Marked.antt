@@ -1,7 +1,7 @@
 -- Elements of a clock vector with marks for the keys that were met. A key without a mark is none of the keys before:
--- a new element adds its own key to those before it, and marks it. One byte gathers the marks that were met and the
--- first bytes of the ticks: it stays below 128 exactly where each of them is, that is, where no key was met twice and
--- no tick is above the largest.
+-- a new element adds its own key to those before it, and marks it. One byte gathers the marks that were met and another
+-- the first bytes of the ticks: each stays below 128 only where all that it gathered are, that is, where no key was met
+-- twice and no tick is above the largest.
 use mathlib.Core.Path.{_≡_, refl, sym, ap, _∙_}
 use mathlib.Core.Bool.{Bool, false}
 use mathlib.Core.List.{List}
@@ -34,16 +34,11 @@ none-more s n step at k x e ne =
     ∙ ap (λ (b : Bool). either b (eqb (beAt s n (at + step * k)) x)) e
     ∙ ne-eqb (beAt s n (at + step * k)) x ne
 
--- ---- the byte that gathers
+-- ---- the bytes that gather
 
-or-above : (a b : ℕ) → (a ≤ bitOr a b) × (b ≤ bitOr a b)
-or-above a b = (omega (arith, or-add-and a b, and-le-r a b), omega (arith, or-add-and a b, and-le-l a b))
-
-pub gathered : (a b c : ℕ) → bitOr (bitOr a b) c < 128 → (a < 128) × (b < 128) × (c < 128)
-gathered a b c h =
-    let i = or-above (bitOr a b) c in
-    let j = or-above a b in
-    (omega arith, omega arith, omega arith)
+-- a byte with another one or'ed to it is below 128 only where both are
+pub gathered : (a b : ℕ) → bitOr a b < 128 → (a < 128) × (b < 128)
+gathered a b h = (omega (arith, or-add-and a b, and-le-r a b), omega (arith, or-add-and a b, and-le-l a b))
 
 -- a tick whose first byte is below 128
 tick-low : (s : List ℕ) (at : ℕ) → Bytes s → getD s at 0 < 128 → beAt s 8 at ≤ largestTick

@@ -1,6 +1,6 @@
 -- The method of the reading of lists: nothing here is to be believed. These definitions name the parts that its
 -- functions compute, and its laws show that together they are the definitions of the layout.
-use Rattle.codec.specs.Prelude.{ℕ, suc, _-_, _^_, _<_, _≡_, List}
+use Rattle.codec.specs.Prelude.{ℕ, suc, _^_, _<_, _≡_, List}
 use Rattle.codec.specs.Number.{Bytes, beAt}
 use Rattle.layout.specs.declared.Got.{Got}
 use Rattle.layout.specs.declared.Got.the-variants.{Num, Fault}
@@ -21,6 +21,6 @@ placeOf (Fault n) = Fault n
 unfoldable pub rangesFrom : List ℕ → ℕ → ℕ → ℕ → Got
 rangesFrom s v g start = repeat (range s v) g 0 start ▷ λ low next. Num g next
 
--- what is left of them, m ranges, after one that ends at the place
-unfoldable pub rangesAfter : List ℕ → ℕ → ℕ → ℕ → ℕ → Got
-rangesAfter s v g m at = repeat (range s v) m (suc (beAt s 24 (at - 28))) at ▷ λ low next. Num g next
+-- what is left of them, m ranges, after one with a bound
+unfoldable pub rangesAfter : List ℕ → ℕ → ℕ → ℕ → ℕ → ℕ → Got
+rangesAfter s v g m bound at = repeat (range s v) m (suc bound) at ▷ λ low next. Num g next

@@ -7,10 +7,8 @@ use layout::Got;
 ghost use mathlib.Core.Path.{_≡_};
 ghost use mathlib.Core.Bool.{true};
 ghost use Prim.Native.Nat.{suc, _+_, _-_, _*_, _≤_, _<_};
-ghost use lib.Dec.{ltb};
 ghost use lib.ListN.{length, getD};
-ghost use Rattle.codec.specs.Number.{beAt};
-ghost use Rattle.codec.specs.Words.{words2};
+ghost use Rattle.codec.specs.Words.{words2, words3};
 ghost use Rattle.layout.specs.Knowledge.{basic};
 ghost use Rattle.layout.specs.Permitted.{largestReplicas};
 ghost use Rattle.layout.specs.Read.{repeat, among, replicaId, element, vector, range};
@@ -115,13 +113,14 @@ pub fn vector_count(s: &[u8], most: u32, at: usize) -> Got
     fields::in_limits(fields::count_of_vectors(s, at), 1, most as usize + 1)
 }
 
-// The n elements of a clock vector. One byte gathers the marks that are met and the first bytes of the ticks.
+// The n elements of a clock vector. One byte gathers the marks that are met, another the first bytes of the ticks.
 fn elements_stand(s: &[u8], r: usize, n: usize, start: usize) -> bool
     requires { ⌜ (r ≤ largestReplicas) × (start + 12 * n ≤ length (now s)) ⌝ }
     ensures { λ b. ⌜ (b ≡ true → repeat (element (now (s .entry)) r start) n 0 start ≡ Got.Num n (start + 12 * n)) ⌝ }
 {
     let mut seen = [0u8; MARKS];
-    let mut bad: u8 = 0;
+    let mut met: u8 = 0;
+    let mut late: u8 = 0;
     let mut k: usize = 0;
     let mut at = start;
     while k < n {
@@ -129,13 +128,13 @@ fn elements_stand(s: &[u8], r: usize, n: usize, start: usize) -> bool
         if r <= key {
             return false;
         }
-        bad = bad | seen[key];
-        bad = bad | s[at + 4];
+        met = met | seen[key];
+        late = late | s[at + 4];
         seen[key] = 128;
         at += 12;
         k += 1;
     }
-    bad < 128
+    (met | late) < 128
 }
 
 // A clock vector of a knowledge of r replicas: the count of its elements.
@@ -196,21 +195,6 @@ pub fn vector_list(s: &[u8], r: usize, v: usize, at: usize) -> Got
 
 // ---- ranges
 
-// Is the bound at a place above the one at another.
-fn rises(s: &[u8], from: usize, at: usize) -> bool
-    requires { ⌜ (from + 24 ≤ length (now s)) × (at + 24 ≤ length (now s)) ⌝ }
-    ensures { λ r. ⌜ r ≡ ltb (beAt (now (s .entry)) 24 from) (beAt (now (s .entry)) 24 at) ⌝ }
-{
-    codec::less3(
-        eight(s, from),
-        eight(s, from + 8),
-        eight(s, from + 16),
-        eight(s, at),
-        eight(s, at + 8),
-        eight(s, at + 16),
-    )
-}
-
 // A range whose bound is not compared.
 fn range_of_any_bound(s: &[u8], v: usize, at: usize) -> Got
     requires { ⌜ at ≤ length (now s) ⌝ }
@@ -225,32 +209,38 @@ fn range_of_any_bound(s: &[u8], v: usize, at: usize) -> Got
     Got::Num(0, at + 28)
 }
 
-// A range whose bound must be above the one at another place.
-fn range_above(s: &[u8], v: usize, from: usize, at: usize) -> Got
-    requires { ⌜ (from + 24 ≤ length (now s)) × (at ≤ length (now s)) ⌝ }
-    ensures { λ r. ⌜ r ≡ placeOf (range (now (s .entry)) v (suc (beAt (now (s .entry)) 24 from)) at) ⌝ }
+// A range whose bound must be above the one of three words.
+fn range_above(s: &[u8], v: usize, a: u64, b: u64, c: u64, at: usize) -> Got
+    requires { ⌜ at ≤ length (now s) ⌝ }
+    ensures { λ r. ⌜ r ≡ placeOf (range (now (s .entry)) v (suc (words3 a b c)) at) ⌝ }
 {
     if s.len() - at < 24 {
         return Got::Fault(1);
     }
-    if rises(s, from, at) {
+    if codec::less3(a, b, c, eight(s, at), eight(s, at + 8), eight(s, at + 16)) {
         return range_of_any_bound(s, v, at);
     }
     Got::Fault(8)
 }
 
-// The ranges after the first, which ends at start.
-fn more_ranges(s: &[u8], v: usize, g: usize, start: usize) -> Got
-    requires { ⌜ (28 ≤ start) × (start ≤ length (now s)) ⌝ }
-    ensures { λ r. ⌜ r ≡ rangesAfter (now (s .entry)) v g (g - 1) start ⌝ }
+// The ranges after the first, which ends at start; its bound is of three words.
+fn more_ranges(s: &[u8], v: usize, g: usize, x: u64, y: u64, z: u64, start: usize) -> Got
+    requires { ⌜ start ≤ length (now s) ⌝ }
+    ensures { λ r. ⌜ r ≡ rangesAfter (now (s .entry)) v g (g - 1) (words3 x y z) start ⌝ }
 {
     let mut k: usize = 1;
     let mut at = start;
+    let mut a = x;
+    let mut b = y;
+    let mut c = z;
     while k < g {
-        let f = range_above(s, v, at - 28, at);
+        let f = range_above(s, v, a, b, c, at);
         let Got::Num(_, next) = f else {
             return f;
         };
+        a = eight(s, at);
+        b = eight(s, at + 8);
+        c = eight(s, at + 16);
         at = next;
         k += 1;
     }
@@ -269,7 +259,15 @@ fn ranges(s: &[u8], v: usize, g: usize, start: usize) -> Got
     let Got::Num(_, at) = f else {
         return f;
     };
-    more_ranges(s, v, g, at)
+    more_ranges(
+        s,
+        v,
+        g,
+        eight(s, start),
+        eight(s, start + 8),
+        eight(s, start + 16),
+        at,
+    )
 }
 
 // The bytes up to the end of the ranges, with the most ranges: g.

@@ -1,28 +1,57 @@
--- `parts::range_above` meets its contract. Each return has the test that the definition makes there; where the bound is
--- above, the rest is what it is for a first range.
-use native.Mathlib.Omega.{arith}
-use Rattle.parts.proofs.Bound.{place-cut, place-low, place-above}
+-- `parts::range_above` meets its contract. Each return has the test that the definition makes there; where the bound is above, the rest is what it is for any bound.
+use Rattle.parts.proofs.Bound.{bound-less, place-cut, place-low, place-above}
+use borrow.Author.Needs.{needs}
 use Rattle.parts.proofs.range_above.Statement.{statement}
 use Rattle.parts.proofs.range_above.Tie as tie
 
 sub-if1 : tie.Need-sub-if1
-sub-if1 c = omega arith
+sub-if1 c = search needs
 
 returns : tie.Need-returns
-returns c = let a = c .before .before .args in place-cut (a .s .now) (a .v) (a .from) (a .at) (c .before .before .pre .1) (c .if1 .taken) _
+returns c =
+    place-cut _ _ _ _ (c .before .before .pre) (c .if1 .taken)
 
-rises-requires : tie.Need-rises-requires
-rises-requires c κs = omega arith
+eight-requires : tie.Need-eight-requires
+eight-requires c κs = search needs
+
+add-eight : tie.Need-add-eight
+add-eight c = search needs
+
+eight-requires-2 : tie.Need-eight-requires-2
+eight-requires-2 c κs = search needs
+
+add-eight-2 : tie.Need-add-eight-2
+add-eight-2 c = search needs
+
+eight-requires-3 : tie.Need-eight-requires-3
+eight-requires-3 c κs = search needs
+
+less3-requires : tie.Need-less3-requires
+less3-requires c κs = search needs
 
 range-of-any-bound-requires : tie.Need-range-of-any-bound-requires
-range-of-any-bound-requires c κs = omega arith
+range-of-any-bound-requires c κs = search needs
 
 returns-2 : tie.Need-returns-2
-returns-2 c = let a = c .before .before .before .before .before .args in place-above (a .s .now) (a .v) (a .from) (a .at) (c .before .before .before .before .before .pre .1) _ (c .before .before .before .if1 .left) (c .before .before .rises .ensures) (c .before .if2 .taken) _ (c .range-of-any-bound .ensures)
+returns-2 c =
+    place-above _ _ _ _ (c .before .before .before .before .before .before .before .before .pre) _ (c .before .before .before .before .before .before .if1 .left) (bound-less _ _ _ _ _ _ _ (c .before .before .before .before .before .eight .ensures .is) (c .before .before .before .before .eight2 .ensures .is) (c .before .before .before .eight3 .ensures .is) (c .before .before .less3 .ensures)) (c .before .if2 .taken) _ (c .range-of-any-bound .ensures)
 
 returns-3 : tie.Need-returns-3
-returns-3 c = let a = c .before .before .before .before .args in place-low (a .s .now) (a .v) (a .from) (a .at) (c .before .before .before .before .pre .1) _ (c .before .before .if1 .left) (c .before .rises .ensures) (c .if2 .left)
+returns-3 c =
+    place-low _ _ _ _ (c .before .before .before .before .before .before .before .pre) _ (c .before .before .before .before .before .if1 .left) (bound-less _ _ _ _ _ _ _ (c .before .before .before .before .eight .ensures .is) (c .before .before .before .eight2 .ensures .is) (c .before .before .eight3 .ensures .is) (c .before .less3 .ensures)) (c .if2 .left)
 
 pub range-above-spec : {M : Type 1} → statement M
 range-above-spec =
-    tie.close (tie.spec sub-if1 returns rises-requires range-of-any-bound-requires returns-2 returns-3)
+    tie.close
+    (tie.spec
+    sub-if1
+    returns
+    eight-requires
+    add-eight
+    eight-requires-2
+    add-eight-2
+    eight-requires-3
+    less3-requires
+    range-of-any-bound-requires
+    returns-2
+    returns-3)
