@@ -38,3 +38,4 @@ pub mod RefusalsMake
 pub mod RefusalsList
 pub mod RefusalsCounts
 pub mod RefusalsJoin
+pub mod Runner
