@@ -44,3 +44,4 @@ pub mod RefusalsMake
 pub mod RefusalsList
 pub mod RefusalsCounts
 pub mod RefusalsJoin
+pub mod Runner
