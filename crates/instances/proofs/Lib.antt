@@ -1,5 +1,6 @@
--- The laws of the instances: the table row by row, a list of calls run from its start, and the first faulty field in turn.
+-- The laws of the instances: the table row by row, lists of calls run from their start, and the first faulty field in turn.
 pub mod Instances
 pub mod NotNormal
 pub mod Lists
+pub mod Longer
 pub mod FirstFault

@@ -36,11 +36,11 @@ use Rattle.replication.specs.Queries.{partBytes, partNumber, partSide, partAtPl
 use Rattle.replication.specs.Reading.{recLength, behind, contentAt, recAt, whole, front, recsAt, tagKept, validRec, validRecs}
 use Rattle.instances.specs.NotNormal.{bytesTickZero, bytesSeven, notNormalRows}
 
-item-bytes : (i : ℕ) → Bytes (itemBytes i)
+pub item-bytes : (i : ℕ) → Bytes (itemBytes i)
 unfolding itemBytes
 item-bytes i = put-bytes 24 i [] no-bytes
 
-tag-bytes : (t : ℕ) → BytesBrought (tagged t)
+pub tag-bytes : (t : ℕ) → BytesBrought (tagged t)
 unfolding tagBytes tagged
 tag-bytes t = record { tag = put-bytes 16 t [] no-bytes }
 

@@ -4,3 +4,5 @@ pub mod Spelled
 pub mod Table
 pub mod NotNormal
 pub mod Listed
+pub mod Longer
+pub mod MethodLonger
