@@ -5,3 +5,5 @@ pub mod Table
 pub mod NotNormal
 pub mod Broken
 pub mod Listed
+pub mod Longer
+pub mod MethodLonger

@@ -20,9 +20,9 @@ use Rattle.replication.specs.Record.{Rec}
 use Rattle.replication.specs.Formats.{Store, encodeStore}
 use Rattle.replication.specs.BatchFormat.{Batch, encodeBatch}
 use Rattle.replication.specs.Operate.{nextTick}
-use Rattle.replication.specs.Calls.{newReply, editReply, makeReply, applyReply}
+use Rattle.replication.specs.Calls.{newReply, editReply, deleteReply, makeReply, applyReply}
 use Rattle.replication.specs.Queries.{winnerPart, learnedPart}
-use Rattle.instances.specs.Spelled.{bytesK6, bytesK10, bytesK11}
+use Rattle.instances.specs.Spelled.{bytesK6, bytesK10, bytesK11, bytesDeleted, bytesTwoRecords, bytesTwoVectors}
 use Rattle.instances.specs.Given.{emptyValue, smallest, itemBytes, replicaBytes, tagged, ran, one, two, parts, fresh, again, store, batch, p1, q1, p2, q2}
 use Rattle.replication.specs.declared.Part.{Part}
 use Rattle.replication.specs.declared.Part.the-variants as W
@@ -153,12 +153,15 @@ storeRows P Q =
     gets (applyReply base (encodeStore (store Q (one P 1) (fresh 1 P 1 9 ∷ []))) (encodeBatch (batchTwo P))) (encodeStore (store Q (one P 2) (fresh 1 P 1 9 ∷ fresh 2 P 2 8 ∷ []))) 352 ∷
     []
 
--- three of the replies with their bytes written out, for P1 and Q1
+-- replies with their bytes written out, for P1 and Q1
 unfoldable pub spelledRows : List Row
 spelledRows =
     gets (projectReply basic (encode (one p1 5)) (itemBytes 1) (itemBytes 1)) bytesK6 205 ∷
     gets (editReply base (encodeStore (store p1 (two p1 1 q1 1) (fresh 1 q1 1 6 ∷ []))) (itemBytes 1) (tagged 7)) bytesK10 291 ∷
     gets (everything (makeReply basic (encodeStore (editedOnce p1 9)) smallest)) bytesK11 412 ∷
+    gets (deleteReply base (encodeStore (editedOnce p1 9)) (itemBytes 1)) bytesDeleted 263 ∷
+    gets (editReply base (encodeStore (editedOnce p1 9)) (itemBytes 2) (tagged 8)) bytesTwoRecords 352 ∷
+    gets (mergeReply basic bytesK6 (encode (parts q1 2 (ran 0 1 ∷ ran 1 0 ∷ [])))) bytesTwoVectors 241 ∷
     []
 
 unfoldable pub table : List (List Row)
