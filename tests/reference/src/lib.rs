@@ -5,8 +5,14 @@
 
 #![forbid(unsafe_code)]
 
+mod cover;
 mod cursor;
+mod ids;
 mod knowledge;
+mod lookup;
 pub mod refusal;
+mod view;
 
+pub use cover::cover;
 pub use knowledge::{Sizes, check};
+pub use lookup::{contain, lead};
