@@ -283,15 +283,19 @@ pub fn random<E>(seed: u64, count: usize, visit: &mut impl Visit<E>) -> Result<(
             intact = [pair.0.bytes(), pair.1.bytes()];
         }
         let knowledges = [&pair.0, &pair.1];
+        let (item, replica) = pairs::place(random, knowledges);
         let mut arguments = Arguments {
             first: intact[0].clone(),
             second: intact[1].clone(),
-            item: pairs::item(random, knowledges).to_vec(),
-            replica: pairs::replica(random, knowledges).to_vec(),
+            item: item.to_vec(),
+            replica: replica.to_vec(),
             last_item: pairs::item(random, knowledges).to_vec(),
         };
-        let tick = tick(random, &pair.0, &arguments);
-        order_span(random, &mut arguments);
+        let choice = k % 3;
+        let tick = tick(random, pair.0.known(&item, &replica));
+        if choice == 2 {
+            order_span(random, &mut arguments);
+        }
         let family = match random.below(8) {
             0 => {
                 arguments.damage_knowledge(random, knowledges);
@@ -312,7 +316,7 @@ pub fn random<E>(seed: u64, count: usize, visit: &mut impl Visit<E>) -> Result<(
             }
             _ => "random, intact",
         };
-        visit(family, arguments.call(k % 3, tick))?;
+        visit(family, arguments.call(choice, tick))?;
     }
     Ok(())
 }
@@ -382,16 +386,12 @@ fn order_span(random: &mut SplitMix64, arguments: &mut Arguments) {
 }
 
 /// A tick to ask for: at or next to the known one, at an end, or any.
-fn tick(random: &mut SplitMix64, knowledge: &Knowledge, arguments: &Arguments) -> u64 {
-    let known = || {
-        let (item, replica) = (arguments.item[..].try_into(), arguments.replica[..].try_into());
-        knowledge.known(&item.expect("24 bytes"), &replica.expect("16 bytes"))
-    };
+fn tick(random: &mut SplitMix64, known: u64) -> u64 {
     match random.below(8) {
         0 => *random.choose(&TICKS),
         1 => random.next_u64() >> random.below(64),
-        2 => known().wrapping_sub(1),
-        3 | 4 => known() + 1,
-        _ => known(),
+        2 => known.wrapping_sub(1),
+        3 | 4 => known + 1,
+        _ => known,
     }
 }

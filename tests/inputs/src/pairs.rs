@@ -1,7 +1,7 @@
 //! Knowledges that are related to another one: the same ticks written in another way, and small changes.
 
 use crate::knowledge::Knowledge;
-use crate::meaning::{FIRST_ITEM, ItemId, item_before, next_item};
+use crate::meaning::{FIRST_ITEM, ItemId, LAST_ITEM, ReplicaId, item_before, next_item};
 use crate::splitmix::SplitMix64;
 
 const MOST_REPLICAS: usize = 16;
@@ -140,6 +140,20 @@ fn change(random: &mut SplitMix64, knowledge: &mut Knowledge) {
     }
 }
 
+/// An item and a replica, mostly ones of which the two knowledges do not both know tick 0, and often not the same tick.
+pub fn place(random: &mut SplitMix64, knowledges: [&Knowledge; 2]) -> (ItemId, ReplicaId) {
+    let mut draw = || (item(random, knowledges), replica(random, knowledges));
+    let mut place = draw();
+    for draws in 0..6 {
+        let [first, second] = knowledges.map(|knowledge| knowledge.known(&place.0, &place.1));
+        if first != second || (draws >= 3 && first > 0) {
+            break;
+        }
+        place = draw();
+    }
+    place
+}
+
 /// An item id at a bound of one of the knowledges, next to one, at an end, or anywhere.
 pub fn item(random: &mut SplitMix64, knowledges: [&Knowledge; 2]) -> ItemId {
     let ranges = &random.choose(&knowledges).ranges;
@@ -148,7 +162,7 @@ pub fn item(random: &mut SplitMix64, knowledges: [&Knowledge; 2]) -> ItemId {
         0 | 1 => bound,
         2 | 3 => next_item(&bound).unwrap_or(bound),
         4 => item_before(&bound).unwrap_or(bound),
-        5 => *random.choose(&[FIRST_ITEM, [255; 24]]),
+        5 => *random.choose(&[FIRST_ITEM, LAST_ITEM]),
         6 => {
             let mut item = bound;
             item[random.below(24)] ^= 1 << random.below(8);
@@ -159,7 +173,7 @@ pub fn item(random: &mut SplitMix64, knowledges: [&Knowledge; 2]) -> ItemId {
 }
 
 /// A replica id of one of the knowledges, one that differs in a bit, or any.
-pub fn replica(random: &mut SplitMix64, knowledges: [&Knowledge; 2]) -> [u8; 16] {
+fn replica(random: &mut SplitMix64, knowledges: [&Knowledge; 2]) -> ReplicaId {
     let replicas = &random.choose(&knowledges).replicas;
     if replicas.is_empty() || random.once_in(16) {
         return random.bytes();
@@ -195,7 +209,7 @@ mod tests {
         let mut covered = 0;
         for _ in 0..1000 {
             let (first, second) = pair(random);
-            covered += usize::from(first.covers(&second, &FIRST_ITEM, &[255; 24]));
+            covered += usize::from(first.covers(&second, &FIRST_ITEM, &LAST_ITEM));
         }
         assert!((200..800).contains(&covered), "{covered}");
     }
