@@ -3,13 +3,16 @@
 //! Known ticks change at the bounds of the two knowledges only. A cursor over the ranges of each goes forward from bound
 //! to bound, and at each stop a row of the first's ticks is compared with the elements of the second's vector.
 
+use std::cmp::Ordering;
+
 use crate::ids::Span;
-use crate::view::{ItemId, REPLICAS, Ranges, View};
+use crate::view::{ItemId, REPLICAS, Ranges, Starts, View, words};
 
 /// Whether the first knowledge knows at least as much as the second for every item of the span and every replica.
 pub fn cover(first: &[u8], second: &[u8], first_id: &[u8], last_id: &[u8]) -> Result<bool, u32> {
-    let first = View::read(first)?;
-    let second = View::read(second)?;
+    let (mut first_starts, mut second_starts) = (Starts::new(), Starts::new());
+    let first = View::read(first, &mut first_starts)?;
+    let second = View::read(second, &mut second_starts)?;
     let span = Span::new(first_id, last_id)?;
     Ok(covers(&first, &second, span))
 }
@@ -18,22 +21,24 @@ fn covers(first: &View, second: &View, span: Span) -> bool {
     let columns = Columns::new(first, second);
     let mut upper = Forward::new(first.ranges(), span);
     let mut lower = Forward::new(second.ranges(), span);
-    let mut row = Row::of(first, upper.index());
+    let mut row = Row::new();
+    row.load(first, upper.index());
     loop {
-        let enough = |(key, tick)| tick <= row.tick(columns.of(key));
-        if !second.elements(lower.index()).map(|element| (element.key(), element.tick())).all(enough) {
+        if !second.elements(lower.index()).all(|element| element.tick() <= row.tick(columns.of(element.key()))) {
             return false;
         }
-        match (upper.next_bound(), lower.next_bound()) {
+        let order = match (upper.next_bound(), lower.next_bound()) {
             (None, None) => return true,
-            (Some(bound), other) if other.is_none_or(|other| bound <= other) => {
-                if other == Some(bound) {
-                    lower.step();
-                }
-                upper.step();
-                row = Row::of(first, upper.index());
-            }
-            _ => lower.step(),
+            (Some(_), None) => Ordering::Less,
+            (None, Some(_)) => Ordering::Greater,
+            (Some(upper), Some(lower)) => words(upper).cmp(&words(lower)),
+        };
+        if order.is_ge() {
+            lower.step();
+        }
+        if order.is_le() {
+            upper.step();
+            row.load(first, upper.index());
         }
     }
 }
@@ -69,12 +74,17 @@ struct Row([u64; 2 * REPLICAS]);
 
 impl Row {
     #[inline]
-    fn of(knowledge: &View, index: usize) -> Self {
-        let mut row = [0; 2 * REPLICAS];
+    fn new() -> Self {
+        Self([0; 2 * REPLICAS])
+    }
+
+    /// Takes over the ticks of a vector.
+    #[inline]
+    fn load(&mut self, knowledge: &View, index: usize) {
+        self.0[..REPLICAS].fill(0);
         for element in knowledge.elements(index) {
-            row[element.key() % REPLICAS] = element.tick();
+            self.0[element.key() % REPLICAS] = element.tick();
         }
-        Self(row)
     }
 
     #[inline]

@@ -1,7 +1,7 @@
 //! Ids given to a call.
 
 use crate::refusal::IDS;
-use crate::view::{ItemId, ReplicaId};
+use crate::view::{ItemId, ReplicaId, words};
 
 #[inline]
 pub fn item(id: &[u8]) -> Result<&ItemId, u32> {
@@ -24,6 +24,6 @@ impl<'a> Span<'a> {
     #[inline]
     pub fn new(first: &'a [u8], last: &'a [u8]) -> Result<Self, u32> {
         let (first, last) = (item(first)?, item(last)?);
-        if first <= last { Ok(Self { first, last }) } else { Err(IDS) }
+        if words(first) <= words(last) { Ok(Self { first, last }) } else { Err(IDS) }
     }
 }

@@ -4,6 +4,7 @@ use std::ops::RangeInclusive;
 
 use crate::cursor::Cursor;
 use crate::refusal::{BOUND, COUNT, FIRST_VECTOR, INDEX, KEY, LEFT_OVER, REPLICA_ID, TICK};
+use crate::view::{ItemId, words};
 
 const REPLICAS: RangeInclusive<u32> = 0..=16;
 const VECTORS: RangeInclusive<u32> = 1..=65;
@@ -31,7 +32,7 @@ pub fn check(bytes: &[u8]) -> Result<Sizes, u32> {
 /// Is told, while a knowledge is read, how many bytes are left from a part of it on. What keeps none of it costs no time.
 pub(crate) trait Places {
     fn replica_ids(&mut self, _left: usize) {}
-    fn elements(&mut self, _vector: u32, _left: usize, _count: u32) {}
+    fn elements(&mut self, _vector: u32, _left: usize) {}
     fn ranges(&mut self, _left: usize) {}
 }
 
@@ -111,8 +112,8 @@ fn clock_vectors(cursor: &mut Cursor, r: u32, places: &mut impl Places) -> Resul
     let mut e = 0;
     for vector in 1..v {
         cursor.fixed(1u32.to_be_bytes())?;
+        places.elements(vector, cursor.rest().len());
         let elements = count(cursor, 0..=r)?;
-        places.elements(vector, cursor.rest().len(), elements);
         let mut seen = 0u32;
         for _ in 0..elements {
             let key = cursor.u32()?;
@@ -138,10 +139,10 @@ fn ranges(cursor: &mut Cursor, v: u32, places: &mut impl Places) -> Result<u32, 
     let g = count(cursor, RANGES)?;
 
     places.ranges(cursor.rest().len());
-    let mut before: Option<&[u8; 24]> = None;
+    let mut before: Option<&ItemId> = None;
     for _ in 0..g {
         let bound = cursor.take()?;
-        if before.is_some_and(|before| bound <= before) {
+        if before.is_some_and(|before| words(bound) <= words(before)) {
             return Err(BOUND);
         }
         before = Some(bound);

@@ -9,6 +9,15 @@ pub const VECTORS: usize = 65;
 pub type ItemId = [u8; 24];
 pub type ReplicaId = [u8; 16];
 
+/// An item id as words, which are in the same order as the ids and quicker to compare.
+#[inline]
+pub fn words(id: &ItemId) -> (u128, u64) {
+    let (high, low) = id.split_at(16);
+    let high = high.try_into().expect("16 bytes");
+    let low = low.try_into().expect("8 bytes");
+    (u128::from_be_bytes(high), u64::from_be_bytes(low))
+}
+
 /// The bytes of an element of a clock vector.
 pub struct Element<'a>(&'a [u8; 12]);
 
@@ -55,7 +64,8 @@ impl<'a> Ranges<'a> {
     /// How many have a bound at or below the item.
     #[inline]
     pub fn up_to(self, item: &ItemId) -> usize {
-        self.0.partition_point(|range| Range(range).bound() <= item)
+        let item = words(item);
+        self.0.partition_point(|range| words(Range(range).bound()) <= item)
     }
 
     /// The first so many.
@@ -65,57 +75,57 @@ impl<'a> Ranges<'a> {
     }
 }
 
-/// Where the parts of a knowledge without fault stand.
-pub struct View<'a> {
-    bytes: &'a [u8],
-    replicas: &'a [ReplicaId],
-    ranges: Ranges<'a>,
-    elements: [Elements; VECTORS],
-}
-
-/// Where a vector's elements start, and how many there are. No accepted knowledge has 2^16 bytes.
-#[derive(Clone, Copy)]
-struct Elements {
-    start: u16,
-    count: u16,
-}
-
-/// Where the parts start, gathered while a knowledge is read.
-struct Starts {
-    whole: usize,
+/// Where the parts of a knowledge start, counted from its end: kept while it is read, and borrowed by its view, so that
+/// nothing is copied. No accepted knowledge has 2^16 bytes.
+pub struct Starts {
     replicas: usize,
     ranges: usize,
-    elements: [Elements; VECTORS],
+    elements: [u16; VECTORS],
+}
+
+impl Starts {
+    #[inline]
+    pub fn new() -> Self {
+        Self { replicas: 0, ranges: 0, elements: [0; VECTORS] }
+    }
 }
 
 impl Places for Starts {
     #[inline]
     fn replica_ids(&mut self, left: usize) {
-        self.replicas = self.whole - left;
+        self.replicas = left;
     }
 
     #[inline]
-    fn elements(&mut self, vector: u32, left: usize, count: u32) {
-        self.elements[vector as usize] = Elements { start: (self.whole - left) as u16, count: count as u16 };
+    fn elements(&mut self, vector: u32, left: usize) {
+        self.elements[vector as usize] = left as u16;
     }
 
     #[inline]
     fn ranges(&mut self, left: usize) {
-        self.ranges = self.whole - left;
+        self.ranges = left;
     }
+}
+
+/// A knowledge without fault.
+pub struct View<'a> {
+    bytes: &'a [u8],
+    replicas: &'a [ReplicaId],
+    ranges: Ranges<'a>,
+    elements: &'a [u16; VECTORS],
 }
 
 impl<'a> View<'a> {
     /// Reads a knowledge, or gives the number of its first fault.
-    pub fn read(bytes: &'a [u8]) -> Result<Self, u32> {
-        let none = Elements { start: 0, count: 0 };
-        let mut starts = Starts { whole: bytes.len(), replicas: 0, ranges: 0, elements: [none; VECTORS] };
-        let sizes = read(bytes, &mut starts)?;
+    #[inline]
+    pub fn read(bytes: &'a [u8], starts: &'a mut Starts) -> Result<Self, u32> {
+        let sizes = read(bytes, starts)?;
+        let from = |left| &bytes[bytes.len() - left..];
         Ok(Self {
             bytes,
-            replicas: &bytes[starts.replicas..].as_chunks().0[..sizes.r as usize],
-            ranges: Ranges(&bytes[starts.ranges..].as_chunks().0[..sizes.g as usize]),
-            elements: starts.elements,
+            replicas: &from(starts.replicas).as_chunks().0[..sizes.r as usize],
+            ranges: Ranges(&from(starts.ranges).as_chunks().0[..sizes.g as usize]),
+            elements: &starts.elements,
         })
     }
 
@@ -130,8 +140,9 @@ impl<'a> View<'a> {
     /// The elements of a vector.
     #[inline]
     pub fn elements(&self, index: usize) -> impl Iterator<Item = Element<'a>> {
-        let Elements { start, count } = self.elements[index];
-        self.bytes[start as usize..].as_chunks().0[..count as usize].iter().map(Element)
+        let left = self.elements[index] as usize;
+        let (count, rest) = self.bytes[self.bytes.len() - left..].split_first_chunk().unwrap_or((&[0; 4], &[]));
+        rest.as_chunks().0[..u32::from_be_bytes(*count) as usize].iter().map(Element)
     }
 
     /// The tick known for an item and a replica.
