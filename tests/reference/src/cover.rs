@@ -3,10 +3,9 @@
 //! Known ticks change at the bounds of the two knowledges only. A cursor over the ranges of each goes forward from bound
 //! to bound, and at each stop a row of the first's ticks is compared with the elements of the second's vector.
 
-use std::cmp::Ordering;
-
+use crate::forward::{self, Forward};
 use crate::ids::Span;
-use crate::view::{ItemId, REPLICAS, Ranges, Starts, View, words};
+use crate::view::{REPLICAS, Starts, View};
 
 /// Whether the first knowledge knows at least as much as the second for every item of the span and every replica.
 pub fn cover(first: &[u8], second: &[u8], first_id: &[u8], last_id: &[u8]) -> Result<bool, u32> {
@@ -27,12 +26,7 @@ fn covers(first: &View, second: &View, span: Span) -> bool {
         if !second.elements(lower.index()).all(|element| element.tick() <= row.tick(columns.of(element.key()))) {
             return false;
         }
-        let order = match (upper.next_bound(), lower.next_bound()) {
-            (None, None) => return true,
-            (Some(_), None) => Ordering::Less,
-            (None, Some(_)) => Ordering::Greater,
-            (Some(upper), Some(lower)) => words(upper).cmp(&words(lower)),
-        };
+        let Some(order) = forward::next(&upper, &lower) else { return true };
         if order.is_ge() {
             lower.step();
         }
@@ -90,35 +84,5 @@ impl Row {
     #[inline]
     fn tick(&self, key: usize) -> u64 {
         self.0[key % (2 * REPLICAS)]
-    }
-}
-
-/// A cursor over the ranges of a knowledge that have a part in a span. It only goes forward.
-struct Forward<'a> {
-    ranges: Ranges<'a>,
-    /// How many ranges start at or below where it stands.
-    passed: usize,
-}
-
-impl<'a> Forward<'a> {
-    fn new(ranges: Ranges<'a>, span: Span) -> Self {
-        Self { ranges: ranges.first(ranges.up_to(span.last)), passed: ranges.up_to(span.first) }
-    }
-
-    /// The index of the vector where it stands; below the first range that is the empty vector.
-    #[inline]
-    fn index(&self) -> usize {
-        self.passed.checked_sub(1).and_then(|place| self.ranges.get(place)).map_or(0, |range| range.index())
-    }
-
-    /// The bound of the next range.
-    #[inline]
-    fn next_bound(&self) -> Option<&'a ItemId> {
-        self.ranges.get(self.passed).map(|range| range.bound())
-    }
-
-    #[inline]
-    fn step(&mut self) {
-        self.passed += 1;
     }
 }
