@@ -1,4 +1,5 @@
-/* Calls the engine through its C header, as C and as C++: the smallest knowledge, cut, and with a byte left over. */
+/* Calls the engine through its C header, as C and as C++: the smallest knowledge, cut, and with a byte left over; with
+   SYNC_CALLS, the other calls on the paper's knowledges A and B too. */
 
 #include <inttypes.h>
 #include <stdio.h>
@@ -34,11 +35,108 @@ static int right(size_t n, uint32_t number, uint64_t r, uint64_t v, uint64_t e, 
     return 0;
 }
 
+#ifdef SYNC_CALLS
+
+#define ITEM 24
+#define REPLICA 16
+
+/* A: tick 5 of replica P everywhere. */
+static const uint8_t a[] = {
+    0, 0, 0, 5,  0, 0, 0, 0,  0, 0, 0, 1,  0, 0, 0, 0,
+    0, 0, 0, 5,  0,  0, 16,  0, 0, 0, 1,
+    0, 0, 0, 0, 0, 0, 0, 0, 0, 0, 0, 0, 0, 0, 0, 1,
+    0, 0, 0, 24,  0,  0, 16,  0,  0, 24,  0,  0, 1,
+    0, 0, 0, 21,  0, 0, 0, 2,
+    0, 0, 0, 1,  0, 0, 0, 0,
+    0, 0, 0, 1,  0, 0, 0, 1,  0, 0, 0, 0,  0, 0, 0, 0, 0, 0, 0, 5,
+    0, 0, 0, 23,  0, 0, 0, 1,  0, 0, 0, 22,  0, 0, 0, 1,
+    0, 0, 0, 0, 0, 0, 0, 0, 0, 0, 0, 0, 0, 0, 0, 0, 0, 0, 0, 0, 0, 0, 0, 0,  0, 0, 0, 1,
+    0, 0, 0, 0,  0, 0, 0, 25,  1,  0, 0, 0, 0
+};
+
+/* B: tick 3 of replica P and tick 2 of replica Q everywhere. */
+static const uint8_t b[] = {
+    0, 0, 0, 5,  0, 0, 0, 0,  0, 0, 0, 1,  0, 0, 0, 0,
+    0, 0, 0, 5,  0,  0, 16,  0, 0, 0, 2,
+    0, 0, 0, 0, 0, 0, 0, 0, 0, 0, 0, 0, 0, 0, 0, 1,
+    0, 0, 0, 0, 0, 0, 0, 0, 0, 0, 0, 0, 0, 0, 0, 2,
+    0, 0, 0, 24,  0,  0, 16,  0,  0, 24,  0,  0, 1,
+    0, 0, 0, 21,  0, 0, 0, 2,
+    0, 0, 0, 1,  0, 0, 0, 0,
+    0, 0, 0, 1,  0, 0, 0, 2,  0, 0, 0, 0,  0, 0, 0, 0, 0, 0, 0, 3,  0, 0, 0, 1,  0, 0, 0, 0, 0, 0, 0, 2,
+    0, 0, 0, 23,  0, 0, 0, 1,  0, 0, 0, 22,  0, 0, 0, 1,
+    0, 0, 0, 0, 0, 0, 0, 0, 0, 0, 0, 0, 0, 0, 0, 0, 0, 0, 0, 0, 0, 0, 0, 0,  0, 0, 0, 1,
+    0, 0, 0, 0,  0, 0, 0, 25,  1,  0, 0, 0, 0
+};
+
+static const uint8_t p[REPLICA] = {0, 0, 0, 0, 0, 0, 0, 0, 0, 0, 0, 0, 0, 0, 0, 1};
+static const uint8_t q[REPLICA] = {0, 0, 0, 0, 0, 0, 0, 0, 0, 0, 0, 0, 0, 0, 0, 2};
+static const uint8_t first[ITEM] = {0, 0, 0, 0, 0, 0, 0, 0, 0, 0, 0, 0, 0, 0, 0, 0, 0, 0, 0, 0, 0, 0, 0, 0};
+static const uint8_t last[ITEM] = {255, 255, 255, 255, 255, 255, 255, 255, 255, 255, 255, 255,
+                                   255, 255, 255, 255, 255, 255, 255, 255, 255, 255, 255, 255};
+
+/* Whether a call gave the number, and the value ended as this one. */
+static int gave(const char *call, uint32_t given, uint32_t number, int64_t value, int64_t wanted)
+{
+    if (given == number && value == wanted)
+        return 1;
+    fprintf(stderr, "header: %s: %" PRIu32 " and %" PRId64 ", not %" PRIu32 " and %" PRId64 "\n",
+            call, given, value, number, wanted);
+    return 0;
+}
+
+static int contain(const uint8_t *knowledge, size_t n, size_t replica, uint64_t tick, uint32_t number, uint32_t wanted)
+{
+    uint32_t contained = 7;
+    uint32_t given = sync_contain(knowledge, n, last, ITEM, p, replica, tick, &contained);
+    return gave("contain", given, number, contained, wanted);
+}
+
+static int lead(const uint8_t *replica, size_t item, uint32_t number, int64_t wanted)
+{
+    int64_t value = 7;
+    uint32_t given = sync_lead(a, sizeof a, b, sizeof b, first, item, replica, REPLICA, &value);
+    return gave("lead", given, number, value, wanted);
+}
+
+static int cover(const uint8_t *knowledge, size_t n, const uint8_t *from, const uint8_t *to, uint32_t number, uint32_t wanted)
+{
+    uint32_t covers = 7;
+    uint32_t given = sync_cover(knowledge, n, a, sizeof a, from, ITEM, to, ITEM, &covers);
+    return gave("cover", given, number, covers, wanted);
+}
+
+static int calls(void)
+{
+    return contain(a, sizeof a, REPLICA, 5, 0, 1)
+        && contain(a, sizeof a, REPLICA, 6, 0, 0)
+        && contain(a, sizeof a, REPLICA, 0, 0, 0)
+        && contain(a, sizeof a - 1, REPLICA - 1, 5, SYNC_CUT, 7)
+        && contain(a, sizeof a, REPLICA - 1, 5, 17, 7)
+        && lead(p, ITEM, 0, 2)
+        && lead(q, ITEM, 0, -2)
+        && lead(q, 0, 17, 7)
+        && cover(a, sizeof a, first, last, 0, 1)
+        && cover(b, sizeof b, first, last, 0, 0)
+        && cover(b, sizeof b, last, first, 17, 7)
+        && cover(b, 0, last, first, SYNC_CUT, 7);
+}
+
+#else
+
+static int calls(void)
+{
+    return 1;
+}
+
+#endif
+
 int main(void)
 {
     return right(LENGTH, 0, 0, 1, 0, 1)
         && right(LENGTH - 1, SYNC_CUT, 7, 7, 7, 7)
         && right(LENGTH + 1, SYNC_LEFT_OVER, 7, 7, 7, 7)
         && right(0, SYNC_CUT, 7, 7, 7, 7)
+        && calls()
         ? 0 : 1;
 }

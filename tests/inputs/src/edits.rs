@@ -73,7 +73,7 @@ fn ids(written: &Written, at: usize) -> Vec<Vec<u8>> {
 }
 
 /// The next larger id; after the largest the smallest.
-fn one_more(id: &[u8]) -> Vec<u8> {
+pub fn one_more(id: &[u8]) -> Vec<u8> {
     let mut id = id.to_vec();
     for byte in id.iter_mut().rev() {
         *byte = byte.wrapping_add(1);
@@ -85,7 +85,7 @@ fn one_more(id: &[u8]) -> Vec<u8> {
 }
 
 /// The next smaller id; before the smallest the largest.
-fn one_less(id: &[u8]) -> Vec<u8> {
+pub fn one_less(id: &[u8]) -> Vec<u8> {
     let mut id = id.to_vec();
     for byte in id.iter_mut().rev() {
         *byte = byte.wrapping_sub(1);

@@ -11,7 +11,7 @@ pub trait Visit<E>: FnMut(&'static str, &[u8]) -> Result<(), E> {}
 impl<E, V: FnMut(&'static str, &[u8]) -> Result<(), E>> Visit<E> for V {}
 
 /// Knowledges without fault, of many shapes, from the smallest to the largest.
-fn shapes() -> Vec<Knowledge> {
+pub fn shapes() -> Vec<Knowledge> {
     let mut shapes: Vec<Knowledge> = [
         (0, 1, 1),
         (0, 2, 2),

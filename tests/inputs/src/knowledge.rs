@@ -96,6 +96,20 @@ impl Knowledge {
         knowledge
     }
 
+    /// The paper's A: tick 5 of replica P, which has id 1, everywhere.
+    pub fn a() -> Self {
+        Self { replicas: vec![replica_id(1)], vectors: vec![Vec::new(), vec![(0, 5)]], ranges: vec![(item_id(0), 1)] }
+    }
+
+    /// The paper's B: tick 3 of P and tick 2 of replica Q, which has id 2, everywhere.
+    pub fn b() -> Self {
+        Self {
+            replicas: vec![replica_id(1), replica_id(2)],
+            vectors: vec![Vec::new(), vec![(0, 3), (1, 2)]],
+            ranges: vec![(item_id(0), 1)],
+        }
+    }
+
     /// A random knowledge without fault, mostly a small one, seldom in normal form.
     pub fn random(random: &mut SplitMix64) -> Self {
         let (r, v, g) = match random.below(16) {
@@ -119,6 +133,37 @@ impl Knowledge {
         });
         let bounds = distinct_ids(random, g);
         let ranges = bounds.into_iter().map(|bound| (bound, random.below(v) as u32)).collect();
+        Self { replicas, vectors, ranges }
+    }
+
+    /// What the bytes of a knowledge without fault say.
+    pub fn decoded(bytes: &[u8]) -> Self {
+        let mut rest = bytes;
+        let mut take = |n| {
+            let (field, behind) = rest.split_at(n);
+            rest = behind;
+            field.iter().fold(0, |number: u128, byte| (number << 8) | u128::from(*byte))
+        };
+        take(16 + 7);
+        let r = take(4);
+        let replicas = (0..r).map(|_| replica_id(take(16))).collect();
+        take(13 + 4);
+        let v = take(4);
+        let mut vector = |_| {
+            take(4);
+            let n = take(4);
+            (0..n).map(|_| (take(4) as u32, take(8) as u64)).collect()
+        };
+        let vectors = (0..v).map(&mut vector).collect();
+        take(12);
+        let g = take(4);
+        let mut range = |_| {
+            let (high, low) = (take(8) as u64, take(16));
+            let mut bound = item_id(low);
+            bound[..8].copy_from_slice(&high.to_be_bytes());
+            (bound, take(4) as u32)
+        };
+        let ranges = (0..g).map(&mut range).collect();
         Self { replicas, vectors, ranges }
     }
 
@@ -234,6 +279,15 @@ mod tests {
                 + 12 * elements
                 + 28 * knowledge.ranges.len();
             assert_eq!(knowledge.bytes().len(), length);
+        }
+    }
+
+    #[test]
+    fn decoding_gives_what_was_written() {
+        let mut random = SplitMix64::new(1);
+        for _ in 0..1000 {
+            let knowledge = Knowledge::random(&mut random);
+            assert_eq!(Knowledge::decoded(&knowledge.bytes()), knowledge);
         }
     }
 

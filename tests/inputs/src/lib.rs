@@ -3,14 +3,19 @@
 
 #![forbid(unsafe_code)]
 
+mod calls;
 mod edits;
 mod families;
 mod instances;
 mod knowledge;
+mod meaning;
+mod pairs;
 mod plan;
 mod splitmix;
 
+pub use calls::{Call, faulty};
 pub use instances::{Instance, instances};
 pub use knowledge::{Field, Kind, Knowledge, Written, item_id, replica_id};
-pub use plan::{Input, Plan};
+pub use meaning::{FIRST_ITEM, ItemId, LAST_ITEM, ReplicaId, item_before, next_item};
+pub use plan::{CallInput, Input, Plan};
 pub use splitmix::SplitMix64;

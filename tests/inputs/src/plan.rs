@@ -3,6 +3,7 @@
 use std::convert::Infallible;
 use std::env;
 
+use crate::calls::{self, Call};
 use crate::families;
 use crate::splitmix::SplitMix64;
 
@@ -13,6 +14,15 @@ pub struct Input<'a> {
     pub place: usize,
     pub family: &'static str,
     pub bytes: &'a [u8],
+}
+
+/// One call of a run.
+#[derive(Clone, Copy, Debug)]
+pub struct CallInput<'a> {
+    /// Its place in the run, from 0.
+    pub place: usize,
+    pub family: &'static str,
+    pub call: Call<'a>,
 }
 
 /// A run: the same plan always gives the same inputs.
@@ -44,22 +54,58 @@ impl Plan {
     /// The fixed ones come first. If they were more than half of the run, it has only some of them, which the seed
     /// chooses. Random ones fill it up.
     pub fn try_for_each<E>(&self, mut visit: impl FnMut(Input) -> Result<(), E>) -> Result<(), E> {
-        let one_in = fixed_inputs().div_ceil((self.inputs / 2).max(1));
-
-        let mut place = 0;
-        let mut choice = SplitMix64::new(self.seed);
-        families::fixed(&mut |family, bytes: &[u8]| {
-            if choice.once_in(one_in) && place < self.inputs {
-                visit(Input { place, family, bytes })?;
-                place += 1;
-            }
-            Ok(())
+        let mut places = Places::new(self, fixed_inputs());
+        families::fixed(&mut |family, bytes: &[u8]| match places.next_fixed() {
+            Some(place) => visit(Input { place, family, bytes }),
+            None => Ok(()),
         })?;
-        families::random(self.seed, self.inputs - place, &mut |family, bytes: &[u8]| {
-            visit(Input { place, family, bytes })?;
-            place += 1;
-            Ok(())
+        families::random(self.seed, places.left(), &mut |family, bytes: &[u8]| {
+            visit(Input { place: places.next(), family, bytes })
         })
+    }
+
+    /// Hands out calls in the same manner, as many as the plan has inputs.
+    pub fn try_for_each_call<E>(&self, mut visit: impl FnMut(CallInput) -> Result<(), E>) -> Result<(), E> {
+        let mut places = Places::new(self, fixed_calls());
+        calls::fixed(&mut |family, call: Call| match places.next_fixed() {
+            Some(place) => visit(CallInput { place, family, call }),
+            None => Ok(()),
+        })?;
+        calls::random(self.seed, places.left(), &mut |family, call: Call| {
+            visit(CallInput { place: places.next(), family, call })
+        })
+    }
+}
+
+/// Gives the inputs of a run their places, and chooses among the fixed ones.
+struct Places {
+    next: usize,
+    all: usize,
+    choice: SplitMix64,
+    /// One in so many of the fixed ones is in the run.
+    one_in: usize,
+}
+
+impl Places {
+    fn new(plan: &Plan, fixed: usize) -> Self {
+        let one_in = fixed.div_ceil((plan.inputs / 2).max(1));
+        Self { next: 0, all: plan.inputs, choice: SplitMix64::new(plan.seed), one_in }
+    }
+
+    /// The place of the next fixed input, if it is in the run.
+    fn next_fixed(&mut self) -> Option<usize> {
+        let chosen = self.choice.once_in(self.one_in) && self.next < self.all;
+        chosen.then(|| self.next())
+    }
+
+    fn next(&mut self) -> usize {
+        self.next += 1;
+        self.next - 1
+    }
+
+    /// How many places are left.
+    fn left(&self) -> usize {
+        self.all - self.next
     }
 }
 
@@ -72,8 +118,19 @@ fn fixed_inputs() -> usize {
     count
 }
 
+fn fixed_calls() -> usize {
+    let mut count = 0;
+    let Ok(()) = calls::fixed(&mut |_, _: Call| {
+        count += 1;
+        Ok::<(), Infallible>(())
+    });
+    count
+}
+
 #[cfg(test)]
 mod tests {
+    use std::hash::{DefaultHasher, Hash, Hasher};
+
     use super::*;
 
     #[test]
@@ -86,6 +143,15 @@ mod tests {
             Ok::<(), Infallible>(())
         });
         assert_eq!(count, fixed_inputs());
+
+        let mut count = 0;
+        let Ok(()) = Plan::USUAL.try_for_each_call(|input| {
+            if !input.family.starts_with("random") {
+                count += 1;
+            }
+            Ok::<(), Infallible>(())
+        });
+        assert_eq!(count, fixed_calls());
     }
 
     #[test]
@@ -103,6 +169,21 @@ mod tests {
             let sums = run();
             assert_eq!(sums.len(), inputs);
             assert_eq!(sums, run());
+
+            let calls = || {
+                let mut calls = Vec::new();
+                let Ok(()) = Plan { seed: 5, inputs }.try_for_each_call(|input| {
+                    assert_eq!(input.place, calls.len());
+                    let mut hasher = DefaultHasher::new();
+                    input.call.hash(&mut hasher);
+                    calls.push(hasher.finish());
+                    Ok::<(), Infallible>(())
+                });
+                calls
+            };
+            let hashes = calls();
+            assert_eq!(hashes.len(), inputs);
+            assert_eq!(hashes, calls());
         }
     }
 }

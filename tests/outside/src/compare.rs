@@ -1,11 +1,10 @@
-//! Comparing the engine with the reference.
+//! Comparing the check of the engine with that of the reference.
 
 use std::fmt;
 
 use inputs::{Input, Plan};
 
-/// What the sizes hold before a call. No size is as large.
-const UNTOUCHED: u64 = 0xa5a5_a5a5_a5a5_a5a5;
+use crate::one;
 
 /// How often each number was given, 0 for acceptance.
 #[derive(Clone, Copy, Debug, Default, PartialEq, Eq)]
@@ -55,73 +54,19 @@ pub fn run(plan: &Plan, engine: impl Fn(&[u8], &mut [u64; 4]) -> u32) -> Result<
 
 /// Compares the two on one input and gives the number that they agree on.
 fn compare(input: &Input, engine: &impl Fn(&[u8], &mut [u64; 4]) -> u32) -> Result<u32, String> {
-    let answer = reference::check(input.bytes);
-    let (number, sizes) = match answer {
-        Ok(sizes) => (0, [sizes.r, sizes.v, sizes.e, sizes.g]),
-        Err(number) => (number, [UNTOUCHED; 4]),
-    };
-    let differs = |how, engine_number, engine_sizes: &[u64; 4]| {
-        Err(format!(
-            "{how}: engine {}, reference {}",
-            shown(engine_number, engine_sizes),
-            match answer {
-                Ok(_) => shown(0, &sizes),
-                Err(number) => shown(number, &sizes),
-            }
-        ))
-    };
-
-    // The bytes where they lie, perhaps with others behind them that an engine reading too far would take for a part
-    // of them. Numbers in front of the sizes and behind them show writing too far.
-    let mut numbers = [UNTOUCHED; 12];
-    let middle = numbers[4..].first_chunk_mut().expect("eight numbers are left");
-    let engine_number = engine(input.bytes, middle);
-    let engine_sizes = *middle;
-    if engine_number != number || engine_sizes != sizes {
-        return differs("in place", engine_number, &engine_sizes);
-    }
-    if numbers[..4] != [UNTOUCHED; 4] || numbers[8..] != [UNTOUCHED; 4] {
-        return Err("the engine wrote before or behind the sizes".to_owned());
-    }
-
-    // A copy that ends where its memory ends, so that valgrind sees reading too far, and sizes likewise. Its address
-    // is not always even.
-    let skipped = input.place % 8;
-    let mut memory = vec![0; skipped + input.bytes.len()].into_boxed_slice();
-    memory[skipped..].copy_from_slice(input.bytes);
-    let mut engine_sizes = Box::new([UNTOUCHED; 4]);
-    let engine_number = engine(&memory[skipped..], &mut engine_sizes);
-    if engine_number != number || *engine_sizes != sizes {
-        return differs("copied", engine_number, &engine_sizes);
-    }
-    if memory[..skipped].iter().any(|byte| *byte != 0) || memory[skipped..] != *input.bytes {
-        return Err("the engine changed its input".to_owned());
-    }
-    Ok(number)
-}
-
-fn shown(number: u32, sizes: &[u64; 4]) -> String {
-    let refused = match number {
-        0 => "accepts".to_owned(),
-        _ => format!("refuses with {number}"),
-    };
-    match sizes {
-        [UNTOUCHED, UNTOUCHED, UNTOUCHED, UNTOUCHED] => format!("{refused}, sizes untouched"),
-        _ => format!("{refused}, sizes {sizes:?}"),
-    }
+    let answer = reference::check(input.bytes).map(|sizes| [sizes.r, sizes.v, sizes.e, sizes.g]);
+    one::compare(input.place, [input.bytes], answer, |[bytes], sizes| engine(bytes, sizes))?;
+    Ok(answer.err().unwrap_or(0))
 }
 
 fn describe(plan: &Plan, input: &Input, difference: &str) -> String {
-    const SHOWN: usize = 1024;
-    let hex: String = input.bytes.iter().take(SHOWN).map(|byte| format!("{byte:02x}")).collect();
-    let more = if input.bytes.len() > SHOWN { "..." } else { "" };
     format!(
-        "{difference}\n  seed {}, input {} of {} ({}), {} bytes: {hex}{more}",
+        "{difference}\n  seed {}, input {} of {} ({}), {}",
         plan.seed,
         input.place,
         plan.inputs,
         input.family,
-        input.bytes.len()
+        one::hex(input.bytes)
     )
 }
 
@@ -169,7 +114,7 @@ mod tests {
                     }
                     number
                 };
-                assert!(run(&PLAN, engine).unwrap_err().contains("sizes untouched"));
+                assert!(run(&PLAN, engine).unwrap_err().contains("value untouched"));
             }
         }
     }

@@ -2,6 +2,8 @@
 
 #![deny(unsafe_code)]
 
+pub mod calls;
 pub mod compare;
 #[allow(unsafe_code)]
 pub mod engine;
+mod one;

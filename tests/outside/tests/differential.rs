@@ -1,15 +1,26 @@
-//! The engine and the reference give the same answer on every input of the run.
+//! The engine and the reference give the same answer on every input and on every call of the run.
 //!
-//! `SYNC_INPUTS` sets the number of inputs, `SYNC_SEED` the seed.
+//! `SYNC_INPUTS` sets the number of inputs, and of calls; `SYNC_SEED` sets the seed.
 
 use inputs::Plan;
 use outside::{compare, engine};
 
 #[test]
-fn engine_and_reference_agree() {
+fn engine_and_reference_agree_on_the_check() {
     let plan = Plan::from_environment();
     println!("{} inputs from seed {}", plan.inputs, plan.seed);
     match compare::run(&plan, engine::check) {
+        Ok(tally) => println!("{tally}"),
+        Err(error) => panic!("{error}"),
+    }
+}
+
+#[cfg(feature = "calls")]
+#[test]
+fn engine_and_reference_agree_on_the_other_calls() {
+    let plan = Plan::from_environment();
+    println!("{} calls from seed {}", plan.inputs, plan.seed);
+    match outside::calls::run(&plan, &engine::Linked) {
         Ok(tally) => println!("{tally}"),
         Err(error) => panic!("{error}"),
     }

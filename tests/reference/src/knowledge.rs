@@ -4,6 +4,7 @@ use std::ops::RangeInclusive;
 
 use crate::cursor::Cursor;
 use crate::refusal::{BOUND, COUNT, FIRST_VECTOR, INDEX, KEY, LEFT_OVER, REPLICA_ID, TICK};
+use crate::view::{ItemId, words};
 
 const REPLICAS: RangeInclusive<u32> = 0..=16;
 const VECTORS: RangeInclusive<u32> = 1..=65;
@@ -25,6 +26,21 @@ pub struct Sizes {
 
 /// Reads a knowledge from the front and gives its sizes, or the number of the first fault.
 pub fn check(bytes: &[u8]) -> Result<Sizes, u32> {
+    read(bytes, &mut ())
+}
+
+/// Is told, while a knowledge is read, how many bytes are left from a part of it on. What keeps none of it costs no time.
+pub(crate) trait Places {
+    fn replica_ids(&mut self, _left: usize) {}
+    fn elements(&mut self, _vector: u32, _left: usize) {}
+    fn ranges(&mut self, _left: usize) {}
+}
+
+impl Places for () {}
+
+/// Reads a knowledge from the front and gives its sizes, or the number of the first fault.
+#[inline(always)]
+pub(crate) fn read(bytes: &[u8], places: &mut impl Places) -> Result<Sizes, u32> {
     let mut cursor = Cursor::new(bytes);
     let cursor = &mut cursor;
 
@@ -33,7 +49,7 @@ pub fn check(bytes: &[u8]) -> Result<Sizes, u32> {
     cursor.fixed(1u32.to_be_bytes())?;
     cursor.fixed(0u32.to_be_bytes())?;
 
-    let r = replica_map(cursor)?;
+    let r = replica_map(cursor, places)?;
 
     cursor.fixed(24u32.to_be_bytes())?;
     cursor.fixed([0])?;
@@ -43,8 +59,8 @@ pub fn check(bytes: &[u8]) -> Result<Sizes, u32> {
     cursor.fixed([0])?;
     cursor.fixed(1u16.to_be_bytes())?;
 
-    let (v, e) = clock_vectors(cursor, r)?;
-    let g = ranges(cursor, v)?;
+    let (v, e) = clock_vectors(cursor, r, places)?;
+    let g = ranges(cursor, v, places)?;
 
     cursor.fixed(0u32.to_be_bytes())?;
     cursor.fixed(25u32.to_be_bytes())?;
@@ -65,12 +81,13 @@ fn count(cursor: &mut Cursor, limits: RangeInclusive<u32>) -> Result<u32, u32> {
 
 /// The replica map; gives the count of replicas.
 #[inline(always)] // keeps the cursor in registers
-fn replica_map(cursor: &mut Cursor) -> Result<u32, u32> {
+fn replica_map(cursor: &mut Cursor, places: &mut impl Places) -> Result<u32, u32> {
     cursor.fixed(5u32.to_be_bytes())?;
     cursor.fixed([0])?;
     cursor.fixed(16u16.to_be_bytes())?;
     let r = count(cursor, REPLICAS)?;
 
+    places.replica_ids(cursor.rest().len());
     let (ids, _) = cursor.rest().as_chunks::<16>();
     for before in 0..r as usize {
         let id = cursor.take()?;
@@ -83,7 +100,7 @@ fn replica_map(cursor: &mut Cursor) -> Result<u32, u32> {
 
 /// The clock vectors; gives the count of vectors and the count of all their elements.
 #[inline(always)] // keeps the cursor in registers
-fn clock_vectors(cursor: &mut Cursor, r: u32) -> Result<(u32, u32), u32> {
+fn clock_vectors(cursor: &mut Cursor, r: u32, places: &mut impl Places) -> Result<(u32, u32), u32> {
     cursor.fixed(21u32.to_be_bytes())?;
     let v = count(cursor, VECTORS)?;
 
@@ -93,8 +110,9 @@ fn clock_vectors(cursor: &mut Cursor, r: u32) -> Result<(u32, u32), u32> {
     }
 
     let mut e = 0;
-    for _ in 1..v {
+    for vector in 1..v {
         cursor.fixed(1u32.to_be_bytes())?;
+        places.elements(vector, cursor.rest().len());
         let elements = count(cursor, 0..=r)?;
         let mut seen = 0u32;
         for _ in 0..elements {
@@ -114,16 +132,17 @@ fn clock_vectors(cursor: &mut Cursor, r: u32) -> Result<(u32, u32), u32> {
 
 /// The ranges; gives their count.
 #[inline(always)] // keeps the cursor in registers
-fn ranges(cursor: &mut Cursor, v: u32) -> Result<u32, u32> {
+fn ranges(cursor: &mut Cursor, v: u32, places: &mut impl Places) -> Result<u32, u32> {
     cursor.fixed(23u32.to_be_bytes())?;
     cursor.fixed(1u32.to_be_bytes())?;
     cursor.fixed(22u32.to_be_bytes())?;
     let g = count(cursor, RANGES)?;
 
-    let mut before: Option<&[u8; 24]> = None;
+    places.ranges(cursor.rest().len());
+    let mut before: Option<&ItemId> = None;
     for _ in 0..g {
         let bound = cursor.take()?;
-        if before.is_some_and(|before| bound <= before) {
+        if before.is_some_and(|before| words(bound) <= words(before)) {
             return Err(BOUND);
         }
         before = Some(bound);

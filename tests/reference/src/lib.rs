@@ -5,8 +5,18 @@
 
 #![forbid(unsafe_code)]
 
+mod cover;
 mod cursor;
+mod forward;
+mod ids;
 mod knowledge;
+mod lookup;
+mod operations;
 pub mod refusal;
+mod table;
+mod view;
 
+pub use cover::cover;
 pub use knowledge::{Sizes, check};
+pub use lookup::{contain, lead};
+pub use operations::{merge, normalise, project};

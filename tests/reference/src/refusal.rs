@@ -20,3 +20,11 @@ pub const BOUND: u32 = 8;
 pub const INDEX: u32 = 9;
 /// Bytes are left over behind the last field.
 pub const LEFT_OVER: u32 = 10;
+/// The result has over 16 replicas.
+pub const RESULT_REPLICAS: u32 = 11;
+/// The result has over 64 ranges.
+pub const RESULT_RANGES: u32 = 12;
+/// The output buffer is shorter than the result.
+pub const BUFFER: u32 = 14;
+/// An item id is not 24 or a replica id not 16 bytes long, or a span's first id is above its last.
+pub const IDS: u32 = 17;

@@ -1,0 +1,151 @@
+//! A call with its arguments, and what was measured on it.
+
+use std::hint::black_box;
+
+use outside::engine;
+
+use crate::measure::Times;
+
+pub enum Asked {
+    Check {
+        knowledge: Vec<u8>,
+    },
+    #[cfg(feature = "calls")]
+    Contain {
+        knowledge: Vec<u8>,
+        item: Vec<u8>,
+        replica: Vec<u8>,
+        tick: u64,
+    },
+    #[cfg(feature = "calls")]
+    Lead {
+        first: Vec<u8>,
+        second: Vec<u8>,
+        item: Vec<u8>,
+        replica: Vec<u8>,
+    },
+    #[cfg(feature = "calls")]
+    Cover {
+        first: Vec<u8>,
+        second: Vec<u8>,
+        first_item: Vec<u8>,
+        last_item: Vec<u8>,
+    },
+}
+
+pub struct Row {
+    name: &'static str,
+    asked: Asked,
+    /// The number that is given, 0 for acceptance.
+    number: u32,
+    times: Times,
+}
+
+impl Row {
+    pub fn new(name: &'static str, number: u32, asked: Asked) -> Self {
+        Self { name, asked, number, times: Times::default() }
+    }
+
+    /// Measures one round more. The compiler does not know the arguments.
+    pub fn measure(&mut self) {
+        let number = self.number;
+        let give = |engine, rust: u32| assert_eq!((engine, rust), (number, number), "{}", self.name);
+        let times = &mut self.times;
+        match &self.asked {
+            Asked::Check { knowledge } => {
+                let knowledge = &knowledge[..];
+                let mut sizes = [0; 4];
+                give(engine::check(knowledge, &mut sizes), reference::check(knowledge).err().unwrap_or(0));
+                // Neither answer is copied: the engine writes where the sizes are, and only a reference is taken to the other.
+                times.measure(
+                    || {
+                        black_box(engine::check(black_box(knowledge), &mut sizes));
+                    },
+                    || {
+                        black_box(&reference::check(black_box(knowledge)));
+                    },
+                );
+            }
+            #[cfg(feature = "calls")]
+            Asked::Contain { knowledge, item, replica, tick } => {
+                let (knowledge, item, replica) = (&knowledge[..], &item[..], &replica[..]);
+                let mut contained = 0;
+                let answer = reference::contain(knowledge, item, replica, *tick);
+                give(engine::contain(knowledge, item, replica, *tick, &mut contained), answer.err().unwrap_or(0));
+                assert_eq!(answer.map_or(0, u32::from), contained);
+                times.measure(
+                    || {
+                        let (knowledge, item, replica) = (black_box(knowledge), black_box(item), black_box(replica));
+                        black_box(engine::contain(knowledge, item, replica, *tick, &mut contained));
+                    },
+                    || {
+                        let (knowledge, item, replica) = (black_box(knowledge), black_box(item), black_box(replica));
+                        black_box(&reference::contain(knowledge, item, replica, *tick));
+                    },
+                );
+            }
+            #[cfg(feature = "calls")]
+            Asked::Lead { first, second, item, replica } => {
+                let (first, second, item, replica) = (&first[..], &second[..], &item[..], &replica[..]);
+                let mut lead = 0;
+                let answer = reference::lead(first, second, item, replica);
+                give(engine::lead(first, second, item, replica, &mut lead), answer.err().unwrap_or(0));
+                assert_eq!(answer.unwrap_or(0), lead);
+                times.measure(
+                    || {
+                        let (first, second) = (black_box(first), black_box(second));
+                        let (item, replica) = (black_box(item), black_box(replica));
+                        black_box(engine::lead(first, second, item, replica, &mut lead));
+                    },
+                    || {
+                        let (first, second) = (black_box(first), black_box(second));
+                        let (item, replica) = (black_box(item), black_box(replica));
+                        black_box(&reference::lead(first, second, item, replica));
+                    },
+                );
+            }
+            #[cfg(feature = "calls")]
+            Asked::Cover { first, second, first_item, last_item } => {
+                let (first, second, first_item, last_item) = (&first[..], &second[..], &first_item[..], &last_item[..]);
+                let mut covers = 0;
+                let answer = reference::cover(first, second, first_item, last_item);
+                give(engine::cover(first, second, first_item, last_item, &mut covers), answer.err().unwrap_or(0));
+                assert_eq!(answer.map_or(0, u32::from), covers);
+                times.measure(
+                    || {
+                        let (first, second) = (black_box(first), black_box(second));
+                        let (first_item, last_item) = (black_box(first_item), black_box(last_item));
+                        black_box(engine::cover(first, second, first_item, last_item, &mut covers));
+                    },
+                    || {
+                        let (first, second) = (black_box(first), black_box(second));
+                        let (first_item, last_item) = (black_box(first_item), black_box(last_item));
+                        black_box(&reference::cover(first, second, first_item, last_item));
+                    },
+                );
+            }
+        }
+    }
+
+    pub fn print(&self, knowledge: &str) {
+        println!(
+            "| {knowledge} | {} | {} | {} | {} | {} |",
+            self.name,
+            self.bytes(),
+            self.number,
+            self.times.cells(),
+            if self.number == 0 { "0.8" } else { "1.0" },
+        );
+    }
+
+    /// How many bytes the knowledges have together.
+    fn bytes(&self) -> usize {
+        match &self.asked {
+            Asked::Check { knowledge } => knowledge.len(),
+            #[cfg(feature = "calls")]
+            Asked::Contain { knowledge, .. } => knowledge.len(),
+            #[cfg(feature = "calls")]
+            Asked::Lead { first, second, .. } | Asked::Cover { first, second, .. } => first.len() + second.len(),
+        }
+    }
+}

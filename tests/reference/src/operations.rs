@@ -1,0 +1,112 @@
+//! Normalise, merge and project: the calls that write a knowledge, always in normal form.
+
+use std::cell::RefCell;
+
+use crate::forward::{self, Forward};
+use crate::ids::Span;
+use crate::table::{FIRST_ITEM, Table};
+use crate::view::{ItemId, REPLICAS, Starts, View};
+
+const LAST_ITEM: ItemId = [255; 24];
+
+thread_local! {
+    /// The table that every call fills anew. It is too large to be cleared for each.
+    static TABLE: RefCell<Table> = const { RefCell::new(Table::new()) };
+}
+
+/// Writes the normal form of a knowledge to the front of a buffer and gives its length.
+pub fn normalise(knowledge: &[u8], out: &mut [u8]) -> Result<usize, u32> {
+    let mut starts = Starts::new();
+    let knowledge = View::read(knowledge, &mut starts)?;
+    let all = Span { first: &FIRST_ITEM, last: &LAST_ITEM };
+    written(&knowledge, all, out)
+}
+
+/// Writes a knowledge with its known ticks inside a span, and 0 outside, to the front of a buffer and gives its length.
+pub fn project(knowledge: &[u8], first_id: &[u8], last_id: &[u8], out: &mut [u8]) -> Result<usize, u32> {
+    let mut starts = Starts::new();
+    let knowledge = View::read(knowledge, &mut starts)?;
+    let span = Span::new(first_id, last_id)?;
+    written(&knowledge, span, out)
+}
+
+/// Writes a knowledge with the larger known tick of two everywhere to the front of a buffer and gives its length.
+pub fn merge(first: &[u8], second: &[u8], out: &mut [u8]) -> Result<usize, u32> {
+    let (mut first_starts, mut second_starts) = (Starts::new(), Starts::new());
+    let first = View::read(first, &mut first_starts)?;
+    let second = View::read(second, &mut second_starts)?;
+    TABLE.with_borrow_mut(|table| {
+        merged(table, &first, &second);
+        table.write(out)
+    })
+}
+
+/// Writes the known ticks of a knowledge inside a span.
+fn written(knowledge: &View, span: Span, out: &mut [u8]) -> Result<usize, u32> {
+    TABLE.with_borrow_mut(|table| {
+        table.clear(knowledge.replicas().iter());
+        let columns = table.columns(knowledge.replicas());
+        let mut cursor = Forward::new(knowledge.ranges(), span);
+        if *span.first != FIRST_ITEM {
+            table.push(&FIRST_ITEM, |_| {});
+        }
+        let mut bound = Some(span.first);
+        while let Some(from) = bound {
+            table.push(from, |row| raise(row, knowledge, cursor.index(), &columns));
+            bound = cursor.next_bound();
+            cursor.step();
+        }
+        if let Some(behind) = next_item(span.last) {
+            table.push(&behind, |_| {});
+        }
+        table.write(out)
+    })
+}
+
+/// Fills a table with the larger known ticks of two knowledges.
+fn merged(table: &mut Table, first: &View, second: &View) {
+    table.clear(first.replicas().iter().chain(second.replicas()));
+    let first_columns = table.columns(first.replicas());
+    let second_columns = table.columns(second.replicas());
+    let all = Span { first: &FIRST_ITEM, last: &LAST_ITEM };
+    let mut left = Forward::new(first.ranges(), all);
+    let mut right = Forward::new(second.ranges(), all);
+    let mut bound = Some(&FIRST_ITEM);
+    while let Some(from) = bound {
+        table.push(from, |row| {
+            raise(row, first, left.index(), &first_columns);
+            raise(row, second, right.index(), &second_columns);
+        });
+        bound = forward::next(&left, &right).and_then(|order| {
+            let bound = if order.is_le() { left.next_bound() } else { right.next_bound() };
+            if order.is_le() {
+                left.step();
+            }
+            if order.is_ge() {
+                right.step();
+            }
+            bound
+        });
+    }
+}
+
+/// Raises the ticks of a row to those of a vector.
+#[inline]
+fn raise(row: &mut [u64], knowledge: &View, index: usize, columns: &[u8; REPLICAS]) {
+    for element in knowledge.elements(index) {
+        let tick = &mut row[columns[element.key() % REPLICAS] as usize];
+        *tick = element.tick().max(*tick);
+    }
+}
+
+/// The id behind an item's; nothing follows the last one.
+fn next_item(item: &ItemId) -> Option<ItemId> {
+    let mut next = *item;
+    for byte in next.iter_mut().rev() {
+        *byte = byte.wrapping_add(1);
+        if *byte != 0 {
+            return Some(next);
+        }
+    }
+    None
+}
