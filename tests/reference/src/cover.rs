@@ -63,7 +63,7 @@ impl Columns {
     }
 }
 
-/// The ticks of a vector by replica key, with 0 for every key that has no element.
+/// The ticks of a vector by replica key, with 0 for every key that has no element, and for those that no replica has.
 struct Row([u64; 2 * REPLICAS]);
 
 impl Row {

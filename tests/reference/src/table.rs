@@ -8,6 +8,8 @@ const COLUMNS: usize = 2 * REPLICAS;
 const ROWS: usize = 2 * RANGES + 1;
 /// As many ranges as a knowledge has at most.
 const RANGES: usize = 64;
+/// The slots of the hash table in which rows that were seen before are looked up: more than there are rows.
+const SLOTS: usize = 2 * RANGES;
 
 pub const FIRST_ITEM: ItemId = [0; 24];
 
@@ -22,9 +24,8 @@ pub struct Table {
     rows: usize,
     /// The clock vector index of each row.
     indices: [u8; RANGES],
-    /// The row of each clock vector but the empty one, and a number that equal rows have in common.
+    /// The row of each clock vector but the empty one.
     vectors: [u8; RANGES],
-    sums: [u64; RANGES],
 }
 
 /// What the writing needs to know of a table that is within the limits.
@@ -46,7 +47,6 @@ impl Table {
             rows: 0,
             indices: [0; RANGES],
             vectors: [0; RANGES],
-            sums: [0; RANGES],
         }
     }
 
@@ -129,6 +129,7 @@ impl Table {
     /// elements they have.
     fn number_vectors(&mut self) -> (usize, usize) {
         let (mut vectors, mut elements) = (0, 0);
+        let mut slots = [0; SLOTS];
         for place in 0..self.rows {
             let row = self.row(place);
             let count = row.iter().filter(|tick| **tick != 0).count();
@@ -136,17 +137,22 @@ impl Table {
                 self.indices[place] = 0;
                 continue;
             }
-            let sum = sum(row);
-            let mut before = 0..vectors;
-            let like = |vector: &usize| self.sums[*vector] == sum && self.row(self.vectors[*vector] as usize) == row;
-            let vector = before.find(like).unwrap_or(vectors);
-            if vector == vectors {
-                self.sums[vectors] = sum;
+            let mut slot = slot(row);
+            let index = loop {
+                match slots[slot] {
+                    0 => break 0,
+                    index if self.row(self.vectors[index as usize - 1] as usize) == row => break index,
+                    _ => slot = (slot + 1) % SLOTS,
+                }
+            };
+            self.indices[place] = index;
+            if index == 0 {
                 self.vectors[vectors] = place as u8;
                 vectors += 1;
                 elements += count;
+                slots[slot] = vectors as u8;
+                self.indices[place] = vectors as u8;
             }
-            self.indices[place] = vector as u8 + 1;
         }
         (vectors, elements)
     }
@@ -158,9 +164,11 @@ impl Table {
         }
         out.put([0, 0, 16]);
         out.u32(plan.used.count_ones());
-        let used = || (0..self.columns).filter(|column| plan.used >> column & 1 == 1);
-        for column in used() {
+        let mut keys = [0; COLUMNS];
+        let used = (0..self.columns).filter(|column| plan.used >> column & 1 == 1);
+        for (key, column) in (0..).zip(used) {
             out.put(self.ids[column].to_be_bytes());
+            keys[column] = key;
         }
 
         out.u32(24);
@@ -173,11 +181,8 @@ impl Table {
             let row = self.row(*place as usize);
             out.u32(1);
             out.u32(row.iter().filter(|tick| **tick != 0).count() as u32);
-            for (key, column) in used().enumerate() {
-                if row[column] != 0 {
-                    out.u32(key as u32);
-                    out.put(row[column].to_be_bytes());
-                }
+            for (key, tick) in keys.iter().zip(row).filter(|(_, tick)| **tick != 0) {
+                out.element(*key, *tick);
             }
         }
 
@@ -196,10 +201,12 @@ impl Table {
     }
 }
 
-/// A number that equal rows have in common, and others hardly ever.
-fn sum(row: &[u64]) -> u64 {
-    let factors = (0..).map(|column: u64| column.wrapping_mul(0x9e37_79b9_7f4a_7c15) | 1);
-    row.iter().zip(factors).fold(0, |sum, (tick, factor)| sum.wrapping_add(tick.wrapping_mul(factor)))
+/// Where to look first for a row among those seen before.
+fn slot(row: &[u64]) -> usize {
+    const FACTOR: u64 = 0x9e37_79b9_7f4a_7c15;
+    let factors = (1..).map(|column: u64| column.wrapping_mul(FACTOR) | 1);
+    let sum = row.iter().zip(factors).fold(0u64, |sum, (tick, factor)| sum.wrapping_add(tick.wrapping_mul(factor)));
+    (sum.wrapping_mul(FACTOR) >> 32) as usize % SLOTS
 }
 
 /// Writes fields from the front of a slice that has room for them.
@@ -218,5 +225,13 @@ impl Writer<'_> {
     #[inline]
     fn u32(&mut self, number: u32) {
         self.put(number.to_be_bytes());
+    }
+
+    #[inline]
+    fn element(&mut self, key: u32, tick: u64) {
+        let mut element = [0; 12];
+        element[..4].copy_from_slice(&key.to_be_bytes());
+        element[4..].copy_from_slice(&tick.to_be_bytes());
+        self.put(element);
     }
 }

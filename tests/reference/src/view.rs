@@ -75,11 +75,13 @@ impl<'a> Ranges<'a> {
     }
 }
 
-/// Where the parts of a knowledge start, counted from its end: kept while it is read, and borrowed by its view, so that
-/// nothing is copied. No accepted knowledge has 2^16 bytes.
+/// How many bytes of a knowledge are left from each part on: kept while it is read, and borrowed by its view, so that
+/// nothing is copied.
 pub struct Starts {
     replicas: usize,
     ranges: usize,
+    /// From the element count of each vector on; 0 for the first one, which has no elements. No accepted knowledge has 2^16
+    /// bytes.
     elements: [u16; VECTORS],
 }
 
