@@ -24,3 +24,4 @@ pub mod Appended
 pub mod FoundSteps
 pub mod TableExact
 pub mod Answers
+pub mod Settled
