@@ -13,7 +13,7 @@ use Rattle.codec.specs.Number.{Bytes}
 use Rattle.layout.specs.declared.Checked.{Checked}
 use Rattle.layout.specs.declared.Checked.the-variants.{Accepted, Refused}
 use lib.Dec.{lit≤}
-use Rattle.layout.specs.Knowledge.{Rules, largestTick, Knowledge, encode, Lawful}
+use Rattle.layout.specs.Knowledge.{Rules, largestTick, Knowledge, encode, Lawful, basic}
 use Rattle.layout.specs.Permitted.{Permitted, base, longest, mostVectors}
 use Rattle.layout.specs.Answer.{elements}
 use Rattle.layout.specs.Parse.{checked, told, parse, checkedBy}
@@ -89,3 +89,7 @@ largest-tick = refl
 
 pub base-limits : (base .replicas ≡ 16) × (base .ranges ≡ 64) × (mostVectors base ≡ 65) × (base .records ≡ 256)
 base-limits = (refl, refl, refl, refl)
+
+-- and its rules refuse no replica id for itself
+pub base-judges : (id : ℕ) → basic .judge id ≡ 0
+base-judges id = refl

@@ -25,3 +25,4 @@ pub mod FoundSteps
 pub mod TableExact
 pub mod Answers
 pub mod Places
+pub mod Settled

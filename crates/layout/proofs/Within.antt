@@ -1,11 +1,11 @@
 -- Limits given as numbers: each is brought into 1 to its largest, so they are permitted whatever the numbers are, since the longest
--- knowledge at the largest limits has room in its fields. Document 01's limits are themselves such.
+-- knowledge at the largest limits has room in its fields. Document 01's limits are themselves such, and numbers that lie in there stay.
 use Prim.Native.Nat.{ℕ, _*_, _≤_}
 use mathlib.Core.Path.{_≡_, refl}
 use native.Mathlib.Nat.{mul-le-mul}
 use native.Mathlib.Omega.{arith}
 use Rattle.codec.specs.Total.{brought}
-use Rattle.codec.proofs.Total.{brought-within}
+use Rattle.codec.proofs.Total.{brought-within, brought-inside}
 use Rattle.layout.specs.Permitted.{base, longest, Permitted, largestReplicas, largestRanges, largestRecords, within}
 
 pub within-permitted : (replicas ranges records : ℕ) → Permitted (within replicas ranges records)
@@ -27,3 +27,14 @@ within-permitted replicas ranges records =
 pub base-within : within (base .replicas) (base .ranges) (base .records) ≡ base
 unfolding brought
 base-within = refl
+
+-- numbers inside 1 to the largest are the limits themselves
+module _ (replicas ranges records : ℕ) where
+  pub within-replicas : 1 ≤ replicas → replicas ≤ 16 → within replicas ranges records .replicas ≡ replicas
+  within-replicas a b = omega (arith, brought-inside replicas largestReplicas a b)
+
+  pub within-ranges : 1 ≤ ranges → ranges ≤ 64 → within replicas ranges records .ranges ≡ ranges
+  within-ranges a b = omega (arith, brought-inside ranges largestRanges a b)
+
+  pub within-records : 1 ≤ records → records ≤ 256 → within replicas ranges records .records ≡ records
+  within-records a b = omega (arith, brought-inside records largestRecords a b)

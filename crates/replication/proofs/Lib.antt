@@ -17,9 +17,11 @@ pub mod AgreeLines
 pub mod Arguments
 pub mod ContentsValid
 pub mod BrokenRecords
+pub mod RecordPlaces
 pub mod BrokenStore
 pub mod BrokenBatch
 pub mod BrokenBytes
+pub mod Unusual
 pub mod ContentsMake
 pub mod ContentsEdit
 pub mod ContentsApply
@@ -35,6 +37,7 @@ pub mod QueriesPlaces
 pub mod QueriesWalk
 pub mod QueriesWinner
 pub mod QueriesCoverage
+pub mod QueriesSettled
 pub mod RefusalsTable
 pub mod RefusalsTests
 pub mod RefusalsNew
@@ -44,4 +47,5 @@ pub mod RefusalsMake
 pub mod RefusalsList
 pub mod RefusalsCounts
 pub mod RefusalsJoin
+pub mod RefusalsSettled
 pub mod Runner

@@ -5,7 +5,7 @@
 -- record, just as it goes over the table's records. The learned knowledge of a valid batch is the part that its own
 -- length field and that of needed show. Else the call is refused, by 15, 16 and 17 in this order. The part is empty on a
 -- refusal and for an item on neither side.
-use Prim.Native.Nat.{ℕ, suc, _+_, _≤_, _<_}
+use Prim.Native.Nat.{ℕ, zero, suc, _+_, _≤_, _<_}
 use mathlib.Core.Path.{_≡_, refl, sym, ap, ap₂, _∙_, subst}
 use mathlib.Core.Bool.{Bool, true, false}
 use mathlib.Core.Logic.{_⊎_, inl, inr, _↔_}
@@ -28,16 +28,18 @@ use Rattle.ticks.proofs.ForCalls.{id-is}
 use Rattle.ticks.proofs.Answers.{length-exact}
 use Rattle.replication.specs.Formats.{putRec, putRecs, Store, find}
 use Rattle.replication.specs.BatchFormat.{Batch}
-use Rattle.replication.specs.Reading.{recLength, behind, recAt, whole}
-use Rattle.replication.proofs.QueriesPlaces.{places-whole, store-table, batch-table}
-use Rattle.replication.specs.OpenStore.{storeTable, openStore}
-use Rattle.replication.specs.OpenBatch.{learnedLength, batchLearned, batchTable, openBatch}
+use Rattle.replication.specs.Reading.{recLength, behind, recAt, whole, recsAt}
+use Rattle.replication.proofs.QueriesPlaces.{places-whole, places-step, store-table, batch-table}
+use Rattle.replication.specs.OpenStore.{storeCount, storeTable, openStore}
+use Rattle.replication.specs.OpenBatch.{learnedLength, batchCount, batchLearned, batchTable, openBatch}
 use Rattle.replication.specs.Operate.{wins}
 use Rattle.replication.specs.Queries.{partBytes, partNumber, partSide, partAtPlace, partLength, places, placeOf, ofStore, ofBatch, winnerAt, winnerPart, learnedPart}
 use Rattle.replication.specs.MethodTable.{recsOf, tableAt}
 use Rattle.replication.proofs.PartBytes.{part-bytes}
-use Rattle.replication.proofs.RecordBytes.{Whole, whole-back, rec-part}
+use Rattle.replication.proofs.RecordBytes.{Whole, whole-back, rec-part, more-back, end-back}
+use Rattle.replication.proofs.StoreBytes.{store-read}
 use Rattle.replication.proofs.BatchBytes.{batch-read}
+use Rattle.replication.proofs.BrokenRecords.{OneOf, behindAll}
 use Rattle.codec.specs.Parsed.{accepted, refused, Parsed, readOr, ownFault, line}
 use Rattle.replication.specs.declared.Part.{Part}
 use Rattle.replication.specs.declared.Part.the-variants as P
@@ -47,6 +49,9 @@ use lib.Dec.{eqb}
 use Rattle.layout.proofs.Exact.{exact}
 
 -- ---- where the record of an item stands
+
+some-same : {A : Type 0} (x y : A) → some x ≡ some y → x ≡ y
+some-same x y e = cc
 
 -- the item's record among the places, and in the table there: it is in both or in neither
 data Placed (s : List ℕ) (i : ℕ) (ats : List ℕ) : Type 0 where
@@ -64,11 +69,65 @@ placed s i (a ∷ ats) h = go (eqb (recAt s a .item) i) refl (placed s i ats (h 
     go false e (present b x y z) = present b (rw (e, placeOf) x) (rw (e, find) y) z
 
 -- the record of an item in a table, and where it stands
-record Stood (s : List ℕ) (i at : ℕ) (x : Rec) : Type 0 where
+record Stood (s : List ℕ) (i at : ℕ) (rs : List Rec) (x : Rec) : Type 0 where
   place : ℕ
   is : placeOf s i (places s at) ≡ some place
   reads : recAt s place ≡ x
   whole : Whole s place
+  one : OneOf x rs
+  there : place ≡ behindAll s at (length (one .before))
+
+find-first : (i : ℕ) (y : Rec) (ys : List Rec) → eqb (y .item) i ≡ true → find i (y ∷ ys) ≡ some y
+unfolding find
+find-first i y ys e = rw (e, find)
+
+find-behind : (i : ℕ) (y : Rec) (ys : List Rec) → eqb (y .item) i ≡ false → find i (y ∷ ys) ≡ find i ys
+unfolding find
+find-behind i y ys e = rw (e, find)
+
+-- the first record is the item's, or the item's is one of those behind it
+module _ (s : List ℕ) (i at : ℕ) (qs : List Rec) (x : Rec) (w : whole s at ≡ true) where
+  stood-here : eqb (recAt s at .item) i ≡ true → find i (recAt s at ∷ qs) ≡ some x → Stood s i at (recAt s at ∷ qs) x
+  unfolding placeOf behindAll
+  stood-here e f =
+      let same : recAt s at ≡ x = some-same (recAt s at) x (sym (find-first i (recAt s at) qs e) ∙ f) in
+      record {
+        place = at;
+        is = ap (placeOf s i) (places-step s at w) ∙ rw (e, placeOf);
+        reads = same;
+        whole = whole-back s at w;
+        one = record { before = []; after = qs; is = ap (λ (y : Rec). y ∷ qs) same };
+        there = refl;
+      }
+
+  stood-later : eqb (recAt s at .item) i ≡ false → Stood s i (behind s at) qs x → Stood s i at (recAt s at ∷ qs) x
+  unfolding placeOf behindAll
+  stood-later e u =
+      record {
+        place = u .place;
+        is = ap (placeOf s i) (places-step s at w) ∙ rw (e, placeOf) (u .is);
+        reads = u .reads;
+        whole = u .whole;
+        one = record { before = recAt s at ∷ u .one .before; after = u .one .after; is = ap (λ (l : List Rec). recAt s at ∷ l) (u .one .is) };
+        there = u .there;
+      }
+
+stood : (s : List ℕ) (i n at : ℕ) (rs : List Rec) (x : Rec) → recsAt s n at ≡ some rs → find i rs ≡ some x → Stood s i at rs x
+unfolding find
+stood s i zero at rs x e f =
+    let h : find i [] ≡ some x = ap (find i) (sym (end-back s at rs e .0)) ∙ f in
+    let o : _≡_ {A = ℕ} 0 1 = cc in
+    absurd (omega arith)
+stood s i (suc n) at rs x e f =
+    more-back s n at rs (Stood s i at rs x) e
+    (λ qs w g h.
+    subst (λ (l : List Rec). Stood s i at l x) h
+    (by-first qs w (ap (find i) h ∙ f) (λ k. stood s i n (behind s at) qs x g k) (eqb (recAt s at .item) i) refl))
+  where
+    by-first : (qs : List Rec) → whole s at ≡ true → find i (recAt s at ∷ qs) ≡ some x
+        → (find i qs ≡ some x → Stood s i (behind s at) qs x) → (t : Bool) → eqb (recAt s at .item) i ≡ t → Stood s i at (recAt s at ∷ qs) x
+    by-first qs w k rest true d = stood-here s i at qs x w d k
+    by-first qs w k rest false d = stood-later s i at qs x w d (rest (sym (find-behind i (recAt s at) qs d) ∙ k))
 
 module _ (s : List ℕ) (i at : ℕ) where
   not-placed : find i (tableAt s at) ≡ none → placeOf s i (places s at) ≡ none
@@ -81,19 +140,6 @@ module _ (s : List ℕ) (i at : ℕ) where
           let n : none ≡ some (recAt s a) = sym e ∙ y in
           let o : _≡_ {A = ℕ} 0 1 = cc in
           absurd (omega arith)
-
-  stood : (x : Rec) → find i (tableAt s at) ≡ some x → Stood s i at x
-  unfolding tableAt
-  stood x e = go (placed s i (places s at) (places-whole s at))
-    where
-      go : Placed s i (places s at) → Stood s i at x
-      go (absent y z) =
-          let n : none ≡ some x = sym z ∙ e in
-          let o : _≡_ {A = ℕ} 0 1 = cc in
-          absurd (omega arith)
-      go (present a y z w) =
-          let n : some (recAt s a) ≡ some x = sym z ∙ e in
-          record { place = a; is = y; reads = cc; whole = whole-back s a w }
 
 -- ---- what a call that returns a part says: the part, document 01's number beside it, and the values that tell its place
 
@@ -126,15 +172,19 @@ pub record BatchPart (t : List ℕ) (at count : ℕ) (p : Part) : Type 0 where
   pub place : (old : ℕ) → partAtPlace p old ≡ at
   pub size : (old : ℕ) → partLength p old ≡ count
 
--- the part is the whole record that stands at a place, which is read there as x
-pub record StoreRecord (s : List ℕ) (x : Rec) (p : Part) : Type 0 where
+-- the part is the record x of the store's records rs, at its own place: behind the header, the knowledge and the records before it
+pub record StoreRecord (s : List ℕ) (rs : List Rec) (x : Rec) (p : Part) : Type 0 where
   pub at : ℕ
+  pub one : OneOf x rs
+  pub there : at ≡ behindAll s (25 + beAt s 4 17) (length (one .before))
   pub whole : Whole s at
   pub reads : recAt s at ≡ x
   pub part : StorePart s at (recLength (beAt s 1 at)) p
 
-pub record BatchRecord (t : List ℕ) (y : Rec) (p : Part) : Type 0 where
+pub record BatchRecord (t : List ℕ) (rs : List Rec) (y : Rec) (p : Part) : Type 0 where
   pub at : ℕ
+  pub one : OneOf y rs
+  pub there : at ≡ behindAll t (61 + beAt t 4 49 + beAt t 4 53) (length (one .before))
   pub whole : Whole t at
   pub reads : recAt t at ≡ y
   pub part : BatchPart t at (recLength (beAt t 1 at)) p
@@ -246,10 +296,10 @@ wins-no x y h =
 -- what the winner of the item i is, for the store st in the bytes s and the batch b in the bytes t
 pub record WinnerIs (s t : List ℕ) (i : ℕ) (st : Store) (b : Batch) (p : Part) : Type 0 where
   pub neither : find i (st .records) ≡ none → find i (b .records) ≡ none → NoPart p
-  pub storeOnly : (x : Rec) → find i (st .records) ≡ some x → find i (b .records) ≡ none → StoreRecord s x p
-  pub batchOnly : (y : Rec) → find i (st .records) ≡ none → find i (b .records) ≡ some y → BatchRecord t y p
-  pub batchWins : (x y : Rec) → find i (st .records) ≡ some x → find i (b .records) ≡ some y → Beats x y → BatchRecord t y p
-  pub storeStays : (x y : Rec) → find i (st .records) ≡ some x → find i (b .records) ≡ some y → (Beats x y → ⊥) → StoreRecord s x p
+  pub storeOnly : (x : Rec) → find i (st .records) ≡ some x → find i (b .records) ≡ none → StoreRecord s (st .records) x p
+  pub batchOnly : (y : Rec) → find i (st .records) ≡ none → find i (b .records) ≡ some y → BatchRecord t (b .records) y p
+  pub batchWins : (x y : Rec) → find i (st .records) ≡ some x → find i (b .records) ≡ some y → Beats x y → BatchRecord t (b .records) y p
+  pub storeStays : (x y : Rec) → find i (st .records) ≡ some x → find i (b .records) ≡ some y → (Beats x y → ⊥) → StoreRecord s (st .records) x p
 
 -- the winner for the places in the bytes
 found : List ℕ → List ℕ → ℕ → Part
@@ -289,13 +339,31 @@ told-found s t item st b w =
     told-lines s t item st b ∙ fault-none P.Refused (line 17 (wrongLength 24 item) ∷ []) (found s t (idOf 24 item)) (w, tt)
 
 -- the part that the record at a place is
-of-store : (s : List ℕ) (x : Rec) (p : Part) (a : ℕ) → Whole s a → recAt s a ≡ x → p ≡ ofStore s a → StoreRecord s x p
+of-store : (s : List ℕ) (i : ℕ) (rs : List Rec) (x : Rec) (p : Part) (u : Stood s i (storeTable s) rs x) → p ≡ ofStore s (u .place)
+    → StoreRecord s rs x p
 unfolding ofStore behind
-of-store s x p a w r e = record { at = a; whole = w; reads = r; part = store-part s p a (recLength (beAt s 1 a)) e (w .inside) }
+of-store s i rs x p u e =
+    record {
+      at = u .place;
+      one = u .one;
+      there = u .there;
+      whole = u .whole;
+      reads = u .reads;
+      part = store-part s p (u .place) (recLength (beAt s 1 (u .place))) e (u .whole .inside);
+    }
 
-of-batch : (t : List ℕ) (y : Rec) (p : Part) (a : ℕ) → Whole t a → recAt t a ≡ y → p ≡ ofBatch t a → BatchRecord t y p
+of-batch : (t : List ℕ) (i : ℕ) (rs : List Rec) (y : Rec) (p : Part) (u : Stood t i (batchTable t) rs y) → p ≡ ofBatch t (u .place)
+    → BatchRecord t rs y p
 unfolding ofBatch behind
-of-batch t y p a w r e = record { at = a; whole = w; reads = r; part = batch-part t p a (recLength (beAt t 1 a)) e (w .inside) }
+of-batch t i rs y p u e =
+    record {
+      at = u .place;
+      one = u .one;
+      there = u .there;
+      whole = u .whole;
+      reads = u .reads;
+      part = batch-part t p (u .place) (recLength (beAt t 1 (u .place))) e (u .whole .inside);
+    }
 
 -- the winner of two records, by the outcome of their comparison
 either : List ℕ → List ℕ → ℕ → ℕ → Bool → Part
@@ -306,11 +374,11 @@ unfolding winnerAt either
 won s t a b x y w e f h = ap (either s t a b) (ap₂ wins e f ∙ h)
 
 module _ (L : Limits) (s t : List ℕ) (i : ℕ) (st : Store) (b : Batch) (p : Part) (o : openStore L s ≡ accepted st) (q : openBatch L t ≡ accepted b) (e : p ≡ found s t i) where
-  in-store : (x : Rec) → find i (st .records) ≡ some x → Stood s i (storeTable s) x
-  in-store x h = stood s i (storeTable s) x (ap (find i) (store-table L s st o) ∙ h)
+  in-store : (x : Rec) → find i (st .records) ≡ some x → Stood s i (storeTable s) (st .records) x
+  in-store x h = stood s i (storeCount s) (storeTable s) (st .records) x (store-read L s st o .0 .records) h
 
-  in-batch : (y : Rec) → find i (b .records) ≡ some y → Stood t i (batchTable t) y
-  in-batch y h = stood t i (batchTable t) y (ap (find i) (batch-table L t b q) ∙ h)
+  in-batch : (y : Rec) → find i (b .records) ≡ some y → Stood t i (batchTable t) (b .records) y
+  in-batch y h = stood t i (batchCount t) (batchTable t) (b .records) y (batch-read L t b q .0 .records) h
 
   no-store : find i (st .records) ≡ none → placeOf s i (places s (storeTable s)) ≡ none
   no-store h = not-placed s i (storeTable s) (ap (find i) (store-table L s st o) ∙ h)
@@ -325,19 +393,19 @@ module _ (L : Limits) (s t : List ℕ) (i : ℕ) (st : Store) (b : Batch) (p : P
         neither = λ h k. no-part p (e ∙ ap₂ (winnerAt s t) (no-store h) (no-batch k));
         storeOnly = λ x h k.
             let u = in-store x h in
-            of-store s x p (u .place) (u .whole) (u .reads) (e ∙ ap₂ (winnerAt s t) (u .is) (no-batch k));
+            of-store s i (st .records) x p u (e ∙ ap₂ (winnerAt s t) (u .is) (no-batch k));
         batchOnly = λ y h k.
             let v = in-batch y k in
-            of-batch t y p (v .place) (v .whole) (v .reads) (e ∙ ap₂ (winnerAt s t) (no-store h) (v .is));
+            of-batch t i (b .records) y p v (e ∙ ap₂ (winnerAt s t) (no-store h) (v .is));
         batchWins = λ x y h k w.
             let u = in-store x h in
             let v = in-batch y k in
-            of-batch t y p (v .place) (v .whole) (v .reads)
+            of-batch t i (b .records) y p v
             (e ∙ (ap₂ (winnerAt s t) (u .is) (v .is) ∙ won s t (u .place) (v .place) x y true (u .reads) (v .reads) (wins-yes x y w)));
         storeStays = λ x y h k w.
             let u = in-store x h in
             let v = in-batch y k in
-            of-store s x p (u .place) (u .whole) (u .reads)
+            of-store s i (st .records) x p u
             (e ∙ (ap₂ (winnerAt s t) (u .is) (v .is) ∙ won s t (u .place) (v .place) x y false (u .reads) (v .reads) (wins-no x y w)));
       }
 
@@ -350,11 +418,11 @@ winner-exact L s t item st b o q l =
     ∙ ap (found s t) (id-is 24 item))
 
 -- the part's bytes are those of the record
-pub store-record-bytes : (s : List ℕ) (x : Rec) (p : Part) (batch : List ℕ) → Bytes s → StoreRecord s x p → partBytes p s batch ≡ putRec x []
-store-record-bytes s x p batch b h = h .part .part batch ∙ (rec-part s (h .at) b (h .whole) ∙ ap (λ (r : Rec). putRec r []) (h .reads))
+pub store-record-bytes : (s : List ℕ) (rs : List Rec) (x : Rec) (p : Part) (batch : List ℕ) → Bytes s → StoreRecord s rs x p → partBytes p s batch ≡ putRec x []
+store-record-bytes s rs x p batch b h = h .part .part batch ∙ (rec-part s (h .at) b (h .whole) ∙ ap (λ (r : Rec). putRec r []) (h .reads))
 
-pub batch-record-bytes : (t : List ℕ) (y : Rec) (p : Part) (s : List ℕ) → Bytes t → BatchRecord t y p → partBytes p s t ≡ putRec y []
-batch-record-bytes t y p s b h = h .part .part s ∙ (rec-part t (h .at) b (h .whole) ∙ ap (λ (r : Rec). putRec r []) (h .reads))
+pub batch-record-bytes : (t : List ℕ) (rs : List Rec) (y : Rec) (p : Part) (s : List ℕ) → Bytes t → BatchRecord t rs y p → partBytes p s t ≡ putRec y []
+batch-record-bytes t rs y p s b h = h .part .part s ∙ (rec-part t (h .at) b (h .whole) ∙ ap (λ (r : Rec). putRec r []) (h .reads))
 
 -- the store's own number, then the batch's, then 17
 pub winner-store : (L : Limits) (s t item : List ℕ) (n : ℕ) → openStore L s ≡ refused n → NoPartBut n (winnerPart L s t item)

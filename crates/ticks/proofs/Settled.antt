@@ -1,7 +1,8 @@
 -- What is said of a normalise, a merge and a project settles the bytes: at most one byte string meets it. The results have the
 -- same versions or ticks, for every item id and every replica id of 16 bytes; their own bytes read back as them, so their maps
 -- have no other ids; and normal forms with the same ticks are equal. So a statement that left out a version, a tick or a
--- condition would not do here. And what is said of contain, lead and cover settles number and value, for all arguments.
+-- condition would not do here. What is said of contain, lead and cover settles number and value, for all arguments; and the tables of
+-- normalise, merge and project settle the reply, refused or not, for all arguments.
 use Prim.Native.Nat.{ℕ, _^_, _≤_, _<_}
 use mathlib.Core.Path.{_≡_, refl, sym, _∙_, ap, subst}
 use mathlib.Core.Logic.{_⊎_, inl, inr, _↔_}
@@ -10,12 +11,13 @@ use mathlib.Core.List.{List}
 use native.Mathlib.Omega.{arith}
 use lib.Dec.{eqb}
 use Rattle.codec.specs.Number.{Bytes, beAt}
-use Rattle.layout.specs.Knowledge.{Rules, Knowledge, encode}
+use Rattle.codec.specs.Reply.{Reply, refuses}
+use Rattle.layout.specs.Knowledge.{Limits, Rules, Knowledge, encode}
 use Rattle.layout.specs.Permitted.{Permitted}
 use Rattle.layout.specs.Parse.{parse}
 use Rattle.layout.proofs.Forward.{encode-bytes}
 use Rattle.ticks.specs.Meaning.{highest, known, contains}
-use Rattle.ticks.specs.Operations.{knownInside}
+use Rattle.ticks.specs.Operations.{normalise, merge, project, knownInside, tooManyReplicas, tooManyRanges}
 use Rattle.ticks.specs.Calls.{containNumber, containValue, leadNumber, leadValue, coverNumber, coverValue, idOf, wrongIds, wrongSpan}
 use Rattle.ticks.specs.declared.Contain.{Contain}
 use Rattle.ticks.specs.declared.Lead.{Lead}
@@ -28,8 +30,10 @@ use Rattle.ticks.proofs.Answers.{wrong-ids-exact, span-exact}
 use Rattle.ticks.proofs.Lists.{less, same, more, order}
 use Rattle.ticks.proofs.Unique.{SameTicks, normal-unique}
 use Rattle.ticks.proofs.Algebra.{IdsOf16, ticks-of-16, versions-ticks}
-use Rattle.ticks.proofs.Replies.{read-lawful}
-use Rattle.ticks.proofs.Demand2.{accepted-same}
+use Rattle.ticks.proofs.Replies.{read-lawful, ResultSays, over-replicas, over-ranges, result-given}
+use Rattle.ticks.proofs.Replies.{NormaliseSays, normalise-own, normalise-result, MergeSays, merge-first, merge-second, merge-result}
+use Rattle.ticks.proofs.Replies.{ProjectSays, project-own, project-17, project-result}
+use Rattle.ticks.proofs.Demand2.{accepted-same, not-refused}
 use Rattle.codec.specs.Parsed.{Parsed, accepted, refused}
 
 -- two tests that are exact for the same are equal
@@ -175,3 +179,56 @@ module _ (R : Rules) where
       go (accepted a) e (accepted b) h (inl w) =
           decides-settle coverNumber x y coverValue (AtLeast a b (beAt first 24 0) (beAt last 24 0))
           (f .found a b octets e h w) (g .found a b octets e h w)
+
+-- Normalise, merge and project, refused or not: one reply only
+same-refusal : (i j : ℕ) (p : Parsed Knowledge) → p ≡ refused i → p ≡ refused j → refuses i ≡ refuses j
+same-refusal i j p e f = let same : i ≡ j = cc in ap refuses same
+
+result-settled : (L : Limits) (k : Knowledge) {r u : Reply} → ResultSays L k r → ResultSays L k u → r ≡ u
+result-settled L k (over-replicas e) (over-replicas f) = refl
+result-settled L k (over-replicas e) (over-ranges f g) = clash (tooManyReplicas L k) e f
+result-settled L k (over-replicas e) (result-given f g) = clash (tooManyReplicas L k) e f
+result-settled L k (over-ranges e h) (over-replicas f) = clash (tooManyReplicas L k) f e
+result-settled L k (over-ranges e h) (over-ranges f g) = refl
+result-settled L k (over-ranges e h) (result-given f g) = clash (tooManyRanges L k) h g
+result-settled L k (result-given e h) (over-replicas f) = clash (tooManyReplicas L k) f e
+result-settled L k (result-given e h) (over-ranges f g) = clash (tooManyRanges L k) g h
+result-settled L k (result-given e h) (result-given f g) = refl
+
+-- of results that are the same
+results-settled : (L : Limits) (j k : Knowledge) {r u : Reply} → j ≡ k → ResultSays L j r → ResultSays L k u → r ≡ u
+results-settled L j k {r} e x y = result-settled L k (subst (λ l. ResultSays L l r) e x) y
+
+module _ (R : Rules) where
+  pub normalise-settled : (s : List ℕ) {r u : Reply} → NormaliseSays R s r → NormaliseSays R s u → r ≡ u
+  normalise-settled s (normalise-own n e) (normalise-own m f) = same-refusal n m (parse R s) e f
+  normalise-settled s (normalise-own n e) (normalise-result k u f y) = not-refused k n (parse R s) f e
+  normalise-settled s (normalise-result j r e x) (normalise-own m f) = not-refused j m (parse R s) e f
+  normalise-settled s (normalise-result j r e x) (normalise-result k u f y) =
+      results-settled (R .limits) (normalise j) (normalise k) (ap normalise (accepted-same j k (parse R s) e f)) x y
+
+  pub merge-settled : (s t : List ℕ) {r u : Reply} → MergeSays R s t r → MergeSays R s t u → r ≡ u
+  merge-settled s t (merge-first n e) (merge-first m f) = same-refusal n m (parse R s) e f
+  merge-settled s t (merge-first n e) (merge-second a m f g) = not-refused a n (parse R s) f e
+  merge-settled s t (merge-first n e) (merge-result a b u f g y) = not-refused a n (parse R s) f e
+  merge-settled s t (merge-second a n e h) (merge-first m f) = not-refused a m (parse R s) e f
+  merge-settled s t (merge-second a n e h) (merge-second c m f g) = same-refusal n m (parse R t) h g
+  merge-settled s t (merge-second a n e h) (merge-result c d u f g y) = not-refused d n (parse R t) g h
+  merge-settled s t (merge-result a b r e h x) (merge-first m f) = not-refused a m (parse R s) e f
+  merge-settled s t (merge-result a b r e h x) (merge-second c m f g) = not-refused b m (parse R t) h g
+  merge-settled s t (merge-result a b r e h x) (merge-result c d u f g y) =
+      results-settled (R .limits) (merge a b) (merge c d)
+      (ap (λ k. merge k b) (accepted-same a c (parse R s) e f) ∙ ap (merge c) (accepted-same b d (parse R t) h g)) x y
+
+  pub project-settled : (s first last : List ℕ) {r u : Reply} → ProjectSays R s first last r → ProjectSays R s first last u → r ≡ u
+  project-settled s first last (project-own n e) (project-own m f) = same-refusal n m (parse R s) e f
+  project-settled s first last (project-own n e) (project-17 k f g) = not-refused k n (parse R s) f e
+  project-settled s first last (project-own n e) (project-result k u f g y) = not-refused k n (parse R s) f e
+  project-settled s first last (project-17 j e w) (project-own m f) = not-refused j m (parse R s) e f
+  project-settled s first last (project-17 j e w) (project-17 k f g) = refl
+  project-settled s first last (project-17 j e w) (project-result k u f g y) = clash (wrongSpan first last) w g
+  project-settled s first last (project-result j r e w x) (project-own m f) = not-refused j m (parse R s) e f
+  project-settled s first last (project-result j r e w x) (project-17 k f g) = clash (wrongSpan first last) g w
+  project-settled s first last (project-result j r e w x) (project-result k u f g y) =
+      results-settled (R .limits) (project (idOf 24 first) (idOf 24 last) j) (project (idOf 24 first) (idOf 24 last) k)
+      (ap (project (idOf 24 first) (idOf 24 last)) (accepted-same j k (parse R s) e f)) x y
