@@ -23,3 +23,4 @@ pub mod Appended
 pub mod FoundSteps
 pub mod TableExact
 pub mod Answers
+pub mod Places

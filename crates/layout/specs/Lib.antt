@@ -4,4 +4,5 @@ pub mod Permitted
 pub mod Read
 pub mod Parse
 pub mod Decode
+pub mod MethodPlaces
 pub mod Answer

@@ -68,36 +68,36 @@ span-exact first last =
 
 -- the table of a call on one knowledge, and of one on two, with 17 as the last line
 module _ {A : Type 0} (refusal : ℕ → A) (w : Bool) (found : Knowledge → A) where
-  one : Parsed Knowledge → A
+  pub one : Parsed Knowledge → A
   one p = firstFault refusal (ownFault p ∷ line 17 w ∷ []) (found (readAs p))
 
-  one-refused : (p : Parsed Knowledge) (n : ℕ) → p ≡ refused n → one p ≡ refusal n
+  pub one-refused : (p : Parsed Knowledge) (n : ℕ) → p ≡ refused n → one p ≡ refusal n
   unfolding one
   one-refused p n e = ap one e ∙ read-fault Knowledge refusal n (line 17 w ∷ []) _
 
-  one-wrong : (p : Parsed Knowledge) (k : Knowledge) → p ≡ accepted k → w ≡ true → one p ≡ refusal 17
+  pub one-wrong : (p : Parsed Knowledge) (k : Knowledge) → p ≡ accepted k → w ≡ true → one p ≡ refusal 17
   unfolding one
   one-wrong p k e f = ap one e ∙ read-fine refusal k (line 17 w ∷ []) _ ∙ fault-here refusal (line 17 w) [] _ f
 
-  one-right : (p : Parsed Knowledge) (k : Knowledge) → p ≡ accepted k → w ≡ false → one p ≡ found k
+  pub one-right : (p : Parsed Knowledge) (k : Knowledge) → p ≡ accepted k → w ≡ false → one p ≡ found k
   unfolding one readOr
   one-right p k e f = ap one e ∙ read-fine refusal k (line 17 w ∷ []) _ ∙ fault-none refusal (line 17 w ∷ []) _ (f, tt)
 
 module _ {A : Type 0} (refusal : ℕ → A) (w : Bool) (found : Knowledge → Knowledge → A) where
-  two : Parsed Knowledge → Parsed Knowledge → A
+  pub two : Parsed Knowledge → Parsed Knowledge → A
   two p q = firstFault refusal (ownFault p ∷ ownFault q ∷ line 17 w ∷ []) (found (readAs p) (readAs q))
 
-  two-first : (p q : Parsed Knowledge) (n : ℕ) → p ≡ refused n → two p q ≡ refusal n
+  pub two-first : (p q : Parsed Knowledge) (n : ℕ) → p ≡ refused n → two p q ≡ refusal n
   unfolding two
   two-first p q n e = ap (λ p. two p q) e ∙ read-fault Knowledge refusal n (ownFault q ∷ line 17 w ∷ []) _
 
   -- with the first accepted, it is the table of the second alone
-  two-later : (p q : Parsed Knowledge) (a : Knowledge) → p ≡ accepted a → two p q ≡ one refusal w (found a) q
+  pub two-later : (p q : Parsed Knowledge) (a : Knowledge) → p ≡ accepted a → two p q ≡ one refusal w (found a) q
   unfolding one two readOr
   two-later p q a e = ap (λ p. two p q) e ∙ read-fine refusal a (ownFault q ∷ line 17 w ∷ []) _
 
 -- a test that is not one of its two values is the other
-no-false : (b : Bool) → (b ≡ false → ⊥) → b ≡ true
+pub no-false : (b : Bool) → (b ≡ false → ⊥) → b ≡ true
 no-false true h = refl
 no-false false h = absurd (h refl)
 
@@ -142,10 +142,10 @@ cover-refused x n e = record { told = ap coverNumber e; stays = λ old. ap (λ y
 
 module _ (R : Rules) (s item replica : List ℕ) (t : ℕ) where
   -- what is found for a knowledge
-  contain-here : Knowledge → Contain
+  unfoldable pub contain-here : Knowledge → Contain
   contain-here k = containFound (contains k (beAt item 24 0) (beAt replica 16 0) t)
 
-  contain-is : containAnswer R s item replica t ≡ one C.Refused (wrongIds item replica) contain-here (parse R s)
+  pub contain-is : containAnswer R s item replica t ≡ one C.Refused (wrongIds item replica) contain-here (parse R s)
   unfolding containAnswer one contain-here idOf
   contain-is = refl
 
@@ -166,11 +166,11 @@ module _ (R : Rules) (s item replica : List ℕ) (t : ℕ) where
 
 -- Lead
 
-sub-ahead : (a b : ℕ) → b ≤ a → pos a -ℤ pos b ≡ pos (a - b)
+pub sub-ahead : (a b : ℕ) → b ≤ a → pos a -ℤ pos b ≡ pos (a - b)
 sub-ahead a zero h = ap pos (omega arith)
 sub-ahead a (suc b) h = rw (le-ltb a (suc b) h)
 
-sub-behind : (a b : ℕ) → a < b → pos a -ℤ pos b ≡ negsuc (b - suc a)
+pub sub-behind : (a b : ℕ) → a < b → pos a -ℤ pos b ≡ negsuc (b - suc a)
 sub-behind a zero h = absurd (omega arith)
 sub-behind a (suc b) h = rw (lt-ltb a (suc b) h)
 
@@ -188,14 +188,14 @@ unfolding leadNumber leadValue
 lead-difference a b i p = record { fine = refl; ahead = λ h old. lead-ahead a b i p h; behind = λ h old. lead-behind a b i p h }
 
 module _ (R : Rules) (s t item replica : List ℕ) where
-  lead-here : Knowledge → Knowledge → Lead
+  unfoldable pub lead-here : Knowledge → Knowledge → Lead
   lead-here a b = D.Ahead (leadOf a b (beAt item 24 0) (beAt replica 16 0))
 
-  lead-is : leadAnswer R s t item replica ≡ two D.Refused (wrongIds item replica) lead-here (parse R s) (parse R t)
+  pub lead-is : leadAnswer R s t item replica ≡ two D.Refused (wrongIds item replica) lead-here (parse R s) (parse R t)
   unfolding leadAnswer two lead-here idOf
   lead-is = refl
 
-  lead-later : (a : Knowledge) → parse R s ≡ accepted a
+  pub lead-later : (a : Knowledge) → parse R s ≡ accepted a
       → leadAnswer R s t item replica ≡ one D.Refused (wrongIds item replica) (lead-here a) (parse R t)
   lead-later a e = lead-is ∙ two-later D.Refused (wrongIds item replica) lead-here (parse R s) (parse R t) a e
 

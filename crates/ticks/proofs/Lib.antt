@@ -27,3 +27,4 @@ pub mod Answers
 pub mod Demand2
 pub mod Settled
 pub mod Results
+pub mod ForCode

@@ -101,7 +101,7 @@ in-keys e [] m = m
 in-keys e (y ∷ ys) (inl q) = inl (ap (λ z. z .key .0) q)
 in-keys e (y ∷ ys) (inr m) = inr (in-keys e ys m)
 
-tick-element : (es : List Element) (e : Element) → Distinct (keys es) → In e es → tickAt es (e .key .0) ≡ e .tick
+pub tick-element : (es : List Element) (e : Element) → Distinct (keys es) → In e es → tickAt es (e .key .0) ≡ e .tick
 unfolding keys
 tick-element [] e d m = absurd m
 tick-element (y ∷ ys) e d (inl q) = tick-same y ys (e .key .0) (ap (λ z. z .key .0) (sym q)) ∙ ap (λ z. z .tick) (sym q)

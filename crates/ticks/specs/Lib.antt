@@ -7,3 +7,4 @@ pub mod Calls
 pub mod Answers
 pub mod Demand2
 pub mod Results
+pub mod MethodLookup
