@@ -1,7 +1,8 @@
--- Where everything of an accepted knowledge stands: the value that is read is the one at the places that the four sizes give, the
--- vectors end 16 bytes before the ranges, and the length is the one that the sizes give. A list read by places has as many parts as
--- were asked for, so the counts in the bytes are the sizes of the value; and the sizes of the value are those that the check answered.
--- Vector j stands where stepping over the j vectors before it leads, and ends before the ranges.
+-- Where everything of an accepted knowledge stands: the value that is read is the one at the places that the four sizes
+-- give, the vectors end 16 bytes before the ranges, and the length is the one that the sizes give. A list read by places has
+-- as many parts as were asked for, so the counts in the bytes are the sizes of the value; and the sizes of the value are
+-- those that the check answered. Vector j stands where stepping over the j vectors before it leads, and ends before the
+-- ranges.
 use Prim.Native.Nat.{ℕ, zero, suc, _+_, _*_, _<_, _≤_}
 use mathlib.Core.Path.{_≡_, refl, sym, ap, ap₂, _∙_, subst}
 use mathlib.Core.List.{List, []}
@@ -13,9 +14,9 @@ use Rattle.layout.specs.declared.Checked.the-variants.{Accepted}
 use Rattle.layout.specs.Knowledge.{Rules, Lawful}
 use Rattle.layout.specs.Permitted.{Permitted, mostVectors, mostCount}
 use Rattle.layout.specs.Answer.{elements}
-use Rattle.layout.specs.Parse.{checked, told, parse, checkedBy}
+use Rattle.layout.specs.Parse.{checkedBy, told, parse}
 use Rattle.layout.specs.Decode.{idsAt, elementsAt, vectorsAt, afterVectors, rangesAt, decode}
-use Rattle.layout.specs.MethodPlaces.{vectorsPlace, rangesPlace, wholeLength, vectorPlace, countAt, valueAt}
+use Rattle.layout.specs.MethodPlaces.{idsPlace, vectorsPlace, rangesPlace, wholeLength, vectorPlace, countAt, valueAt}
 use Rattle.layout.proofs.Forward.{decoded}
 use Rattle.layout.proofs.Backward.{Means, backward}
 use Rattle.layout.proofs.Lengths.{lawful-length}
@@ -72,7 +73,8 @@ after-add s (suc m) n at =
     let z : suc m + n ≡ suc (m + n) = omega arith in
     ap (λ k. afterVectors s k at) z ∙ after-add s m n (at + 8 + 12 * beAt s 4 (at + 4))
 
-pub after-next : (s : List ℕ) (j at : ℕ) → afterVectors s (suc j) at ≡ afterVectors s j at + 8 + 12 * countAt s (afterVectors s j at)
+pub after-next : (s : List ℕ) (j at : ℕ)
+    → afterVectors s (suc j) at ≡ afterVectors s j at + 8 + 12 * countAt s (afterVectors s j at)
 after-next s j at =
     let z : suc j ≡ j + 1 = omega arith in
     ap (λ k. afterVectors s k at) z ∙ after-add s j 1 at ∙ after-suc s 0 (afterVectors s j at)
@@ -80,6 +82,15 @@ after-next s j at =
 
 pub after-later : (s : List ℕ) (n at : ℕ) → at + 8 * n ≤ afterVectors s n at
 after-later s n at = omega (arith, vectors-end s n at)
+
+-- id j of those from a place on
+pub id-at : (s : List ℕ) (n j at : ℕ) → j < n → getD (idsAt s n at) j 0 ≡ beAt s 16 (at + 16 * j)
+unfolding idsAt
+id-at s zero j at h = absurd (omega arith)
+id-at s (suc n) zero at h = let z : at ≡ at + 16 * zero = omega arith in ap (beAt s 16) z
+id-at s (suc n) (suc j) at h =
+    let z : at + 16 + 16 * j ≡ at + 16 * suc j = omega arith in
+    id-at s n j (at + 16) (omega arith) ∙ ap (beAt s 16) z
 
 -- vector j of those from a place on
 pub vector-at : (s : List ℕ) (n j at : ℕ) → j < n
@@ -173,7 +184,8 @@ module _ (R : Rules) (s : List ℕ) (r v e g : ℕ) (h : Reading R s r v e g) wh
       let a = afterVectors s n (48 + 16 * r) in
       rangesAt s (beAt s 4 (a + 12)) (a + 16)) count-v in
       let count : beAt s 4 (vectorPlace s r v + 12) ≡ g =
-      sym (ranges-length s (beAt s 4 (vectorPlace s r v + 12)) (vectorPlace s r v + 16)) ∙ sym (ap length from) ∙ counts .ranges in
+      sym (ranges-length s (beAt s 4 (vectorPlace s r v + 12)) (vectorPlace s r v + 16)) ∙ sym (ap length from)
+      ∙ counts .ranges in
       from ∙ ap₂ (λ n at. rangesAt s n at) count after-place
 
   value-places : decode s ≡ valueAt s r v e g
@@ -202,6 +214,11 @@ module _ (R : Rules) (s : List ℕ) (r v e g : ℕ) (h : Reading R s r v e g) wh
         someRange = omega (arith, lawful .someRange, means .gs);
         ranges = omega (arith, lawful .ranges, means .gs);
       }
+
+  -- id j
+  pub id-place : (j : ℕ) → j < r → getD (valueAt s r v e g .replicas) j 0 ≡ beAt s 16 (idsPlace + 16 * j)
+  unfolding valueAt
+  id-place j l = id-at s r j idsPlace l
 
   -- vector j, and its end
   pub vector-place : (j : ℕ) → j < v

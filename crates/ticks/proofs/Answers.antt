@@ -167,11 +167,11 @@ module _ (R : Rules) (s item replica : List ℕ) (t : ℕ) where
 
 -- Lead
 
-sub-ahead : (a b : ℕ) → b ≤ a → pos a -ℤ pos b ≡ pos (a - b)
+pub sub-ahead : (a b : ℕ) → b ≤ a → pos a -ℤ pos b ≡ pos (a - b)
 sub-ahead a zero h = ap pos (omega arith)
 sub-ahead a (suc b) h = rw (le-ltb a (suc b) h)
 
-sub-behind : (a b : ℕ) → a < b → pos a -ℤ pos b ≡ negsuc (b - suc a)
+pub sub-behind : (a b : ℕ) → a < b → pos a -ℤ pos b ≡ negsuc (b - suc a)
 sub-behind a zero h = absurd (omega arith)
 sub-behind a (suc b) h = rw (lt-ltb a (suc b) h)
 

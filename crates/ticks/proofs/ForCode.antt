@@ -1,6 +1,6 @@
--- For code: the answers of contain and lead as equations, one for each way that a call goes, from what the check of the bytes answered;
--- the known tick by key and index, the search beginning at index 0, whose vector is empty; and, for the comparing of whole vectors, that
--- the known ticks at an item are at most f exactly where the elements of its vector are.
+-- For code: the answers of contain and lead as equations, one for each way that a call goes, from what the check of the
+-- bytes answered; the known tick by key and index, the search beginning at index 0, whose vector is empty; and, for the
+-- comparing of whole vectors, that the known ticks at an item are at most f exactly where the elements of its vector are.
 use Prim.Native.Nat.{ℕ, _≤_, _<_}
 use mathlib.Core.Path.{_≡_, refl, sym, ap, subst, _∙_}
 use mathlib.Core.Logic.{_↔_, inl, inr}
@@ -17,7 +17,7 @@ use Rattle.layout.specs.declared.Checked.the-variants.{Refused}
 use Rattle.layout.specs.Knowledge.{Rules, Element, Range, Knowledge, All, Distinct, keys, Lawful}
 use Rattle.layout.specs.Permitted.{Permitted}
 use Rattle.layout.specs.Decode.{decode}
-use Rattle.layout.specs.Parse.{checked, parse, checkedBy}
+use Rattle.layout.specs.Parse.{checkedBy, parse}
 use Rattle.layout.proofs.Exact.{refused-exact}
 use Rattle.layout.proofs.Places.{Reading, places}
 use Rattle.ticks.specs.Meaning.{place, tickAt, indexFrom, vectorFound, vectorAt, vectorOf, known, contains}
@@ -34,7 +34,8 @@ use Rattle.ticks.proofs.Written.{known-in, known-out, place-among, amon
 use Rattle.ticks.proofs.Unique.{key-known, found-all}
 use Rattle.ticks.proofs.LawfulResults.{lawful-sound}
 use Rattle.ticks.proofs.Meaning.{In, vectorAt-zero, tick-element}
-use Rattle.ticks.proofs.Answers.{no-false, wrong-ids-exact, one-refused, one-wrong, one-right, two-first, contain-here, contain-is, lead-here, lead-is, lead-later}
+use Rattle.ticks.proofs.Answers.{no-false, wrong-ids-exact, one-refused, one-wrong, one-right, two-first}
+use Rattle.ticks.proofs.Answers.{contain-here, contain-is, lead-here, lead-is, lead-later}
 use lib.Dec.{eqb}
 
 -- The answers

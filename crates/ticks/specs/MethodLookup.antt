@@ -1,5 +1,5 @@
--- The search for a known tick as code makes it, by key and index. There is nothing to believe here: the law `known-key` says that it
--- finds the known tick.
+-- The search for a known tick as code makes it, by key and index. There is nothing to believe here: the law `known-key` says
+-- that it finds the known tick.
 use Rattle.codec.specs.Prelude.{ℕ, true, false, List, [], _∷_, ltb}
 use Rattle.layout.specs.declared.ReplicaKey.{ReplicaKey}
 use Rattle.layout.specs.declared.VectorIndex.{VectorIndex}

@@ -1,0 +1,191 @@
+-- What contain and lead return, one law for each way that a call goes. Accepted bytes are opened with their own sizes, which
+-- are far below 2^32 (`opens`); the tick that lookup finds from there is the known one (`tick-known`), and so the answer is
+-- the definition's. Known ticks are below 2^63, so their difference is exact.
+use Prim.Native.Nat.{ℕ, _+_, _*_, _≤_, _<_, _^_}
+use mathlib.Core.Path.{_≡_, refl, sym, ap, ap₂, _∙_, subst}
+use mathlib.Core.List.{List}
+use native.Mathlib.Omega.{arith}
+use lib.IntN.{ℤ, pos, _-ℤ_}
+use lib.ListN.{length}
+use lib.Signed.{mag}
+use mir.Syntax.{w64}
+use mir.Val.{SFits, toZ, ofZ}
+use mir.Facts.{toZ-pos, toZ-ofZ}
+use Rattle.codec.specs.Number.{Bytes, beAt}
+use Rattle.codec.specs.Words.{words2, words3}
+use Rattle.codec.proofs.Order.{words2-be, words3-be}
+use Rattle.layout.specs.declared.Checked.{Checked}
+use Rattle.layout.specs.declared.Checked.the-variants as A
+use Rattle.layout.specs.Knowledge.{basic}
+use Rattle.layout.specs.Decode.{decode}
+use Rattle.layout.specs.MethodPlaces.{vectorsPlace, rangesPlace}
+use Rattle.layout.specs.Parse.{checkedBy}
+use Rattle.layout.proofs.Exact.{base-permitted}
+use Rattle.layout.proofs.Places.{Reading, places}
+use Rattle.ticks.specs.Meaning.{known, contains}
+use Rattle.ticks.specs.MethodLookup.{firstIndex}
+use Rattle.ticks.specs.declared.Contain.the-variants as C
+use Rattle.ticks.specs.declared.Lead.the-variants as D
+use Rattle.ticks.specs.Answers.{ProperIds}
+use Rattle.ticks.specs.Calls.{containFound, containAnswer, leadAnswer}
+use Rattle.ticks.proofs.Lists.{less, same, more, order}
+use Rattle.ticks.proofs.Answers.{sub-ahead, sub-behind}
+use Rattle.ticks.proofs.ForCode.{Refusing, contain-refuses, contain-wrong, contain-answers, found-yes, found-zero, found-later}
+use Rattle.ticks.proofs.ForCode.{lead-refuses-first, lead-refuses-second, lead-wrong, lead-answers}
+use Rattle.lookup.specs.declared.Cursor.{Cursor}
+use Rattle.lookup.specs.declared.Opened.{Opened}
+use Rattle.lookup.specs.declared.Opened.the-variants as O
+use Rattle.lookup.specs.Method.{startAt, tickFrom, inFour, openOf, Opens, Known}
+use Rattle.lookup.proofs.Loops.{cursor}
+use Rattle.lookup.proofs.Leaf.{leaf-known, known-small}
+
+-- Opening
+
+pub opened-at : (c : Checked) (r v e g : ℕ) → c ≡ A.Accepted r v e g
+    → O.At (inFour r) (cursor (inFour g) (rangesPlace (inFour r) (inFour v) (inFour e)) firstIndex (vectorsPlace (inFour r)))
+    ≡ openOf c
+unfolding openOf startAt
+opened-at c r v e g is = sym (ap openOf is)
+
+pub opened-refused : (c : Checked) (n : ℕ) → c ≡ A.Refused n → O.Refused n ≡ openOf c
+unfolding openOf
+opened-refused c n is = sym (ap openOf is)
+
+reading-of : (s : List ℕ) (r v e g : ℕ) → Bytes s → checkedBy basic s ≡ A.Accepted r v e g → Reading basic s r v e g
+reading-of s r v e g b h = record { permitted = base-permitted; bytes = b; accepts = h }
+
+open-cases : (s : List ℕ) (k : Checked) → Bytes s → k ≡ checkedBy basic s → (r : ℕ) (c : Cursor) → openOf k ≡ O.At r c
+    → Opens s r c
+unfolding openOf
+open-cases s (A.Accepted r v e g) b h q c f =
+    let p = places basic s r v e g (reading-of s r v e g b (sym h)) in
+    let er : inFour r ≡ r = omega (arith, p .whole, p .small) in
+    let ev : inFour v ≡ v = omega (arith, p .whole, p .small) in
+    let ee : inFour e ≡ e = omega (arith, p .whole, p .small) in
+    let eg : inFour g ≡ g = omega (arith, p .whole, p .small) in
+    let own : r ≡ q = cc in
+    let start : startAt (inFour r) (inFour v) (inFour e) (inFour g) ≡ c = cc in
+    record { v = v; e = e; g = g; bytes = b; accepts = sym h ∙ ap (λ n. A.Accepted n v e g) own; start = sym start ∙ cc }
+open-cases s (A.Refused n) b h q c f = absurd (let z : _≡_ {A = ℕ} 0 1 = cc in omega arith)
+
+refused-cases : (s : List ℕ) (k : Checked) → k ≡ checkedBy basic s → (n : ℕ) → openOf k ≡ O.Refused n
+    → checkedBy basic s ≡ A.Refused n
+unfolding openOf
+refused-cases s (A.Accepted r v e g) h n f = absurd (let z : _≡_ {A = ℕ} 0 1 = cc in omega arith)
+refused-cases s (A.Refused m) h n f = sym h ∙ cc
+
+module _ (s : List ℕ) (o : Opened) (is : o ≡ openOf (checkedBy basic s)) where
+  pub opens : Bytes s → (r : ℕ) (c : Cursor) → o ≡ O.At r c → Opens s r c
+  opens b r c e = open-cases s (checkedBy basic s) b refl r c (sym is ∙ e)
+
+  pub opens-refused : (n : ℕ) → o ≡ O.Refused n → Refusing basic s n
+  opens-refused n e = record {
+    permitted = base-permitted;
+    refuses = refused-cases s (checkedBy basic s) refl n (sym is ∙ e);
+  }
+
+pub checked-opens : (s : List ℕ) (k : Checked) (o : Opened) → k ≡ checkedBy basic s → o ≡ openOf k
+    → o ≡ openOf (checkedBy basic s)
+checked-opens s k o e f = f ∙ ap openOf e
+
+-- Accepted bytes
+
+module _ (s : List ℕ) (r : ℕ) (c : Cursor) (o : Opens s r c) where
+  reading : Reading basic s r (o .v) (o .e) (o .g)
+  reading = reading-of s r (o .v) (o .e) (o .g) (o .bytes) (o .accepts)
+
+  -- ids as words
+  pub tick-known : (item replica : List ℕ) (i0 i1 i2 p0 p1 t : ℕ) → i0 ≡ beAt item 8 0 → i1 ≡ beAt item 8 8
+      → i2 ≡ beAt item 8 16 → p0 ≡ beAt replica 8 0 → p1 ≡ beAt replica 8 8
+      → t ≡ tickFrom s r c (words3 i0 i1 i2) (words2 p0 p1) → Known s item replica t
+  tick-known item replica i0 i1 i2 p0 p1 t e0 e1 e2 f0 f1 is =
+      let i = beAt item 24 0 in
+      let p = beAt replica 16 0 in
+      let ie : words3 i0 i1 i2 ≡ i = cc (words3-be item 0) in
+      let pe : words2 p0 p1 ≡ p = cc (words2-be replica 0) in
+      let found : t ≡ known (decode s) i p =
+      is ∙ ap₂ (λ i p. tickFrom s r c i p) ie pe ∙ ap (λ d. tickFrom s r d i p) (o .start)
+      ∙ leaf-known basic s r (o .v) (o .e) (o .g) reading i p in
+      record { is = found; small = omega (arith, found, known-small basic s r (o .v) (o .e) (o .g) reading i p) }
+
+-- Contain
+
+pub contain-refused : (s item replica : List ℕ) (t n : ℕ) → Refusing basic s n
+    → C.Refused n ≡ containAnswer basic s item replica t
+contain-refused s item replica t n h = sym (contain-refuses basic s item replica t n h)
+
+module _ (s : List ℕ) (r : ℕ) (c : Cursor) (o : Opens s r c) (item replica : List ℕ) (t : ℕ) where
+  contain-17 : (ProperIds item replica → ⊥) → C.Refused 17 ≡ containAnswer basic s item replica t
+  contain-17 f = sym (contain-wrong basic s item replica t r (o .v) (o .e) (o .g) (reading s r c o) f)
+
+  pub contain-item : (length item ≡ 24 → ⊥) → C.Refused 17 ≡ containAnswer basic s item replica t
+  contain-item f = contain-17 (λ p. f (p .0))
+
+  pub contain-replica : (length replica ≡ 16 → ⊥) → C.Refused 17 ≡ containAnswer basic s item replica t
+  contain-replica f = contain-17 (λ p. f (p .1))
+
+  module _ (h : length item ≡ 24) (k : length replica ≡ 16) where
+    answers : containAnswer basic s item replica t ≡ containFound (contains (decode s) (beAt item 24 0) (beAt replica 16 0) t)
+    answers = contain-answers basic s item replica t r (o .v) (o .e) (o .g) (reading s r c o) (h, k)
+
+    pub contain-zero : t ≡ 0 → C.Lacking ≡ containAnswer basic s item replica t
+    contain-zero z = sym (answers ∙ found-zero (decode s) (beAt item 24 0) (beAt replica 16 0) t z)
+
+    module _ (x : ℕ) (is : Known s item replica x) where
+      pub contain-yes : (t ≡ 0 → ⊥) → t ≤ x → C.Contained ≡ containAnswer basic s item replica t
+      contain-yes n l =
+          sym (answers ∙ found-yes (decode s) (beAt item 24 0) (beAt replica 16 0) t (omega arith)
+          (omega (arith, is .is)))
+
+      pub contain-no : x < t → C.Lacking ≡ containAnswer basic s item replica t
+      contain-no l = sym (answers ∙ found-later (decode s) (beAt item 24 0) (beAt replica 16 0) t (omega (arith, is .is)))
+
+-- Lead
+
+-- ticks are below 2^63, so their difference fits 64 bits with a sign
+difference-small : (a b : ℕ) → a < 2 ^ 63 → b < 2 ^ 63 → mag (pos a -ℤ pos b) < 2 ^ 63
+difference-small a b h k =
+    elim (order a b) [
+      | less l ↦ subst (λ z. mag z < 2 ^ 63) (sym (sub-behind a b l)) (omega arith)
+      | same l ↦ subst (λ z. mag z < 2 ^ 63) (sym (sub-ahead a b (omega arith))) (omega arith)
+      | more l ↦ subst (λ z. mag z < 2 ^ 63) (sym (sub-ahead a b (omega arith))) (omega arith)
+    ]
+
+module _ (a b : ℕ) (h : a < 2 ^ 63) (k : b < 2 ^ 63) where
+  signed : toZ w64 a -ℤ toZ w64 b ≡ pos a -ℤ pos b
+  signed = ap₂ (λ x y. x -ℤ y) (toZ-pos w64 h) (toZ-pos w64 k)
+
+  pub difference-fits : SFits w64 (toZ w64 a -ℤ toZ w64 b)
+  difference-fits = subst (SFits w64) (sym signed) (record { sfits = difference-small a b h k })
+
+  pub difference-exact : toZ w64 (ofZ w64 (toZ w64 a -ℤ toZ w64 b)) ≡ pos a -ℤ pos b
+  difference-exact = toZ-ofZ difference-fits ∙ signed
+
+pub lead-refused-first : (s t item replica : List ℕ) (n : ℕ) → Refusing basic s n
+    → D.Refused n ≡ leadAnswer basic s t item replica
+lead-refused-first s t item replica n h = sym (lead-refuses-first basic s t item replica n h)
+
+module _ (s : List ℕ) (r : ℕ) (c : Cursor) (o : Opens s r c) (t item replica : List ℕ) where
+  pub lead-refused-second : (n : ℕ) → Refusing basic t n → D.Refused n ≡ leadAnswer basic s t item replica
+  lead-refused-second n h = sym (lead-refuses-second basic s t item replica r (o .v) (o .e) (o .g) (reading s r c o) n h)
+
+  module _ (m : ℕ) (d : Cursor) (q : Opens t m d) where
+    lead-17 : (ProperIds item replica → ⊥) → D.Refused 17 ≡ leadAnswer basic s t item replica
+    lead-17 f =
+        sym (lead-wrong basic s t item replica r (o .v) (o .e) (o .g) (reading s r c o) m (q .v) (q .e) (q .g)
+        (reading t m d q) f)
+
+    pub lead-item : (length item ≡ 24 → ⊥) → D.Refused 17 ≡ leadAnswer basic s t item replica
+    lead-item f = lead-17 (λ p. f (p .0))
+
+    pub lead-replica : (length replica ≡ 16 → ⊥) → D.Refused 17 ≡ leadAnswer basic s t item replica
+    lead-replica f = lead-17 (λ p. f (p .1))
+
+    pub lead-ahead : length item ≡ 24 → length replica ≡ 16 → (x y : ℕ) → Known s item replica x → Known t item replica y
+        → (z : ℤ) → z ≡ pos x -ℤ pos y → D.Ahead z ≡ leadAnswer basic s t item replica
+    lead-ahead h k x y a b z e =
+        ap D.Ahead (e ∙ ap₂ (λ u w. pos u -ℤ pos w) (a .is) (b .is))
+        ∙ sym (lead-answers basic s t item replica r (o .v) (o .e) (o .g) (reading s r c o) m (q .v) (q .e) (q .g)
+        (reading t m d q) (h, k))
+
+pub ruleset answering = (contain-item, contain-replica, contain-zero, contain-yes, contain-no, lead-item, lead-replica)

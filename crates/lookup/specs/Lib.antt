@@ -1,0 +1,2 @@
+-- Lookup's own method.
+pub mod Method

@@ -1,0 +1,109 @@
+-- The method of lookup, by places, for any bytes: nothing here is to be believed. The laws show that for bytes that the check
+-- accepts it gives the known tick. What is not all there is not read: the id has no key, stepping over vectors ends, a vector has
+-- no elements, and no range is passed.
+use Rattle.codec.specs.Prelude.{ℕ, zero, suc, _+_, _-_, _*_, _%_, _^_, _≤_, _<_, _≡_, true, false, List, ltb, leb, length}
+use Rattle.codec.specs.Number.{Bytes, beAt}
+use Rattle.layout.specs.declared.ReplicaKey.{ReplicaKey}
+use Rattle.layout.specs.declared.VectorIndex.{VectorIndex}
+use Rattle.layout.specs.declared.Checked.{Checked}
+use Rattle.layout.specs.declared.Checked.the-variants as A
+use Rattle.layout.specs.Knowledge.{basic}
+use Rattle.layout.specs.Decode.{idsAt, elementsAt, decode}
+use Rattle.layout.specs.Parse.{checkedBy}
+use Rattle.layout.specs.MethodPlaces.{idsPlace, vectorsPlace, rangesPlace, countAt}
+use Rattle.ticks.specs.Meaning.{tickAt, known}
+use Rattle.ticks.specs.MethodLookup.{keyOf, firstIndex}
+use Rattle.lookup.specs.declared.Cursor.{Cursor}
+use Rattle.lookup.specs.declared.Opened.{Opened}
+use Rattle.lookup.specs.declared.Opened.the-variants as O
+
+-- The key of an id
+
+-- among the r ids of the map; r where they are not all there
+unfoldable pub keyAt : List ℕ → ℕ → ℕ → ReplicaKey
+keyAt s r p = elim (leb (idsPlace + 16 * r) (length s)) [ true ↦ keyOf (idsAt s r idsPlace) p | false ↦ record { 0 = r } ]
+
+-- The place of a vector
+
+-- the place after n vectors from a place on
+unfoldable pub stepped : List ℕ → ℕ → ℕ → ℕ
+stepped s zero at = at
+stepped s (suc n) at = elim (leb (at + 8) (length s)) [ true ↦ stepped s n (at + 8 + 12 * countAt s at) | false ↦ at ]
+
+-- the place of the vector of an index, from another one, whose place is known: onwards from there, or else from the first one on
+unfoldable pub vectorFrom : List ℕ → ℕ → VectorIndex → ℕ → VectorIndex → ℕ
+vectorFrom s r from at to =
+    elim (leb (from .0) (to .0)) [ true ↦ stepped s (to .0 - from .0) at | false ↦ stepped s (to .0) (vectorsPlace r) ]
+
+-- The range of an item
+
+-- before any range
+unfoldable pub startAt : ℕ → ℕ → ℕ → ℕ → Cursor
+startAt r v e g = record { left = g; next = rangesPlace r v e; index = firstIndex; vector = vectorsPlace r }
+
+-- past the next range; the vector's place is not looked for
+unfoldable pub past : List ℕ → Cursor → ℕ → Cursor
+past s c n = record { left = n; next = c .next + 28; index = record { 0 = beAt s 4 (c .next + 24) }; vector = c .vector }
+
+-- past those of the next n ranges whose bounds are at or below the item
+unfoldable pub passed : List ℕ → ℕ → ℕ → Cursor → Cursor
+passed s i zero c = c
+passed s i (suc n) c = elim (ltb i (beAt s 24 (c .next))) [ true ↦ c | false ↦ passed s i n (past s c n) ]
+
+-- d with the place of its vector, from the cursor that it came from
+unfoldable pub settled : List ℕ → ℕ → Cursor → Cursor → Cursor
+settled s r c d = record {
+  left = d .left;
+  next = d .next;
+  index = d .index;
+  vector = vectorFrom s r (c .index) (c .vector) (d .index);
+}
+
+unfoldable pub advanced : List ℕ → ℕ → Cursor → ℕ → Cursor
+advanced s r c i = elim (leb (c .next + 28 * c .left) (length s)) [ true ↦ settled s r c (passed s i (c .left) c) | false ↦ c ]
+
+-- The tick of a key
+
+-- how many elements the vector at a place has, all there
+unfoldable pub elementsThere : List ℕ → ℕ → ℕ
+elementsThere s at =
+    elim (leb (at + 8) (length s)) [
+      | true ↦ elim (leb (at + 8 + 12 * countAt s at) (length s)) [ true ↦ countAt s at | false ↦ 0 ]
+      | false ↦ 0
+    ]
+
+-- n is that number
+pub record There (s : List ℕ) (at n : ℕ) : Type 0 where
+  pub is : n ≡ elementsThere s at
+  pub room : 1 ≤ n → at + 8 + 12 * n ≤ length s
+
+unfoldable pub tickOf : List ℕ → ℕ → ReplicaKey → ℕ
+tickOf s at key = tickAt (elementsAt s (elementsThere s at) (at + 8)) (key .0)
+
+-- the tick of item i and replica p, from a cursor on
+unfoldable pub tickFrom : List ℕ → ℕ → Cursor → ℕ → ℕ → ℕ
+tickFrom s r c i p = tickOf s (advanced s r c i .vector) (keyAt s r p)
+
+-- What the check answered
+
+-- counts are numbers of four bytes: what is left of a number in them
+abbrev pub inFour : ℕ → ℕ
+inFour n = n % 4294967296
+
+unfoldable pub openOf : Checked → Opened
+openOf (A.Accepted r v e g) = O.At (inFour r) (startAt (inFour r) (inFour v) (inFour e) (inFour g))
+openOf (A.Refused n) = O.Refused n
+
+-- accepted bytes of r replicas, and the cursor before any of their ranges
+pub record Opens (s : List ℕ) (r : ℕ) (c : Cursor) : Type 0 where
+  pub v : ℕ
+  pub e : ℕ
+  pub g : ℕ
+  pub bytes : Bytes s
+  pub accepts : checkedBy basic s ≡ A.Accepted r v e g
+  pub start : c ≡ startAt r v e g
+
+-- the tick that such bytes know of an item and a replica, each given as bytes
+pub record Known (s item replica : List ℕ) (t : ℕ) : Type 0 where
+  pub is : t ≡ known (decode s) (beAt item 24 0) (beAt replica 16 0)
+  pub small : t < 2 ^ 63

@@ -1,0 +1,384 @@
+// The known tick in the bytes of a knowledge, and the calls that look for it: contain and lead.
+//
+// Every public function is total. The leaves go by places and take any bytes, any sizes and any cursor; for bytes that the check
+// accepts, with the sizes that it answers, they give the known tick. An item id is three words of 64 bits and a replica id two,
+// the highest first.
+use layout::Checked;
+use layout::ReplicaKey;
+use layout::VectorIndex;
+use ticks::Contain;
+use ticks::Lead;
+ghost use mathlib.Core.Path.{_≡_};
+ghost use Prim.Native.Nat.{_+_, _*_, _^_, _≤_, _<_};
+ghost use lib.Dec.{eqb, ltb};
+ghost use lib.IntN.{pos, _-ℤ_};
+ghost use lib.ListN.{length, getD};
+ghost use Rattle.codec.specs.Number.{beAt};
+ghost use Rattle.codec.specs.Words.{words2, words3};
+ghost use Rattle.layout.specs.Knowledge.{basic};
+ghost use Rattle.layout.specs.Parse.{checkedBy};
+ghost use Rattle.ticks.specs.Calls.{containAnswer, leadAnswer};
+ghost use Rattle.lookup.specs.Method.{keyAt, stepped, vectorFrom, passed, advanced, There, tickOf, tickFrom, openOf, Opens, Known};
+
+// the place of the replica ids
+const IDS: usize = 27;
+
+// A place among the ranges of a knowledge, for items in rising order: it only moves forward.
+pub struct Cursor {
+    // how many ranges are not passed, and the place of the next one
+    pub left: u32,
+    pub next: usize,
+    // the clock vector of the range that was passed last, vector 0 where none was, and the place of that vector
+    pub index: VectorIndex,
+    pub vector: usize,
+}
+
+// What the check of a knowledge comes to for lookup.
+pub enum Opened {
+    // the count of replicas, and the cursor before any range
+    At { r: u32, start: Cursor },
+    // the refusal's number
+    Refused(u32),
+}
+
+// ---- numbers that are there
+
+// The byte at a place, the number in the four bytes from a place on, and in the eight.
+fn one(s: &[u8], at: usize) -> u64
+    requires { ⌜ at < length (now s) ⌝ }
+    ensures { λ r. ⌜ (r ≡ getD (now (s .entry)) at 0) × (r < 256) ⌝ }
+{
+    s[at] as u64
+}
+
+fn four(s: &[u8], at: usize) -> u64
+    requires { ⌜ at + 4 ≤ length (now s) ⌝ }
+    ensures { λ r. ⌜ (r ≡ beAt (now (s .entry)) 4 at) × (r < 2 ^ 32) ⌝ }
+{
+    one(s, at) * 16777216 + one(s, at + 1) * 65536 + one(s, at + 2) * 256 + one(s, at + 3)
+}
+
+fn eight(s: &[u8], at: usize) -> u64
+    requires { ⌜ at + 8 ≤ length (now s) ⌝ }
+    ensures { λ r. ⌜ (r ≡ beAt (now (s .entry)) 8 at) × (r < 2 ^ 64) ⌝ }
+{
+    four(s, at) * 4294967296 + four(s, at + 4)
+}
+
+// ---- the key of an id
+
+// Is the replica id at a place the one of two words.
+fn id_at(s: &[u8], at: usize, p0: u64, p1: u64) -> bool
+    requires { ⌜ at + 16 ≤ length (now s) ⌝ }
+    ensures { λ r. ⌜ r ≡ eqb (beAt (now (s .entry)) 16 at) (words2 p0 p1) ⌝ }
+{
+    if eight(s, at) != p0 {
+        return false;
+    }
+    eight(s, at + 8) == p1
+}
+
+// The key of a replica id among the r ids of the map, in whatever order they stand; r where it is not among them, or where they
+// are not all there.
+pub fn key_of(s: &[u8], r: u32, p0: u64, p1: u64) -> ReplicaKey
+    ensures { λ k. ⌜ k ≡ keyAt (now (s .entry)) r (words2 p0 p1) ⌝ }
+{
+    let mut key = ReplicaKey(0);
+    if s.len() < IDS + 16 * (r as usize) {
+        return ReplicaKey(r);
+    }
+    let mut at = IDS;
+    while key.0 < r {
+        if id_at(s, at, p0, p1) {
+            return key;
+        }
+        at += 16;
+        let n = key.0 + 1;
+        key = ReplicaKey(n);
+    }
+    key
+}
+
+// ---- the vector of an index
+
+// The place after n vectors from a place on; where a vector's count is not there, no further.
+fn step_over(s: &[u8], n: u32, start: usize) -> usize
+    ensures { λ r. ⌜ r ≡ stepped (now (s .entry)) n start ⌝ }
+{
+    if s.len() < 8 {
+        return start;
+    }
+    let end = s.len() - 8;
+    let mut i: u32 = 0;
+    let mut at = start;
+    while i < n {
+        if end < at {
+            return at;
+        }
+        at = at + 8 + 12 * (four(s, at + 4) as usize);
+        i += 1;
+    }
+    at
+}
+
+// The place of a vector, from another one whose place is known: onwards from there, or else from the first vector on.
+fn vector_place(s: &[u8], r: u32, from: VectorIndex, at: usize, to: VectorIndex) -> usize
+    ensures { λ p. ⌜ p ≡ vectorFrom (now (s .entry)) r from at to ⌝ }
+{
+    if from.0 <= to.0 {
+        return step_over(s, to.0 - from.0, at);
+    }
+    step_over(s, to.0, 48 + 16 * (r as usize))
+}
+
+// ---- the range of an item
+
+// Is the item below the bound at a place.
+fn below(s: &[u8], at: usize, i0: u64, i1: u64, i2: u64) -> bool
+    requires { ⌜ at + 24 ≤ length (now s) ⌝ }
+    ensures { λ r. ⌜ r ≡ ltb (words3 i0 i1 i2) (beAt (now (s .entry)) 24 at) ⌝ }
+{
+    let b0 = eight(s, at);
+    if i0 != b0 {
+        return i0 < b0;
+    }
+    let b1 = eight(s, at + 8);
+    if i1 != b1 {
+        return i1 < b1;
+    }
+    i2 < eight(s, at + 16)
+}
+
+// Passes the ranges whose bounds are at or below the item. The place of the vector stays what it was.
+fn pass(s: &[u8], c: Cursor, i0: u64, i1: u64, i2: u64) -> Cursor
+    requires { ⌜ c .next + 28 * c .left ≤ length (now s) ⌝ }
+    ensures { λ d. ⌜ d ≡ passed (now (s .entry)) (words3 i0 i1 i2) (c .left) c ⌝ }
+{
+    let mut left = c.left;
+    let mut next = c.next;
+    let mut index = c.index;
+    let vector = c.vector;
+    while 0 < left {
+        if below(s, next, i0, i1, i2) {
+            return Cursor {
+                left,
+                next,
+                index,
+                vector,
+            };
+        }
+        let n = four(s, next + 24) as u32;
+        index = VectorIndex(n);
+        next += 28;
+        left -= 1;
+    }
+    Cursor {
+        left,
+        next,
+        index,
+        vector,
+    }
+}
+
+// Moves a cursor on to an item. With r replicas, the first vector stands after their ids. Where the ranges are not all there, the
+// cursor stays.
+pub fn advance(s: &[u8], r: u32, c: Cursor, i0: u64, i1: u64, i2: u64) -> Cursor
+    ensures { λ d. ⌜ d ≡ advanced (now (s .entry)) r c (words3 i0 i1 i2) ⌝ }
+{
+    if s.len() < c.next {
+        return c;
+    }
+    if s.len() - c.next < 28 * (c.left as usize) {
+        return c;
+    }
+    let d = pass(s, c, i0, i1, i2);
+    let from = c.index;
+    let to = d.index;
+    let vector = vector_place(s, r, from, c.vector, to);
+    Cursor {
+        left: d.left,
+        next: d.next,
+        index: to,
+        vector,
+    }
+}
+
+// ---- the tick of a key
+
+// How many elements the vector at a place has; 0 where they are not all there.
+pub fn elements_at(s: &[u8], at: usize) -> usize
+    ensures { λ n. ⌜ There (now (s .entry)) at n ⌝ }
+{
+    if s.len() < 8 {
+        return 0;
+    }
+    if s.len() - 8 < at {
+        return 0;
+    }
+    let n = four(s, at + 4) as usize;
+    if s.len() - 8 - at < 12 * n {
+        return 0;
+    }
+    n
+}
+
+// The tick of a key in the vector at a place, 0 where it has no such element.
+pub fn tick_at(s: &[u8], vector: usize, key: ReplicaKey) -> u64
+    ensures { λ t. ⌜ t ≡ tickOf (now (s .entry)) vector key ⌝ }
+{
+    let n = elements_at(s, vector);
+    if n == 0 {
+        return 0;
+    }
+    let mut i: usize = 0;
+    let mut at = vector + 8;
+    while i < n {
+        if four(s, at) == key.0 as u64 {
+            return eight(s, at + 4);
+        }
+        at += 12;
+        i += 1;
+    }
+    0
+}
+
+// The known tick of an item and a replica, from a cursor that is not past the item.
+pub fn known_tick(s: &[u8], r: u32, c: Cursor, i0: u64, i1: u64, i2: u64, p0: u64, p1: u64) -> u64
+    ensures { λ t. ⌜ t ≡ tickFrom (now (s .entry)) r c (words3 i0 i1 i2) (words2 p0 p1) ⌝ }
+{
+    let d = advance(s, r, c, i0, i1, i2);
+    let key = key_of(s, r, p0, p1);
+    tick_at(s, d.vector, key)
+}
+
+// ---- from the check
+
+// What the check answered, for lookup. Counts are numbers of four bytes, and those of an accepted knowledge always fit.
+pub fn from_check(c: Checked) -> Opened
+    ensures { λ r. ⌜ r ≡ openOf c ⌝ }
+{
+    match c {
+        Checked::Accepted { r, v, e, g } => {
+            let next = 64 + 16 * (r % 4294967296) + 8 * (v % 4294967296) + 12 * (e % 4294967296);
+            let vector = 48 + 16 * (r % 4294967296);
+            let r = (r % 4294967296) as u32;
+            let left = (g % 4294967296) as u32;
+            let index = VectorIndex(0);
+            let start = Cursor {
+                left,
+                next,
+                index,
+                vector,
+            };
+            Opened::At { r, start }
+        }
+        Checked::Refused(n) => Opened::Refused(n),
+    }
+}
+
+// The check takes the slice anew, so that the caller's own need not lie in memory.
+fn open_bytes(s: &[u8]) -> Opened
+    ensures { λ r. ⌜ r ≡ openOf (checkedBy basic (now (s .entry))) ⌝ }
+{
+    from_check(reader::check(&s[..]))
+}
+
+// ---- the calls
+
+// The tick that an accepted knowledge knows of an item and a replica, each given as bytes.
+fn tick_of(s: &[u8], r: u32, start: Cursor, item: &[u8], replica: &[u8]) -> u64
+    requires { ⌜ (Opens (now s) r start) × (length (now item) ≡ 24) × (length (now replica) ≡ 16) ⌝ }
+    ensures { λ t. ⌜ Known (now (s .entry)) (now (item .entry)) (now (replica .entry)) t ⌝ }
+{
+    let i0 = eight(item, 0);
+    let i1 = eight(item, 8);
+    let i2 = eight(item, 16);
+    let p0 = eight(replica, 0);
+    let p1 = eight(replica, 8);
+    known_tick(s, r, start, i0, i1, i2, p0, p1)
+}
+
+// Contain in an accepted knowledge.
+fn contain_in(s: &[u8], r: u32, start: Cursor, item: &[u8], replica: &[u8], tick: u64) -> Contain
+    requires { ⌜ Opens (now s) r start ⌝ }
+    ensures { λ a. ⌜ a ≡ containAnswer basic (now (s .entry)) (now (item .entry)) (now (replica .entry)) tick ⌝ }
+{
+    if item.len() != 24 {
+        return Contain::Refused(17);
+    }
+    if replica.len() != 16 {
+        return Contain::Refused(17);
+    }
+    let known = tick_of(s, r, start, item, replica);
+    if tick == 0 {
+        return Contain::Lacking;
+    }
+    if tick <= known {
+        return Contain::Contained;
+    }
+    Contain::Lacking
+}
+
+// Does a knowledge contain the version of an item, a replica and a tick. Any tick may be given.
+pub fn contain(knowledge: &[u8], item: &[u8], replica: &[u8], tick: u64) -> Contain
+    ensures { λ a. ⌜ a ≡ containAnswer basic (now (knowledge .entry)) (now (item .entry)) (now (replica .entry)) tick ⌝ }
+{
+    match open_bytes(knowledge) {
+        Opened::At { r, start } => contain_in(knowledge, r, start, item, replica, tick),
+        Opened::Refused(n) => Contain::Refused(n),
+    }
+}
+
+// The first tick minus the second. Both are at most 2^63 - 1, so it fits at both ends.
+fn ahead(a: u64, b: u64) -> i64
+    requires { ⌜ (a < 2 ^ 63) × (b < 2 ^ 63) ⌝ }
+    ensures { λ r. ⌜ r ≡ pos a -ℤ pos b ⌝ }
+{
+    (a as i64) - (b as i64)
+}
+
+// Lead of two accepted knowledges.
+fn lead_in(
+    s: &[u8],
+    r: u32,
+    start: Cursor,
+    t: &[u8],
+    m: u32,
+    begin: Cursor,
+    item: &[u8],
+    replica: &[u8],
+) -> Lead
+    requires { ⌜ (Opens (now s) r start) × (Opens (now t) m begin) ⌝ }
+    ensures { λ a. ⌜ a ≡ leadAnswer basic (now (s .entry)) (now (t .entry)) (now (item .entry)) (now (replica .entry)) ⌝ }
+{
+    if item.len() != 24 {
+        return Lead::Refused(17);
+    }
+    if replica.len() != 16 {
+        return Lead::Refused(17);
+    }
+    let a = tick_of(s, r, start, item, replica);
+    let b = tick_of(t, m, begin, item, replica);
+    Lead::Ahead(ahead(a, b))
+}
+
+// Lead where the first knowledge is accepted.
+fn lead_second(s: &[u8], r: u32, start: Cursor, t: &[u8], item: &[u8], replica: &[u8]) -> Lead
+    requires { ⌜ Opens (now s) r start ⌝ }
+    ensures { λ a. ⌜ a ≡ leadAnswer basic (now (s .entry)) (now (t .entry)) (now (item .entry)) (now (replica .entry)) ⌝ }
+{
+    match open_bytes(t) {
+        Opened::At { r: m, start: begin } => lead_in(s, r, start, t, m, begin, item, replica),
+        Opened::Refused(n) => Lead::Refused(n),
+    }
+}
+
+// The tick that the first knowledge knows of an item and a replica minus the one that the second knows.
+pub fn lead(first: &[u8], second: &[u8], item: &[u8], replica: &[u8]) -> Lead
+    ensures { λ a. ⌜ a ≡ leadAnswer basic (now (first .entry)) (now (second .entry)) (now (item .entry)) (now (replica .entry)) ⌝ }
+{
+    match open_bytes(first) {
+        Opened::At { r, start } => lead_second(first, r, start, second, item, replica),
+        Opened::Refused(n) => Lead::Refused(n),
+    }
+}
