@@ -11,7 +11,7 @@ from-check-requires : tie.Need-from-check-requires
 from-check-requires c κs = search needs
 
 returns : tie.Need-returns
-returns c = checked-opens _ _ _ (c .before .check .ensures) (c .from-check .ensures)
+returns c = checked-opens _ _ _ _ (c .before .check .ensures) (c .from-check .ensures)
 
 pub open-bytes-spec : {M : Type 1} → statement M
 open-bytes-spec = tie.close (tie.spec check-requires from-check-requires returns)
