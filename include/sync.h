@@ -23,6 +23,9 @@ extern "C" {
 /*
  * The numbers of the refusals. A knowledge is read from left to right, and the number is that of the first field with a
  * fault. Each id, count, key, tick, bound and index is a field of its own.
+ *
+ * Where several inputs have a fault, the first knowledge comes before the second, and knowledge before ids. Each function
+ * says which numbers it returns.
  */
 enum sync_refusal {
     /* The bytes end inside the field. At a field this comes before any other number. */
@@ -45,7 +48,28 @@ enum sync_refusal {
     /* A clock vector index is at or above the count of vectors. */
     SYNC_INDEX = 9,
     /* Bytes are left over behind a knowledge that is otherwise without fault. */
-    SYNC_LEFT_OVER = 10
+    SYNC_LEFT_OVER = 10,
+    /* The result has over 16 replicas. */
+    SYNC_OVER_REPLICAS = 11,
+    /* The result has over 64 ranges. */
+    SYNC_OVER_RANGES = 12,
+    /* The result has over 256 records. */
+    SYNC_OVER_RECORDS = 13,
+    /* The output buffer is shorter than the result. */
+    SYNC_SHORT_BUFFER = 14,
+    /* The store is not valid. */
+    SYNC_STORE = 15,
+    /* The batch is not valid. */
+    SYNC_BATCH = 16,
+    /* An item id, replica id or tag is not 24, 16 or 16 bytes long, or the first id of a span is above the last. */
+    SYNC_ARGUMENT = 17,
+    /* The store does not cover the batch's needed knowledge in the span, or the batch's learned knowledge has, for some
+       item, a tick of the store's own replica above the store's. */
+    SYNC_NOT_COVERED = 18,
+    /* The item is absent or a tombstone. */
+    SYNC_ABSENT = 19,
+    /* The largest tick is 9,223,372,036,854,775,807 (2^63 - 1), so no edit can follow. */
+    SYNC_LAST_TICK = 20
 };
 
 /*
@@ -61,6 +85,31 @@ enum sync_refusal {
  * Else returns the number of the refusal, 1 to 10, and leaves sizes as they were.
  */
 uint32_t sync_check(const uint8_t *knowledge, size_t n, uint64_t sizes[4]);
+
+/*
+ * Says whether a knowledge contains the version of an item, a replica and a tick: the tick is 1 or more and at most the
+ * one that the knowledge knows for the item and the replica. An item id has 24 bytes and a replica id 16. Any tick may
+ * be given: 0, and those above 2^63 - 1, are not contained.
+ *
+ * Returns 0 and sets *contained to 1 if it does and to 0 if it does not.
+ *
+ * Else returns the number of the refusal, 1 to 10 for the knowledge and then 17 for the ids, and leaves *contained as
+ * it was.
+ */
+uint32_t sync_contain(const uint8_t *knowledge, size_t knowledge_n, const uint8_t *item, size_t item_n,
+                      const uint8_t *replica, size_t replica_n, uint64_t tick, uint32_t *contained);
+
+/*
+ * Gives the lead of the first knowledge over the second for an item and a replica: the tick that the first knows minus
+ * the tick that the second knows, 0 for a tick that is absent. An item id has 24 bytes and a replica id 16.
+ *
+ * Returns 0 and sets *lead to the difference, which may be negative.
+ *
+ * Else returns the number of the refusal, 1 to 10 for the first knowledge, then 1 to 10 for the second, then 17 for the
+ * ids, and leaves *lead as it was.
+ */
+uint32_t sync_lead(const uint8_t *first, size_t first_n, const uint8_t *second, size_t second_n, const uint8_t *item,
+                   size_t item_n, const uint8_t *replica, size_t replica_n, int64_t *lead);
 
 #ifdef __cplusplus
 }

@@ -1,9 +1,12 @@
 // The C interface: each function is thin, and its contract says what every byte behind every pointer is afterwards.
 use layout::Checked;
+use ticks::Contain;
+use ticks::Lead;
 ghost use mathlib.Core.Path.{_≡_};
 ghost use Rattle.layout.specs.Knowledge.{basic};
 ghost use Rattle.layout.specs.Parse.{checkedBy};
 ghost use Rattle.layout.specs.Answer.{checkedNumber, checkedSizes};
+ghost use Rattle.ticks.specs.Calls.{containNumber, containValue, containAnswer, leadNumber, leadValue, leadAnswer};
 
 // Checks a knowledge: its sizes r, v, e and g, or the refusal's number, and then no size changes.
 #[no_mangle]
@@ -20,5 +23,59 @@ pub extern "C" fn sync_check(knowledge: &[u8], sizes: &mut [u64; 4]) -> u32
             0
         }
         Checked::Refused(n) => n,
+    }
+}
+
+// Does a knowledge contain the version of an item, a replica and a tick: 1 or 0; or the refusal's number, and then nothing
+// changes.
+#[no_mangle]
+pub extern "C" fn sync_contain(
+    knowledge: &[u8],
+    item: &[u8],
+    replica: &[u8],
+    tick: u64,
+    contained: &mut u32,
+) -> u32
+    ensures number { λ r. ⌜ r ≡ containNumber
+        (containAnswer basic (now (knowledge .entry)) (now (item .entry)) (now (replica .entry)) tick) ⌝ }
+    ensures value { λ r. ⌜ now (contained .exit) ≡ containValue
+        (containAnswer basic (now (knowledge .entry)) (now (item .entry)) (now (replica .entry)) tick)
+        (now (contained .entry)) ⌝ }
+{
+    match lookup::contain(knowledge, item, replica, tick) {
+        Contain::Contained => {
+            *contained = 1;
+            0
+        }
+        Contain::Lacking => {
+            *contained = 0;
+            0
+        }
+        Contain::Refused(n) => n,
+    }
+}
+
+// The tick that the first knowledge knows of an item and a replica minus the second's; or the refusal's number, and then
+// nothing changes.
+#[no_mangle]
+pub extern "C" fn sync_lead(
+    first: &[u8],
+    second: &[u8],
+    item: &[u8],
+    replica: &[u8],
+    lead: &mut i64,
+) -> u32
+    ensures number { λ r. ⌜ r ≡ leadNumber
+        (leadAnswer basic (now (first .entry)) (now (second .entry)) (now (item .entry)) (now (replica .entry))) ⌝ }
+    ensures value { λ r. ⌜ now (lead .exit) ≡ leadValue
+        (leadAnswer basic (now (first .entry)) (now (second .entry)) (now (item .entry)) (now (replica .entry)))
+        (now (lead .entry)) ⌝ }
+{
+    match lookup::lead(first, second, item, replica) {
+        Lead::Ahead(x) => {
+            *lead = x;
+            0
+        }
+        Lead::Refused(n) => n,
     }
 }

@@ -1,7 +1,7 @@
 -- What contain and lead return, one law for each way that a call goes. Accepted bytes are opened with their own sizes, which
 -- are far below 2^32 (`opens`); the tick that lookup finds from there is the known one (`tick-known`), and so the answer is
 -- the definition's. Known ticks are below 2^63, so their difference is exact.
-use Prim.Native.Nat.{ℕ, _+_, _*_, _≤_, _<_, _^_}
+use Prim.Native.Nat.{ℕ, _≤_, _<_, _^_}
 use mathlib.Core.Path.{_≡_, refl, sym, ap, ap₂, _∙_, subst}
 use mathlib.Core.List.{List}
 use native.Mathlib.Omega.{arith}
@@ -16,11 +16,11 @@ use Rattle.codec.specs.Words.{words2, words3}
 use Rattle.codec.proofs.Order.{words2-be, words3-be}
 use Rattle.layout.specs.declared.Checked.{Checked}
 use Rattle.layout.specs.declared.Checked.the-variants as A
-use Rattle.layout.specs.Knowledge.{basic}
+use Rattle.layout.specs.Knowledge.{Rules}
+use Rattle.layout.specs.Permitted.{Permitted}
 use Rattle.layout.specs.Decode.{decode}
 use Rattle.layout.specs.MethodPlaces.{vectorsPlace, rangesPlace}
 use Rattle.layout.specs.Parse.{checkedBy}
-use Rattle.layout.proofs.Exact.{base-permitted}
 use Rattle.layout.proofs.Places.{Reading, places}
 use Rattle.ticks.specs.Meaning.{known, contains}
 use Rattle.ticks.specs.MethodLookup.{firstIndex}
@@ -37,7 +37,7 @@ use Rattle.lookup.specs.declared.Opened.{Opened}
 use Rattle.lookup.specs.declared.Opened.the-variants as O
 use Rattle.lookup.specs.Method.{startAt, tickFrom, inFour, openOf, Opens, Known}
 use Rattle.lookup.proofs.Loops.{cursor}
-use Rattle.lookup.proofs.Leaf.{leaf-known, known-small}
+use Rattle.lookup.proofs.Leaf.{Stands, stands-start, stands-tick, known-small}
 
 -- Opening
 
@@ -51,48 +51,54 @@ pub opened-refused : (c : Checked) (n : ℕ) → c ≡ A.Refused n → O.Refused
 unfolding openOf
 opened-refused c n is = sym (ap openOf is)
 
-reading-of : (s : List ℕ) (r v e g : ℕ) → Bytes s → checkedBy basic s ≡ A.Accepted r v e g → Reading basic s r v e g
-reading-of s r v e g b h = record { permitted = base-permitted; bytes = b; accepts = h }
+module _ (R : Rules) (permitted : Permitted (R .limits)) (s : List ℕ) where
+  open-cases : (k : Checked) → Bytes s → k ≡ checkedBy R s → (r : ℕ) (c : Cursor) → openOf k ≡ O.At r c → Opens R s r c
+  unfolding openOf
+  open-cases (A.Accepted r v e g) b h q c f =
+      let p = places R s r v e g (record { permitted = permitted; bytes = b; accepts = sym h }) in
+      let er : inFour r ≡ r = omega (arith, p .whole, p .small) in
+      let ev : inFour v ≡ v = omega (arith, p .whole, p .small) in
+      let ee : inFour e ≡ e = omega (arith, p .whole, p .small) in
+      let eg : inFour g ≡ g = omega (arith, p .whole, p .small) in
+      let own : r ≡ q = cc in
+      let start : startAt (inFour r) (inFour v) (inFour e) (inFour g) ≡ c = cc in
+      record {
+        permitted = permitted;
+        v = v;
+        e = e;
+        g = g;
+        bytes = b;
+        accepts = sym h ∙ ap (λ n. A.Accepted n v e g) own;
+        start = sym start ∙ cc;
+      }
+  open-cases (A.Refused n) b h q c f = absurd (let z : _≡_ {A = ℕ} 0 1 = cc in omega arith)
 
-open-cases : (s : List ℕ) (k : Checked) → Bytes s → k ≡ checkedBy basic s → (r : ℕ) (c : Cursor) → openOf k ≡ O.At r c
-    → Opens s r c
-unfolding openOf
-open-cases s (A.Accepted r v e g) b h q c f =
-    let p = places basic s r v e g (reading-of s r v e g b (sym h)) in
-    let er : inFour r ≡ r = omega (arith, p .whole, p .small) in
-    let ev : inFour v ≡ v = omega (arith, p .whole, p .small) in
-    let ee : inFour e ≡ e = omega (arith, p .whole, p .small) in
-    let eg : inFour g ≡ g = omega (arith, p .whole, p .small) in
-    let own : r ≡ q = cc in
-    let start : startAt (inFour r) (inFour v) (inFour e) (inFour g) ≡ c = cc in
-    record { v = v; e = e; g = g; bytes = b; accepts = sym h ∙ ap (λ n. A.Accepted n v e g) own; start = sym start ∙ cc }
-open-cases s (A.Refused n) b h q c f = absurd (let z : _≡_ {A = ℕ} 0 1 = cc in omega arith)
+  refused-cases : (k : Checked) → k ≡ checkedBy R s → (n : ℕ) → openOf k ≡ O.Refused n → checkedBy R s ≡ A.Refused n
+  unfolding openOf
+  refused-cases (A.Accepted r v e g) h n f = absurd (let z : _≡_ {A = ℕ} 0 1 = cc in omega arith)
+  refused-cases (A.Refused m) h n f = sym h ∙ cc
 
-refused-cases : (s : List ℕ) (k : Checked) → k ≡ checkedBy basic s → (n : ℕ) → openOf k ≡ O.Refused n
-    → checkedBy basic s ≡ A.Refused n
-unfolding openOf
-refused-cases s (A.Accepted r v e g) h n f = absurd (let z : _≡_ {A = ℕ} 0 1 = cc in omega arith)
-refused-cases s (A.Refused m) h n f = sym h ∙ cc
+  module _ (o : Opened) (is : o ≡ openOf (checkedBy R s)) where
+    pub opens : Bytes s → (r : ℕ) (c : Cursor) → o ≡ O.At r c → Opens R s r c
+    opens b r c e = open-cases (checkedBy R s) b refl r c (sym is ∙ e)
 
-module _ (s : List ℕ) (o : Opened) (is : o ≡ openOf (checkedBy basic s)) where
-  pub opens : Bytes s → (r : ℕ) (c : Cursor) → o ≡ O.At r c → Opens s r c
-  opens b r c e = open-cases s (checkedBy basic s) b refl r c (sym is ∙ e)
+    pub opens-refused : (n : ℕ) → o ≡ O.Refused n → Refusing R s n
+    opens-refused n e = record { permitted = permitted; refuses = refused-cases (checkedBy R s) refl n (sym is ∙ e) }
 
-  pub opens-refused : (n : ℕ) → o ≡ O.Refused n → Refusing basic s n
-  opens-refused n e = record {
-    permitted = base-permitted;
-    refuses = refused-cases s (checkedBy basic s) refl n (sym is ∙ e);
-  }
-
-pub checked-opens : (s : List ℕ) (k : Checked) (o : Opened) → k ≡ checkedBy basic s → o ≡ openOf k
-    → o ≡ openOf (checkedBy basic s)
-checked-opens s k o e f = f ∙ ap openOf e
+pub checked-opens : (R : Rules) (s : List ℕ) (k : Checked) (o : Opened) → k ≡ checkedBy R s → o ≡ openOf k
+    → o ≡ openOf (checkedBy R s)
+checked-opens R s k o e f = f ∙ ap openOf e
 
 -- Accepted bytes
 
-module _ (s : List ℕ) (r : ℕ) (c : Cursor) (o : Opens s r c) where
-  reading : Reading basic s r (o .v) (o .e) (o .g)
-  reading = reading-of s r (o .v) (o .e) (o .g) (o .bytes) (o .accepts)
+module _ (R : Rules) (s : List ℕ) (r : ℕ) (c : Cursor) (o : Opens R s r c) where
+  pub opens-reading : Reading R s r (o .v) (o .e) (o .g)
+  opens-reading = record { permitted = o .permitted; bytes = o .bytes; accepts = o .accepts }
+
+  -- the cursor stands for every item
+  pub opens-stands : Stands s r (o .v) (o .e) (o .g) c 0
+  opens-stands =
+      subst (λ d. Stands s r (o .v) (o .e) (o .g) d 0) (sym (o .start)) (stands-start R s r (o .v) (o .e) (o .g) opens-reading)
 
   -- ids as words
   pub tick-known : (item replica : List ℕ) (i0 i1 i2 p0 p1 t : ℕ) → i0 ≡ beAt item 8 0 → i1 ≡ beAt item 8 8
@@ -104,40 +110,39 @@ module _ (s : List ℕ) (r : ℕ) (c : Cursor) (o : Opens s r c) where
       let ie : words3 i0 i1 i2 ≡ i = cc (words3-be item 0) in
       let pe : words2 p0 p1 ≡ p = cc (words2-be replica 0) in
       let found : t ≡ known (decode s) i p =
-      is ∙ ap₂ (λ i p. tickFrom s r c i p) ie pe ∙ ap (λ d. tickFrom s r d i p) (o .start)
-      ∙ leaf-known basic s r (o .v) (o .e) (o .g) reading i p in
-      record { is = found; small = omega (arith, found, known-small basic s r (o .v) (o .e) (o .g) reading i p) }
+      is ∙ ap₂ (λ i p. tickFrom s r c i p) ie pe
+      ∙ stands-tick R s r (o .v) (o .e) (o .g) opens-reading c 0 i p (omega arith) opens-stands in
+      record { is = found; small = omega (arith, found, known-small R s r (o .v) (o .e) (o .g) opens-reading i p) }
 
 -- Contain
 
-pub contain-refused : (s item replica : List ℕ) (t n : ℕ) → Refusing basic s n
-    → C.Refused n ≡ containAnswer basic s item replica t
-contain-refused s item replica t n h = sym (contain-refuses basic s item replica t n h)
+pub contain-refused : (R : Rules) (s item replica : List ℕ) (t n : ℕ) → Refusing R s n
+    → C.Refused n ≡ containAnswer R s item replica t
+contain-refused R s item replica t n h = sym (contain-refuses R s item replica t n h)
 
-module _ (s : List ℕ) (r : ℕ) (c : Cursor) (o : Opens s r c) (item replica : List ℕ) (t : ℕ) where
-  contain-17 : (ProperIds item replica → ⊥) → C.Refused 17 ≡ containAnswer basic s item replica t
-  contain-17 f = sym (contain-wrong basic s item replica t r (o .v) (o .e) (o .g) (reading s r c o) f)
+module _ (R : Rules) (s : List ℕ) (r : ℕ) (c : Cursor) (o : Opens R s r c) (item replica : List ℕ) (t : ℕ) where
+  contain-17 : (ProperIds item replica → ⊥) → C.Refused 17 ≡ containAnswer R s item replica t
+  contain-17 f = sym (contain-wrong R s item replica t r (o .v) (o .e) (o .g) (opens-reading R s r c o) f)
 
-  pub contain-item : (length item ≡ 24 → ⊥) → C.Refused 17 ≡ containAnswer basic s item replica t
+  pub contain-item : (length item ≡ 24 → ⊥) → C.Refused 17 ≡ containAnswer R s item replica t
   contain-item f = contain-17 (λ p. f (p .0))
 
-  pub contain-replica : (length replica ≡ 16 → ⊥) → C.Refused 17 ≡ containAnswer basic s item replica t
+  pub contain-replica : (length replica ≡ 16 → ⊥) → C.Refused 17 ≡ containAnswer R s item replica t
   contain-replica f = contain-17 (λ p. f (p .1))
 
   module _ (h : length item ≡ 24) (k : length replica ≡ 16) where
-    answers : containAnswer basic s item replica t ≡ containFound (contains (decode s) (beAt item 24 0) (beAt replica 16 0) t)
-    answers = contain-answers basic s item replica t r (o .v) (o .e) (o .g) (reading s r c o) (h, k)
+    answers : containAnswer R s item replica t ≡ containFound (contains (decode s) (beAt item 24 0) (beAt replica 16 0) t)
+    answers = contain-answers R s item replica t r (o .v) (o .e) (o .g) (opens-reading R s r c o) (h, k)
 
-    pub contain-zero : t ≡ 0 → C.Lacking ≡ containAnswer basic s item replica t
+    pub contain-zero : t ≡ 0 → C.Lacking ≡ containAnswer R s item replica t
     contain-zero z = sym (answers ∙ found-zero (decode s) (beAt item 24 0) (beAt replica 16 0) t z)
 
     module _ (x : ℕ) (is : Known s item replica x) where
-      pub contain-yes : (t ≡ 0 → ⊥) → t ≤ x → C.Contained ≡ containAnswer basic s item replica t
+      pub contain-yes : (t ≡ 0 → ⊥) → t ≤ x → C.Contained ≡ containAnswer R s item replica t
       contain-yes n l =
-          sym (answers ∙ found-yes (decode s) (beAt item 24 0) (beAt replica 16 0) t (omega arith)
-          (omega (arith, is .is)))
+          sym (answers ∙ found-yes (decode s) (beAt item 24 0) (beAt replica 16 0) t (omega arith) (omega (arith, is .is)))
 
-      pub contain-no : x < t → C.Lacking ≡ containAnswer basic s item replica t
+      pub contain-no : x < t → C.Lacking ≡ containAnswer R s item replica t
       contain-no l = sym (answers ∙ found-later (decode s) (beAt item 24 0) (beAt replica 16 0) t (omega (arith, is .is)))
 
 -- Lead
@@ -161,31 +166,35 @@ module _ (a b : ℕ) (h : a < 2 ^ 63) (k : b < 2 ^ 63) where
   pub difference-exact : toZ w64 (ofZ w64 (toZ w64 a -ℤ toZ w64 b)) ≡ pos a -ℤ pos b
   difference-exact = toZ-ofZ difference-fits ∙ signed
 
-pub lead-refused-first : (s t item replica : List ℕ) (n : ℕ) → Refusing basic s n
-    → D.Refused n ≡ leadAnswer basic s t item replica
-lead-refused-first s t item replica n h = sym (lead-refuses-first basic s t item replica n h)
+pub lead-refused-first : (R : Rules) (s t item replica : List ℕ) (n : ℕ) → Refusing R s n
+    → D.Refused n ≡ leadAnswer R s t item replica
+lead-refused-first R s t item replica n h = sym (lead-refuses-first R s t item replica n h)
 
-module _ (s : List ℕ) (r : ℕ) (c : Cursor) (o : Opens s r c) (t item replica : List ℕ) where
-  pub lead-refused-second : (n : ℕ) → Refusing basic t n → D.Refused n ≡ leadAnswer basic s t item replica
-  lead-refused-second n h = sym (lead-refuses-second basic s t item replica r (o .v) (o .e) (o .g) (reading s r c o) n h)
+module _ (R : Rules) (s : List ℕ) (r : ℕ) (c : Cursor) (o : Opens R s r c) (t item replica : List ℕ) where
+  one : Reading R s r (o .v) (o .e) (o .g)
+  one = opens-reading R s r c o
 
-  module _ (m : ℕ) (d : Cursor) (q : Opens t m d) where
-    lead-17 : (ProperIds item replica → ⊥) → D.Refused 17 ≡ leadAnswer basic s t item replica
-    lead-17 f =
-        sym (lead-wrong basic s t item replica r (o .v) (o .e) (o .g) (reading s r c o) m (q .v) (q .e) (q .g)
-        (reading t m d q) f)
+  pub lead-refused-second : (n : ℕ) → Refusing R t n → D.Refused n ≡ leadAnswer R s t item replica
+  lead-refused-second n h = sym (lead-refuses-second R s t item replica r (o .v) (o .e) (o .g) one n h)
 
-    pub lead-item : (length item ≡ 24 → ⊥) → D.Refused 17 ≡ leadAnswer basic s t item replica
+  module _ (m : ℕ) (d : Cursor) (q : Opens R t m d) where
+    other : Reading R t m (q .v) (q .e) (q .g)
+    other = opens-reading R t m d q
+
+    lead-17 : (ProperIds item replica → ⊥) → D.Refused 17 ≡ leadAnswer R s t item replica
+    lead-17 f = sym (lead-wrong R s t item replica r (o .v) (o .e) (o .g) one m (q .v) (q .e) (q .g) other f)
+
+    pub lead-item : (length item ≡ 24 → ⊥) → D.Refused 17 ≡ leadAnswer R s t item replica
     lead-item f = lead-17 (λ p. f (p .0))
 
-    pub lead-replica : (length replica ≡ 16 → ⊥) → D.Refused 17 ≡ leadAnswer basic s t item replica
+    pub lead-replica : (length replica ≡ 16 → ⊥) → D.Refused 17 ≡ leadAnswer R s t item replica
     lead-replica f = lead-17 (λ p. f (p .1))
 
     pub lead-ahead : length item ≡ 24 → length replica ≡ 16 → (x y : ℕ) → Known s item replica x → Known t item replica y
-        → (z : ℤ) → z ≡ pos x -ℤ pos y → D.Ahead z ≡ leadAnswer basic s t item replica
+        → (z : ℤ) → z ≡ pos x -ℤ pos y → D.Ahead z ≡ leadAnswer R s t item replica
     lead-ahead h k x y a b z e =
         ap D.Ahead (e ∙ ap₂ (λ u w. pos u -ℤ pos w) (a .is) (b .is))
-        ∙ sym (lead-answers basic s t item replica r (o .v) (o .e) (o .g) (reading s r c o) m (q .v) (q .e) (q .g)
-        (reading t m d q) (h, k))
+        ∙ sym (lead-answers R s t item replica r (o .v) (o .e) (o .g) one m (q .v) (q .e) (q .g) other (h, k))
 
-pub ruleset answering = (contain-item, contain-replica, contain-zero, contain-yes, contain-no, lead-item, lead-replica)
+-- 17
+pub ruleset wrong = (contain-item, contain-replica, lead-item, lead-replica)

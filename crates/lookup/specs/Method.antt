@@ -7,7 +7,8 @@ use Rattle.layout.specs.declared.ReplicaKey.{ReplicaKey}
 use Rattle.layout.specs.declared.VectorIndex.{VectorIndex}
 use Rattle.layout.specs.declared.Checked.{Checked}
 use Rattle.layout.specs.declared.Checked.the-variants as A
-use Rattle.layout.specs.Knowledge.{basic}
+use Rattle.layout.specs.Knowledge.{Rules}
+use Rattle.layout.specs.Permitted.{Permitted}
 use Rattle.layout.specs.Decode.{idsAt, elementsAt, decode}
 use Rattle.layout.specs.Parse.{checkedBy}
 use Rattle.layout.specs.MethodPlaces.{idsPlace, vectorsPlace, rangesPlace, countAt}
@@ -95,12 +96,13 @@ openOf (A.Accepted r v e g) = O.At (inFour r) (startAt (inFour r) (inFour v) (in
 openOf (A.Refused n) = O.Refused n
 
 -- accepted bytes of r replicas, and the cursor before any of their ranges
-pub record Opens (s : List ℕ) (r : ℕ) (c : Cursor) : Type 0 where
+pub record Opens (R : Rules) (s : List ℕ) (r : ℕ) (c : Cursor) : Type 0 where
+  pub permitted : Permitted (R .limits)
   pub v : ℕ
   pub e : ℕ
   pub g : ℕ
   pub bytes : Bytes s
-  pub accepts : checkedBy basic s ≡ A.Accepted r v e g
+  pub accepts : checkedBy R s ≡ A.Accepted r v e g
   pub start : c ≡ startAt r v e g
 
 -- the tick that such bytes know of an item and a replica, each given as bytes

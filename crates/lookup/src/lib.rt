@@ -287,7 +287,7 @@ fn open_bytes(s: &[u8]) -> Opened
 
 // The tick that an accepted knowledge knows of an item and a replica, each given as bytes.
 fn tick_of(s: &[u8], r: u32, start: Cursor, item: &[u8], replica: &[u8]) -> u64
-    requires { ⌜ (Opens (now s) r start) × (length (now item) ≡ 24) × (length (now replica) ≡ 16) ⌝ }
+    requires { ⌜ (Opens basic (now s) r start) × (length (now item) ≡ 24) × (length (now replica) ≡ 16) ⌝ }
     ensures { λ t. ⌜ Known (now (s .entry)) (now (item .entry)) (now (replica .entry)) t ⌝ }
 {
     let i0 = eight(item, 0);
@@ -300,7 +300,7 @@ fn tick_of(s: &[u8], r: u32, start: Cursor, item: &[u8], replica: &[u8]) -> u64
 
 // Contain in an accepted knowledge.
 fn contain_in(s: &[u8], r: u32, start: Cursor, item: &[u8], replica: &[u8], tick: u64) -> Contain
-    requires { ⌜ Opens (now s) r start ⌝ }
+    requires { ⌜ Opens basic (now s) r start ⌝ }
     ensures { λ a. ⌜ a ≡ containAnswer basic (now (s .entry)) (now (item .entry)) (now (replica .entry)) tick ⌝ }
 {
     if item.len() != 24 {
@@ -348,7 +348,7 @@ fn lead_in(
     item: &[u8],
     replica: &[u8],
 ) -> Lead
-    requires { ⌜ (Opens (now s) r start) × (Opens (now t) m begin) ⌝ }
+    requires { ⌜ (Opens basic (now s) r start) × (Opens basic (now t) m begin) ⌝ }
     ensures { λ a. ⌜ a ≡ leadAnswer basic (now (s .entry)) (now (t .entry)) (now (item .entry)) (now (replica .entry)) ⌝ }
 {
     if item.len() != 24 {
@@ -364,7 +364,7 @@ fn lead_in(
 
 // Lead where the first knowledge is accepted.
 fn lead_second(s: &[u8], r: u32, start: Cursor, t: &[u8], item: &[u8], replica: &[u8]) -> Lead
-    requires { ⌜ Opens (now s) r start ⌝ }
+    requires { ⌜ Opens basic (now s) r start ⌝ }
     ensures { λ a. ⌜ a ≡ leadAnswer basic (now (s .entry)) (now (t .entry)) (now (item .entry)) (now (replica .entry)) ⌝ }
 {
     match open_bytes(t) {

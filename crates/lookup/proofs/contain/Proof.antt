@@ -2,6 +2,8 @@
 use native.Mathlib.Omega.{arith}
 use borrow.Author.Needs.{needs}
 use Rattle.codec.specs.Number.{Bytes}
+use Rattle.layout.specs.Knowledge.{basic}
+use Rattle.layout.proofs.Exact.{base-permitted}
 use Rattle.lookup.proofs.Calls.{opens, opens-refused, contain-refused}
 use Rattle.lookup.proofs.contain.Statement.{statement}
 use Rattle.lookup.proofs.contain.Tie as tie
@@ -17,7 +19,7 @@ contain-in-requires c κs =
     let b : Bytes (c .before .before .before .before .before .before .before .args .knowledge .now) =
     record { below = λ i. omega (arith, c .before .before .before .before .before .before .shared-slice-known .given i) }
     in
-    opens _ _ (c .before .before .before .open-bytes .ensures) b (c .before .r .given .0 .0)
+    opens basic base-permitted _ _ (c .before .before .before .open-bytes .ensures) b (c .before .r .given .0 .0)
     (c .before .r .given .0 .1 .0) (c .before .r .given .1)
 
 enum-known-n : tie.Need-enum-known-n
@@ -28,7 +30,7 @@ returns c = c .contain-in .ensures
 
 returns-2 : tie.Need-returns-2
 returns-2 c =
-    contain-refused _ _ _ _ _ (opens-refused _ _ (c .before .before .before .open-bytes .ensures)
+    contain-refused basic _ _ _ _ _ (opens-refused basic base-permitted _ _ (c .before .before .before .open-bytes .ensures)
     (c .before .n .given .0 .0) (c .before .n .given .1))
 
 pub contain-spec : {M : Type 1} → statement M

@@ -2,6 +2,8 @@
 use native.Mathlib.Omega.{arith}
 use borrow.Author.Needs.{needs}
 use Rattle.codec.specs.Number.{Bytes}
+use Rattle.layout.specs.Knowledge.{basic}
+use Rattle.layout.proofs.Exact.{base-permitted}
 use Rattle.lookup.proofs.Calls.{opens, opens-refused, lead-refused-first}
 use Rattle.lookup.proofs.lead.Statement.{statement}
 use Rattle.lookup.proofs.lead.Tie as tie
@@ -16,7 +18,7 @@ lead-second-requires : tie.Need-lead-second-requires
 lead-second-requires c κs =
     let b : Bytes (c .before .before .before .before .before .before .before .before .args .first .now) =
     record { below = λ i. omega (arith, c .before .before .before .before .before .before .before .shared-slice-known .given i) } in
-    opens _ _ (c .before .before .before .open-bytes .ensures) b (c .before .r .given .0 .0)
+    opens basic base-permitted _ _ (c .before .before .before .open-bytes .ensures) b (c .before .r .given .0 .0)
     (c .before .r .given .0 .1 .0) (c .before .r .given .1)
 
 enum-known-n : tie.Need-enum-known-n
@@ -27,7 +29,7 @@ returns c = c .lead-second .ensures
 
 returns-2 : tie.Need-returns-2
 returns-2 c =
-    lead-refused-first _ _ _ _ _ (opens-refused _ _ (c .before .before .before .open-bytes .ensures)
+    lead-refused-first basic _ _ _ _ _ (opens-refused basic base-permitted _ _ (c .before .before .before .open-bytes .ensures)
     (c .before .n .given .0 .0) (c .before .n .given .1))
 
 pub lead-spec : {M : Type 1} → statement M

@@ -2,6 +2,8 @@
 use native.Mathlib.Omega.{arith}
 use borrow.Author.Needs.{needs}
 use Rattle.codec.specs.Number.{Bytes}
+use Rattle.layout.specs.Knowledge.{basic}
+use Rattle.layout.proofs.Exact.{base-permitted}
 use Rattle.lookup.proofs.Calls.{opens, opens-refused, lead-refused-second}
 use Rattle.lookup.proofs.lead_second.Statement.{statement}
 use Rattle.lookup.proofs.lead_second.Tie as tie
@@ -18,7 +20,7 @@ lead-in-requires c κs =
     record { below = λ i. omega (arith, c .before .before .before .before .before .before .shared-slice-known2 .given i) }
     in (
       c .before .before .before .before .before .before .before .before .pre,
-      opens _ _
+      opens basic base-permitted _ _
           (c .before .before .before .open-bytes .ensures) b (c .before .m .given .0 .0) (c .before .m .given .0 .1 .0)
           (c .before .m .given .1),
     )
@@ -31,8 +33,8 @@ returns c = c .lead-in .ensures
 
 returns-2 : tie.Need-returns-2
 returns-2 c =
-    lead-refused-second _ _ _ (c .before .before .before .before .before .before .before .before .pre) _ _ _ _
-    (opens-refused _ _ (c .before .before .before .open-bytes .ensures) (c .before .n .given .0 .0)
+    lead-refused-second basic _ _ _ (c .before .before .before .before .before .before .before .before .pre) _ _ _ _
+    (opens-refused basic base-permitted _ _ (c .before .before .before .open-bytes .ensures) (c .before .n .given .0 .0)
     (c .before .n .given .1))
 
 pub lead-second-spec : {M : Type 1} → statement M

@@ -49,7 +49,7 @@ loop-less c = omega arith
 loop-again : tie.Need-loop-again Inv-loop μ-loop
 loop-again c = (
   pass-on _ _ _ _ _ _ _ (c .before .before .before .before .loop .inv .0) _ _ (c .before .before .below .ensures)
-      (c .four .ensures .0) (c .before .before .before .loop-test .taken) (c .before .if1 .left),
+      (c .four .ensures .0) (omega arith) (c .before .if1 .left),
   omega arith,
 )
 

@@ -24,7 +24,7 @@ known-tick-requires c κs = tt
 
 returns : tie.Need-returns
 returns c =
-    tick-known _ _ _ (c .before .before .before .before .before .before .before .before .before .pre .0) _ _ _ _ _ _ _ _
+    tick-known _ _ _ _ (c .before .before .before .before .before .before .before .before .before .pre .0) _ _ _ _ _ _ _ _
     (c .before .before .before .before .before .eight .ensures .0) (c .before .before .before .before .eight2 .ensures .0)
     (c .before .before .before .eight3 .ensures .0)
     (c .before .before .eight4 .ensures .0) (c .before .eight5 .ensures .0) (c .known-tick .ensures)
