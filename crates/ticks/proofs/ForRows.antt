@@ -196,11 +196,11 @@ lesser-is (some q) p =
     ]
 
 module _ (level id : ℕ → ℕ) where
-  weigh-fine : (best : Option ℕ) (x : Element) → x .tick ≤ level (x .key .0) → weigh level id best x ≡ best
+  pub weigh-fine : (best : Option ℕ) (x : Element) → x .tick ≤ level (x .key .0) → weigh level id best x ≡ best
   unfolding weigh
   weigh-fine best x h = rw (le-leb (x .tick) (level (x .key .0)) h, weigh)
 
-  weigh-lacks : (best : Option ℕ) (x : Element) → level (x .key .0) < x .tick → weigh level id best x ≡ lesser best (id (x .key .0))
+  pub weigh-lacks : (best : Option ℕ) (x : Element) → level (x .key .0) < x .tick → weigh level id best x ≡ lesser best (id (x .key .0))
   unfolding weigh
   weigh-lacks best x h = rw (lt-leb (x .tick) (level (x .key .0)) h, weigh)
 
@@ -258,13 +258,14 @@ module _ (R : Rules) (k : Knowledge) (l : Lawful R k) (i : ℕ) (x : Element) (m
 abbrev pub idIn : Knowledge → ℕ → ℕ
 idIn k key = getD (k .replicas) key 0
 
--- the levels are the first knowledge's ticks of the second's replicas: what the search through the elements at an item finds
-module _ (R : Rules) (a b : Knowledge) (l : Lawful R b) (i : ℕ) (level : ℕ → ℕ)
-    (is : (key : ℕ) → key < length (b .replicas) → level key ≡ known a i (idIn b key)) where
-  said : (r : Option ℕ) → leastOf level (idIn b) none (vectorAt b i) ≡ r → Says level (idIn b) none (vectorAt b i) r
-  said r e = subst (Says level (idIn b) none (vectorAt b i)) e (least-says level (idIn b) none (vectorAt b i))
+-- the levels are the first knowledge's ticks of the second's replicas, and the ids are theirs: what the search through the elements at an item finds
+module _ (R : Rules) (a b : Knowledge) (l : Lawful R b) (i : ℕ) (level id : ℕ → ℕ)
+    (is : (key : ℕ) → key < length (b .replicas) → level key ≡ known a i (idIn b key))
+    (own : (key : ℕ) → key < length (b .replicas) → id key ≡ idIn b key) where
+  said : (r : Option ℕ) → leastOf level id none (vectorAt b i) ≡ r → Says level id none (vectorAt b i) r
+  said r e = subst (Says level id none (vectorAt b i)) e (least-says level id none (vectorAt b i))
 
-  pub least-none : leastOf level (idIn b) none (vectorAt b i) ≡ none → Fine a b i
+  pub least-none : leastOf level id none (vectorAt b i) ≡ none → Fine a b i
   least-none e =
       let f = said none e in
       record {
@@ -290,10 +291,10 @@ module _ (R : Rules) (a b : Knowledge) (l : Lawful R b) (i : ℕ) (level : ℕ �
   unfolding upTo
   up-above p q h = rw (le-ltb q p h, upTo)
 
-  pub least-some : (p : ℕ) → leastOf level (idIn b) none (vectorAt b i) ≡ some p → LeastLacking a b i p
+  pub least-some : (p : ℕ) → leastOf level id none (vectorAt b i) ≡ some p → LeastLacking a b i p
   least-some p e = go (said (some p) e)
     where
-      go : Says level (idIn b) none (vectorAt b i) (some p) → LeastLacking a b i p
+      go : Says level id none (vectorAt b i) (some p) → LeastLacking a b i p
       go f =
           let each : (x : Element) → In x (vectorAt b i) → x .tick ≤ upTo p (idIn b (x .key .0)) =
           λ x m.
@@ -301,7 +302,7 @@ module _ (R : Rules) (a b : Knowledge) (l : Lawful R b) (i : ℕ) (level : ℕ �
             | less h ↦
                 elim (order (level (x .key .0)) (x .tick)) [
                   | less k ↦
-                      absurd (omega (arith, in-all (λ x. level (x .key .0) < x .tick → p ≤ idIn b (x .key .0)) (vectorAt b i) (f .1 .1) x m k))
+                      absurd (omega (arith, in-all (λ x. level (x .key .0) < x .tick → p ≤ id (x .key .0)) (vectorAt b i) (f .1 .1) x m k, own (x .key .0) (key-small R b l i x m)))
                   | same k ↦ omega (arith, up-below p (idIn b (x .key .0)) h, is (x .key .0) (key-small R b l i x m))
                   | more k ↦ omega (arith, up-below p (idIn b (x .key .0)) h, is (x .key .0) (key-small R b l i x m))
                 ]
@@ -311,14 +312,14 @@ module _ (R : Rules) (a b : Knowledge) (l : Lawful R b) (i : ℕ) (level : ℕ �
           let all = known-at-most R b l (upTo p) i .1 (each-in (λ x. x .tick ≤ upTo p (idIn b (x .key .0))) (vectorAt b i) each) in
           record {
             lacks = ⊎-elim (λ (n : none ≡ some p). some-none p (sym n))
-                (λ (w : (x : Element) × (In x (vectorAt b i) × ((level (x .key .0) < x .tick) × (idIn b (x .key .0) ≡ p)))).
+                (λ (w : (x : Element) × (In x (vectorAt b i) × ((level (x .key .0) < x .tick) × (id (x .key .0) ≡ p)))).
                 omega (
                   arith,
                   w .1 .1 .0,
                   is (w .0 .key .0) (key-small R b l i (w .0) (w .1 .0)),
                   element-known R b l i (w .0) (w .1 .0),
-                  ap (known a i) (w .1 .1 .1),
-                  ap (known b i) (w .1 .1 .1),
+                  ap (known a i) (sym (own (w .0 .key .0) (key-small R b l i (w .0) (w .1 .0))) ∙ w .1 .1 .1),
+                  ap (known b i) (sym (own (w .0 .key .0) (key-small R b l i (w .0) (w .1 .0))) ∙ w .1 .1 .1),
                 ))
                 (f .0);
             least = λ q h. omega (arith, all q, up-below p q h);
