@@ -111,6 +111,20 @@ uint32_t sync_contain(const uint8_t *knowledge, size_t knowledge_n, const uint8_
 uint32_t sync_lead(const uint8_t *first, size_t first_n, const uint8_t *second, size_t second_n, const uint8_t *item,
                    size_t item_n, const uint8_t *replica, size_t replica_n, int64_t *lead);
 
+/*
+ * Says whether one knowledge knows at least as much as another throughout a span of item ids: for every item from the
+ * first id to the last, both included, and every replica, the first knowledge's tick is at least the second's. An item
+ * id has 24 bytes.
+ *
+ * Returns 0 and sets *covers to 1 if it does and to 0 if it does not.
+ *
+ * Else returns the number of the refusal, 1 to 10 for the first knowledge, then 1 to 10 for the second, then 17 for the
+ * ids, also where the first id is above the last, and leaves *covers as it was.
+ */
+uint32_t sync_cover(const uint8_t *first_knowledge, size_t first_knowledge_n, const uint8_t *second_knowledge,
+                    size_t second_knowledge_n, const uint8_t *first, size_t first_n, const uint8_t *last, size_t last_n,
+                    uint32_t *covers);
+
 #ifdef __cplusplus
 }
 #endif

@@ -1,12 +1,14 @@
 // The C interface: each function is thin, and its contract says what every byte behind every pointer is afterwards.
 use layout::Checked;
 use ticks::Contain;
+use ticks::Cover;
 use ticks::Lead;
 ghost use mathlib.Core.Path.{_≡_};
 ghost use Rattle.layout.specs.Knowledge.{basic};
 ghost use Rattle.layout.specs.Parse.{checkedBy};
 ghost use Rattle.layout.specs.Answer.{checkedNumber, checkedSizes};
 ghost use Rattle.ticks.specs.Calls.{containNumber, containValue, containAnswer, leadNumber, leadValue, leadAnswer};
+ghost use Rattle.ticks.specs.Calls.{coverNumber, coverValue, coverAnswer};
 
 // Checks a knowledge: its sizes r, v, e and g, or the refusal's number, and then no size changes.
 #[no_mangle]
@@ -77,5 +79,34 @@ pub extern "C" fn sync_lead(
             0
         }
         Lead::Refused(n) => n,
+    }
+}
+
+// Does the first knowledge know at least as much as the second from the first id to the last: 1 or 0; or the refusal's
+// number, and then nothing changes.
+#[no_mangle]
+pub extern "C" fn sync_cover(
+    knowledge: &[u8],
+    other: &[u8],
+    first: &[u8],
+    last: &[u8],
+    covers: &mut u32,
+) -> u32
+    ensures number { λ r. ⌜ r ≡ coverNumber
+        (coverAnswer basic (now (knowledge .entry)) (now (other .entry)) (now (first .entry)) (now (last .entry))) ⌝ }
+    ensures value { λ r. ⌜ now (covers .exit) ≡ coverValue
+        (coverAnswer basic (now (knowledge .entry)) (now (other .entry)) (now (first .entry)) (now (last .entry)))
+        (now (covers .entry)) ⌝ }
+{
+    match rows::cover(knowledge, other, first, last) {
+        Cover::Covers => {
+            *covers = 1;
+            0
+        }
+        Cover::Lacks => {
+            *covers = 0;
+            0
+        }
+        Cover::Refused(n) => n,
     }
 }

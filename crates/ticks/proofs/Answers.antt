@@ -233,14 +233,14 @@ at-least R a b first last l = (
 )
 
 module _ (R : Rules) (s t first last : List ℕ) where
-  cover-here : Knowledge → Knowledge → Cover
+  unfoldable pub cover-here : Knowledge → Knowledge → Cover
   cover-here a b = coverFound (covers a b (beAt first 24 0) (beAt last 24 0))
 
-  cover-is : coverAnswer R s t first last ≡ two E.Refused (wrongSpan first last) cover-here (parse R s) (parse R t)
+  pub cover-is : coverAnswer R s t first last ≡ two E.Refused (wrongSpan first last) cover-here (parse R s) (parse R t)
   unfolding coverAnswer two cover-here idOf
   cover-is = refl
 
-  cover-later : (a : Knowledge) → parse R s ≡ accepted a
+  pub cover-later : (a : Knowledge) → parse R s ≡ accepted a
       → coverAnswer R s t first last ≡ one E.Refused (wrongSpan first last) (cover-here a) (parse R t)
   cover-later a e = cover-is ∙ two-later E.Refused (wrongSpan first last) cover-here (parse R s) (parse R t) a e
 

@@ -45,10 +45,10 @@ pub record Refusing (R : Rules) (s : List ℕ) (n : ℕ) : Type 0 where
   pub permitted : Permitted (R .limits)
   pub refuses : checkedBy R s ≡ Refused n
 
-refusing : (R : Rules) (s : List ℕ) (n : ℕ) → Refusing R s n → parse R s ≡ refused n
+pub refusing : (R : Rules) (s : List ℕ) (n : ℕ) → Refusing R s n → parse R s ≡ refused n
 refusing R s n h = refused-exact R (h .permitted) s n .0 (h .refuses)
 
-reading : (R : Rules) (s : List ℕ) (r v e g : ℕ) → Reading R s r v e g → parse R s ≡ accepted (decode s)
+pub reading : (R : Rules) (s : List ℕ) (r v e g : ℕ) → Reading R s r v e g → parse R s ≡ accepted (decode s)
 reading R s r v e g h = let p = places R s r v e g h in p .read ∙ ap accepted (sym (p .value))
 
 module _ (R : Rules) (s item replica : List ℕ) (t : ℕ) where
@@ -117,11 +117,11 @@ found-later k i p t h =
 
 -- Lists
 
-each-in : {A : Type 0} (P : A → Type 0) (xs : List A) → ((x : A) → In x xs → P x) → All P xs
+pub each-in : {A : Type 0} (P : A → Type 0) (xs : List A) → ((x : A) → In x xs → P x) → All P xs
 each-in P [] f = tt
 each-in P (x ∷ xs) f = (f x (inl refl), each-in P xs (λ y m. f y (inr m)))
 
-in-all : {A : Type 0} (P : A → Type 0) (xs : List A) → All P xs → (x : A) → In x xs → P x
+pub in-all : {A : Type 0} (P : A → Type 0) (xs : List A) → All P xs → (x : A) → In x xs → P x
 in-all P [] a x m = absurd m
 in-all P (y ∷ ys) a x (inl e) = subst P (sym e) (a .0)
 in-all P (y ∷ ys) a x (inr m) = in-all P ys (a .1) x m
@@ -182,15 +182,15 @@ unfolding vectorAt
 vector-all P k i a e = found-all P (k .vectors) (indexFrom none (k .ranges) i) a e
 
 module _ (R : Rules) (k : Knowledge) (l : Lawful R k) where
-  keys-below : (i : ℕ) → All (λ x. x .key .0 < length (k .replicas)) (vectorAt k i)
+  pub keys-below : (i : ℕ) → All (λ x. x .key .0 < length (k .replicas)) (vectorAt k i)
   keys-below i = vector-all (All (λ x. x .key .0 < length (k .replicas))) k i (l .keysBelow) tt
 
-  keys-once : (i : ℕ) → Distinct (keys (vectorAt k i))
+  pub keys-once : (i : ℕ) → Distinct (keys (vectorAt k i))
   unfolding keys
   keys-once i = vector-all (λ es. Distinct (keys es)) k i (l .keysOnce) tt
 
   -- no element has the key of an id that is not in the map
-  known-place : (i p : ℕ) → known k i p ≡ tickAt (vectorAt k i) (place p (k .replicas))
+  pub known-place : (i p : ℕ) → known k i p ≡ tickAt (vectorAt k i) (place p (k .replicas))
   known-place i p =
       elim (among? p (k .replicas)) [
         | inl m ↦ known-in k i p m

@@ -54,7 +54,7 @@ known-at-bound k i p =
 -- The largest tick
 
 module _ (k : Knowledge) where
-  largest-at : (i p : ℕ) (ps : List ℕ) → Among p ps → known k i p ≤ largestAt k i ps
+  pub largest-at : (i p : ℕ) (ps : List ℕ) → Among p ps → known k i p ≤ largestAt k i ps
   unfolding largestAt
   largest-at i p [] m = absurd m
   largest-at i p (q ∷ ps) (inl e) = omega (arith, ap (known k i) e)

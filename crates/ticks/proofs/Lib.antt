@@ -28,3 +28,4 @@ pub mod Demand2
 pub mod Settled
 pub mod Results
 pub mod ForCode
+pub mod ForRows

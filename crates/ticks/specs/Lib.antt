@@ -8,3 +8,4 @@ pub mod Answers
 pub mod Demand2
 pub mod Results
 pub mod MethodLookup
+pub mod MethodRows

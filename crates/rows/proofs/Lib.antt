@@ -1,0 +1,6 @@
+-- The laws that the rows are proved by.
+pub mod Loops
+pub mod Cells
+pub mod Standing
+pub mod Walking
+pub mod Calls

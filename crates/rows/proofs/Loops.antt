@@ -1,0 +1,225 @@
+-- The loops that look for keys, vectors and ranges. The laws of each have the same form: the whole answer is the answer from here on, counting what is left;
+-- the loop ends where the answer is found or nothing is left, and else one thing less is left. Beside them, what the functions
+-- with no loop return.
+use Prim.Native.Nat.{ℕ, zero, suc, _+_, _-_, _*_, _^_, _≤_, _<_}
+use mathlib.Core.Path.{_≡_, refl, sym, ap, ap₂, _∙_}
+use mathlib.Core.Bool.{Bool, true, false}
+use mathlib.Core.List.{List}
+use native.Mathlib.Omega.{arith}
+use lib.Dec.{eqb, ltb}
+use lib.ListN.{length}
+use borrow.Author.Tests.{le-leb, lt-leb, eq-eqb, ne-eqb}
+use Rattle.codec.specs.Number.{Bytes, beAt}
+use Rattle.codec.specs.Words.{words2, words3}
+use Rattle.codec.proofs.Numbers.{be-below}
+use Rattle.codec.proofs.Order.{words2-be, words3-be}
+use Rattle.codec.proofs.Words.{same2-rest, same2-first, less2-rest, less2-first, less3-rest, less3-first}
+use Rattle.layout.specs.declared.ReplicaKey.{ReplicaKey}
+use Rattle.layout.specs.declared.VectorIndex.{VectorIndex}
+use Rattle.layout.specs.Decode.{idsAt, elementsAt}
+use Rattle.layout.specs.MethodPlaces.{idsPlace, vectorsPlace, countAt}
+use Rattle.ticks.specs.Meaning.{place, placeBy, tickAt}
+use Rattle.ticks.specs.MethodLookup.{keyOf}
+use Rattle.rows.specs.declared.Cursor.{Cursor}
+use Rattle.rows.specs.Method.{keyAt, stepped, vectorFrom, past, passed, settled, advanced, elementsThere, There}
+
+-- Words
+
+pub word-below : (s : List ℕ) (at : ℕ) → Bytes s → beAt s 8 at < 2 ^ 64
+word-below s at b = be-below s 8 at b
+
+-- an id of two words at a place, compared word by word
+module _ (s : List ℕ) (at p0 p1 w : ℕ) (is : w ≡ beAt s 8 at) where
+  id-words : (x : ℕ) → x ≡ words2 (beAt s 8 at) (beAt s 8 (at + 8)) → eqb x (words2 p0 p1) ≡ eqb (beAt s 16 at)
+      (words2 p0 p1)
+  id-words x e = ap (λ y. eqb y (words2 p0 p1)) (e ∙ sym (words2-be s at))
+
+  pub id-differs : Bytes s → p1 < 2 ^ 64 → (w ≡ p0 → ⊥) → false ≡ eqb (beAt s 16 at) (words2 p0 p1)
+  id-differs b k n =
+      same2-first (beAt s 8 at) (beAt s 8 (at + 8)) p0 p1 (word-below s (at + 8) b) k (λ e. n (is ∙ e)) ∙ id-words _ refl
+
+  pub id-rest : (x : ℕ) → x ≡ beAt s 8 (at + 8) → w ≡ p0 → eqb x p1 ≡ eqb (beAt s 16 at) (words2 p0 p1)
+  id-rest x f e = ap (λ y. eqb y p1) f ∙ same2-rest (beAt s 8 at) (beAt s 8 (at + 8)) p0 p1 (sym is ∙ e) ∙ id-words _ refl
+
+-- an item compared with the bound at a place, word by word
+module _ (s : List ℕ) (at i0 i1 i2 w : ℕ) (is : w ≡ beAt s 8 at) where
+  bound-words : (r : Bool) → r ≡ ltb (words3 i0 i1 i2) (words3 (beAt s 8 at) (beAt s 8 (at + 8)) (beAt s 8 (at + 16)))
+      → r ≡ ltb (words3 i0 i1 i2) (beAt s 24 at)
+  bound-words r e = e ∙ ap (ltb (words3 i0 i1 i2)) (sym (words3-be s at))
+
+  pub bound-first : Bytes s → i1 < 2 ^ 64 → i2 < 2 ^ 64 → (i0 ≡ w → ⊥) → ltb i0 w ≡ ltb (words3 i0 i1 i2) (beAt s 24 at)
+  bound-first b h k n =
+      bound-words (ltb i0 w)
+      (ap (ltb i0) is
+      ∙ less3-first i0 i1 i2 (beAt s 8 at) (beAt s 8 (at + 8)) (beAt s 8 (at + 16)) h k (word-below s (at + 8) b)
+      (word-below s (at + 16) b) (λ e. n (e ∙ sym is)))
+
+  pub bound-second : (x : ℕ) → x ≡ beAt s 8 (at + 8) → Bytes s → i2 < 2 ^ 64 → i0 ≡ w → (i1 ≡ x → ⊥)
+      → ltb i1 x ≡ ltb (words3 i0 i1 i2) (beAt s 24 at)
+  bound-second x f b h e n =
+      bound-words (ltb i1 x)
+      (less3-rest i0 i1 i2 (beAt s 8 at) (beAt s 8 (at + 8)) (beAt s 8 (at + 16)) (ltb i1 x) (e ∙ is)
+      (ap (ltb i1) f ∙ less2-first i1 i2 (beAt s 8 (at + 8)) (beAt s 8 (at + 16)) h (word-below s (at + 16) b)
+      (λ d. n (d ∙ sym f))))
+
+  pub bound-third : (x y : ℕ) → x ≡ beAt s 8 (at + 8) → y ≡ beAt s 8 (at + 16) → i0 ≡ w → i1 ≡ x
+      → ltb i2 y ≡ ltb (words3 i0 i1 i2) (beAt s 24 at)
+  bound-third x y f g e d =
+      bound-words (ltb i2 y)
+      (less3-rest i0 i1 i2 (beAt s 8 at) (beAt s 8 (at + 8)) (beAt s 8 (at + 16)) (ltb i2 y) (e ∙ is)
+      (ap (ltb i2) g ∙ less2-rest i1 i2 (beAt s 8 (at + 8)) (beAt s 8 (at + 16)) (d ∙ f)))
+
+-- The key of an id
+
+ids-step : (s : List ℕ) (n at p : ℕ) → 0 < n
+    → place p (idsAt s n at) ≡ elim (eqb (beAt s 16 at) p) [
+      | true ↦ 0
+      | false ↦ suc (place p (idsAt s (n - 1) (at + 16)))
+    ]
+unfolding placeBy idsAt
+ids-step s zero at p h = absurd (omega arith)
+ids-step s (suc n) at p h =
+    let e : n ≡ suc n - 1 = omega arith in
+    ap (λ m. elim (eqb (beAt s 16 at) p) [ true ↦ 0 | false ↦ suc (place p (idsAt s m (at + 16))) ]) e
+
+pub ids-all : (s : List ℕ) (r at p : ℕ) → place p (idsAt s r at) ≡ 0 + place p (idsAt s (r - 0) at)
+ids-all s r at p = let e : r - 0 ≡ r = omega arith in rw e (omega arith)
+
+module _ (s : List ℕ) (whole r k at p : ℕ) (inv : whole ≡ k + place p (idsAt s (r - k) at)) where
+  pub ids-found : (b : Bool) → b ≡ eqb (beAt s 16 at) p → k < r → b ≡ true → k ≡ whole
+  ids-found b e h f =
+      let x : eqb (beAt s 16 at) p ≡ true = sym e ∙ f in
+      let y = rw x at (ids-step s (r - k) at p (omega arith)) in
+      omega arith
+
+  pub ids-next : (b : Bool) → b ≡ eqb (beAt s 16 at) p → k < r → b ≡ false → whole ≡ (k + 1) + place p
+      (idsAt s (r - (k + 1)) (at + 16))
+  ids-next b e h f =
+      let x : eqb (beAt s 16 at) p ≡ false = sym e ∙ f in
+      let z : r - k - 1 ≡ r - (k + 1) = omega arith in
+      let y = rw (x, z) at (ids-step s (r - k) at p (omega arith)) in
+      omega arith
+
+  pub ids-none : r ≤ k → k ≡ whole
+  unfolding placeBy idsAt
+  ids-none h =
+      let z : r - k ≡ 0 = omega arith in
+      let y = rw z at inv in
+      omega arith
+
+module _ (s : List ℕ) (r p : ℕ) where
+  pub key-short : length s < idsPlace + 16 * r → record { 0 = r } ≡ keyAt s r p
+  unfolding keyAt
+  key-short h = sym (rw (lt-leb (idsPlace + 16 * r) (length s) h, keyAt))
+
+  pub key-there : (k : ReplicaKey) → idsPlace + 16 * r ≤ length s → k .0 ≡ place p (idsAt s r idsPlace) → k ≡ keyAt s r p
+  unfolding keyAt keyOf
+  key-there k h e = sym (rw (le-leb (idsPlace + 16 * r) (length s) h, keyAt, ← e) refl)
+
+-- The place of a vector
+
+pub stepped-zero : (s : List ℕ) (at : ℕ) → stepped s 0 at ≡ at
+unfolding stepped
+stepped-zero s at = refl
+
+pub stepped-on : (s : List ℕ) (n at : ℕ) → at + 8 ≤ length s → stepped s (suc n) at ≡ stepped s n
+    (at + 8 + 12 * countAt s at)
+unfolding stepped
+stepped-on s n at h = rw (le-leb (at + 8) (length s) h, stepped)
+
+pub stepped-stop : (s : List ℕ) (n at : ℕ) → length s < at + 8 → stepped s n at ≡ at
+unfolding stepped
+stepped-stop s zero at h = refl
+stepped-stop s (suc n) at h = rw (lt-leb (at + 8) (length s) h, stepped)
+
+pub stepped-all : (s : List ℕ) (n at : ℕ) → stepped s n at ≡ stepped s (n - 0) at
+stepped-all s n at = let e : n ≡ n - 0 = omega arith in ap (λ m. stepped s m at) e
+
+module _ (s : List ℕ) (whole n i at : ℕ) (inv : whole ≡ stepped s (n - i) at) where
+  pub step-stop : length s < at + 8 → at ≡ whole
+  step-stop h = sym (inv ∙ stepped-stop s (n - i) at h)
+
+  pub step-on : (k : ℕ) → k ≡ countAt s at → i < n → at + 8 ≤ length s → whole ≡ stepped s (n - (i + 1)) (at + 8 + 12 * k)
+  step-on k e l h =
+      let z : n - i ≡ suc (n - (i + 1)) = omega arith in
+      inv ∙ ap (λ m. stepped s m at) z ∙ stepped-on s (n - (i + 1)) at h ∙ ap
+      (λ m. stepped s (n - (i + 1)) (at + 8 + 12 * m)) (sym e)
+
+  pub step-end : n ≤ i → at ≡ whole
+  step-end h =
+      let z : n - i ≡ 0 = omega arith in
+      sym (inv ∙ ap (λ m. stepped s m at) z ∙ stepped-zero s at)
+
+module _ (s : List ℕ) (r : ℕ) (from : VectorIndex) (at : ℕ) (to : VectorIndex) where
+  pub from-here : (p : ℕ) → from .0 ≤ to .0 → p ≡ stepped s (to .0 - from .0) at → p ≡ vectorFrom s r from at to
+  unfolding vectorFrom
+  from-here p h e = e ∙ sym (rw (le-leb (from .0) (to .0) h, vectorFrom))
+
+  pub from-first : (p : ℕ) → to .0 < from .0 → p ≡ stepped s (to .0) (vectorsPlace r) → p ≡ vectorFrom s r from at to
+  unfolding vectorFrom
+  from-first p h e = e ∙ sym (rw (lt-leb (from .0) (to .0) h, vectorFrom))
+
+-- The range of an item
+
+abbrev pub cursor : ℕ → ℕ → VectorIndex → ℕ → Cursor
+cursor left next index vector = record { left = left; next = next; index = index; vector = vector }
+
+module _ (s : List ℕ) (i : ℕ) (whole : Cursor) (left next : ℕ) (index : VectorIndex) (vector : ℕ)
+    (inv : whole ≡ passed s i left (cursor left next index vector)) where
+  pub pass-stop : (b : Bool) → b ≡ ltb i (beAt s 24 next) → b ≡ true → cursor left next index vector ≡ whole
+  unfolding passed
+  pass-stop b e f = sym (inv ∙ stops left)
+    where
+      stops : (n : ℕ) → passed s i n (cursor left next index vector) ≡ cursor left next index vector
+      stops zero = refl
+      stops (suc n) = rw (sym e ∙ f, passed)
+
+  pub pass-on : (b : Bool) (k : ℕ) → b ≡ ltb i (beAt s 24 next) → k ≡ beAt s 4 (next + 24) → 0 < left → b ≡ false
+      → whole ≡ passed s i (left - 1) (cursor (left - 1) (next + 28) (record { 0 = k }) vector)
+  unfolding passed past
+  pass-on b k e g h f =
+      let z : left ≡ suc (left - 1) = omega arith in
+      inv ∙ ap (λ n. passed s i n (cursor left next index vector)) z ∙ rw (sym e ∙ f, passed, g) refl
+
+  pub pass-end : left ≤ 0 → cursor left next index vector ≡ whole
+  unfolding passed
+  pass-end h =
+      let z : left ≡ 0 = omega arith in
+      sym (inv ∙ ap (λ n. passed s i n (cursor left next index vector)) z)
+
+module _ (s : List ℕ) (r : ℕ) (c : Cursor) (i : ℕ) where
+  pub advance-not : length s < c .next + 28 * c .left → c ≡ advanced s r c i
+  unfolding advanced
+  advance-not h = sym (rw (lt-leb (c .next + 28 * c .left) (length s) h, advanced))
+
+  pub advance-is : (d : Cursor) (p : ℕ) → c .next + 28 * c .left ≤ length s → d ≡ passed s i (c .left) c
+      → p ≡ vectorFrom s r (c .index) (c .vector) (d .index) → cursor (d .left) (d .next) (d .index) p ≡ advanced s r c i
+  unfolding advanced settled
+  advance-is d p h e f =
+      sym (rw (le-leb (c .next + 28 * c .left) (length s) h, advanced, ← e, ← f) refl)
+
+-- The tick of a key
+
+module _ (s : List ℕ) (at : ℕ) where
+  pub there-none : length s < at + 8 → There s at 0
+  unfolding elementsThere
+  there-none h = record { is = sym (rw (lt-leb (at + 8) (length s) h, elementsThere)); room = λ l. absurd (omega arith) }
+
+  pub there-short : (n : ℕ) → n ≡ countAt s at → at + 8 ≤ length s → length s < at + 8 + 12 * n → There s at 0
+  unfolding elementsThere
+  there-short n e h l =
+      let m : length s < at + 8 + 12 * countAt s at = omega arith in
+      record {
+        is = sym (rw (le-leb (at + 8) (length s) h, elementsThere, lt-leb (at + 8 + 12 * countAt s at) (length s) m));
+        room = λ l. absurd (omega arith);
+      }
+
+  pub there-all : (n : ℕ) → n ≡ countAt s at → at + 8 + 12 * n ≤ length s → There s at n
+  unfolding elementsThere
+  there-all n e l =
+      let h : at + 8 ≤ length s = omega arith in
+      let m : at + 8 + 12 * countAt s at ≤ length s = omega arith in
+      record {
+        is = e ∙ sym (rw (le-leb (at + 8) (length s) h, elementsThere, le-leb (at + 8 + 12 * countAt s at) (length s) m));
+        room = λ k. l;
+      }

@@ -1,0 +1,84 @@
+-- `rows::key_of` meets its contract. The loop's invariant: the place of the id among all ids is the key and the place
+-- among those that are left.
+use Prim.Native.Nat.{_+_, _-_, _*_, _≤_}
+use mathlib.Core.Path.{_≡_}
+use native.Mathlib.Omega.{arith}
+use lib.ListN.{length}
+use Rattle.codec.specs.Words.{words2}
+use Rattle.layout.specs.Decode.{idsAt}
+use Rattle.layout.specs.MethodPlaces.{idsPlace}
+use Rattle.ticks.specs.Meaning.{place}
+use Rattle.rows.proofs.Loops.{ids-all, ids-found, ids-next, ids-none, key-short, key-there}
+use Rattle.rows.proofs.key_of.Statement.{statement}
+use Rattle.rows.proofs.key_of.Tie as tie
+
+abbrev Inv-loop : tie.InvT-loop
+Inv-loop s r p0 p1 key₀ at₀ key at =
+    (place (words2 p0 p1) (idsAt s r idsPlace) ≡ key .0 + place (words2 p0 p1) (idsAt s (r - key .0) at)) × (key .0 ≤ r)
+    × (at ≡ idsPlace + 16 * key .0) × (idsPlace + 16 * r ≤ length s)
+
+abbrev μ-loop : tie.MeasureT-loop
+μ-loop s r p0 p1 key₀ at₀ key at = r - key .0
+
+mul-if1 : tie.Need-mul-if1 Inv-loop μ-loop
+mul-if1 c = omega arith
+
+add-if1 : tie.Need-add-if1 Inv-loop μ-loop
+add-if1 c = omega arith
+
+returns : tie.Need-returns Inv-loop μ-loop
+returns c = key-short _ _ _ (omega arith)
+
+loop-holds : tie.Need-loop-holds Inv-loop μ-loop
+loop-holds c = (ids-all _ _ _ _, omega arith, omega arith, omega arith)
+
+id-at-requires : tie.Need-id-at-requires Inv-loop μ-loop
+id-at-requires c κs = omega arith
+
+returns-2 : tie.Need-returns-2 Inv-loop μ-loop
+returns-2 c =
+    let l = c .before .before .before .before .loop in
+    key-there _ _ _ (l .key) (omega arith) (ids-found _ _ _ _ _ _ (l .inv .0) _ (c .before .id-at .ensures)
+    (c .before .before .if2 .taken) (c .if3 .taken))
+
+add-at : tie.Need-add-at Inv-loop μ-loop
+add-at c = omega arith
+
+add-n : tie.Need-add-n Inv-loop μ-loop
+add-n c = omega arith
+
+loop-less : tie.Need-loop-less Inv-loop μ-loop
+loop-less c = omega arith
+
+loop-again : tie.Need-loop-again Inv-loop μ-loop
+loop-again c =
+    let l = c .before .before .before .before .before .loop in (
+      ids-next _ _ _ _ _ _ (l .inv .0) _ (c .before .before .id-at .ensures) (c .before .before .before .if2 .taken)
+          (c .before .if3 .left),
+      omega arith,
+      omega arith,
+      omega arith,
+    )
+
+returns-3 : tie.Need-returns-3 Inv-loop μ-loop
+returns-3 c =
+    let l = c .before .before .loop in
+    key-there _ _ _ (l .key) (omega arith) (ids-none _ _ _ _ _ _ (l .inv .0) (c .if2 .left))
+
+pub key-of-spec : {M : Type 1} → statement M
+key-of-spec =
+    tie.close
+    (tie.spec
+    Inv-loop
+    μ-loop
+    mul-if1
+    add-if1
+    returns
+    loop-holds
+    id-at-requires
+    returns-2
+    add-at
+    add-n
+    loop-less
+    loop-again
+    returns-3)

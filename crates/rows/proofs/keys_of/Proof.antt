@@ -1,0 +1,80 @@
+-- `rows::keys_of` meets its contract. The loop's invariant: the keys of the ids up to here.
+use Prim.Native.Nat.{_+_, _-_, _*_, _≤_}
+use mathlib.Core.Path.{_≡_, refl}
+use lib.ListN.{length, length-set}
+use Rattle.layout.specs.MethodPlaces.{idsPlace}
+use Rattle.rows.specs.Method.{Keyed}
+use Rattle.rows.proofs.Cells.{keyed-none, keyed-more}
+use native.Mathlib.Omega.{arith}
+use Rattle.rows.proofs.keys_of.Statement.{statement}
+use Rattle.rows.proofs.keys_of.Tie as tie
+
+abbrev Inv-loop : tie.InvT-loop
+Inv-loop s r t m keys₀ k₀ at₀ keys k at =
+    Keyed s r t k keys × (at ≡ idsPlace + 16 * k) × (k ≤ m) × (length keys ≡ length keys₀) × (idsPlace + 16 * m ≤ length t) × (m ≤ length keys₀)
+
+abbrev μ-loop : tie.MeasureT-loop
+μ-loop s r t m keys₀ k₀ at₀ keys k at = m - k
+
+loop-holds : tie.Need-loop-holds Inv-loop μ-loop
+loop-holds c = (keyed-none _ _ _ _, omega arith, omega arith, refl, omega arith, omega arith)
+
+eight-requires : tie.Need-eight-requires Inv-loop μ-loop
+eight-requires c κs = omega arith
+
+add-eight : tie.Need-add-eight Inv-loop μ-loop
+add-eight c = omega arith
+
+eight-requires-2 : tie.Need-eight-requires-2 Inv-loop μ-loop
+eight-requires-2 c κs = omega arith
+
+key-of-requires : tie.Need-key-of-requires Inv-loop μ-loop
+key-of-requires c κs = tt
+
+cast-keys : tie.Need-cast-keys Inv-loop μ-loop
+cast-keys c = omega arith
+
+mul-keys : tie.Need-mul-keys Inv-loop μ-loop
+mul-keys c = omega arith
+
+slice-write-keys : tie.Need-slice-write-keys Inv-loop μ-loop
+slice-write-keys c = omega arith
+
+add-at : tie.Need-add-at Inv-loop μ-loop
+add-at c = omega arith
+
+add-k : tie.Need-add-k Inv-loop μ-loop
+add-k c = omega arith
+
+loop-less : tie.Need-loop-less Inv-loop μ-loop
+loop-less c = omega arith
+
+loop-again : tie.Need-loop-again Inv-loop μ-loop
+loop-again c = (keyed-more _ _ _ _ _ _ _ _ _ (c .before .before .before .before .loop .inv .0) (omega arith) (c .before .before .before .before .loop .inv .1) (c .before .before .eight .ensures .0) (c .before .eight2 .ensures .0) (c .key-of .ensures), omega arith, omega arith, simp length-set (omega arith), omega arith, omega arith)
+
+same-length : tie.Need-same-length Inv-loop μ-loop
+same-length c = omega arith
+
+returns : tie.Need-returns Inv-loop μ-loop
+returns c = let e : c .before .loop .k ≡ c .before .before .before .before .before .args .m = omega arith in rw (← e) (c .before .loop .inv .0)
+
+pub keys-of-spec : {M : Type 1} → statement M
+keys-of-spec =
+    tie.close
+    (tie.spec
+    Inv-loop
+    μ-loop
+    loop-holds
+    eight-requires
+    add-eight
+    eight-requires-2
+    key-of-requires
+    cast-keys
+    mul-keys
+    slice-write-keys
+    add-at
+    add-k
+    loop-less
+    loop-again
+    same-length
+    returns)

@@ -1,0 +1,66 @@
+-- `rows::least_lacking` meets its contract. The loop's invariant: the whole answer is the answer from the least id so far and the elements that are left.
+use Prim.Native.Nat.{_+_, _-_, _*_, _≤_}
+use mathlib.Core.Path.{_≡_}
+use mathlib.Core.Option.{none}
+use lib.ListN.{length}
+use Rattle.layout.specs.Decode.{elementsAt}
+use Rattle.ticks.specs.MethodRows.{leastOf}
+use Rattle.rows.specs.Method.{elementsHere, idFrom, levelOf, leastId}
+use Rattle.rows.proofs.Cells.{least-nothing, least-begins, least-next, least-end}
+use native.Mathlib.Omega.{arith}
+use Rattle.rows.proofs.least_lacking.Statement.{statement}
+use Rattle.rows.proofs.least_lacking.Tie as tie
+
+abbrev Inv-loop : tie.InvT-loop
+Inv-loop t vector keys row best₀ n i₀ at₀ best i at =
+    (leastOf (levelOf keys row) (idFrom t) none (elementsHere t vector) ≡ leastOf (levelOf keys row) (idFrom t) (leastId best) (elementsAt t (n - i) at)) × (i ≤ n) × (at + 12 * (n - i) ≤ length t)
+
+abbrev μ-loop : tie.MeasureT-loop
+μ-loop t vector keys row best₀ n i₀ at₀ best i at = n - i
+
+elements-at-requires : tie.Need-elements-at-requires Inv-loop μ-loop
+elements-at-requires c κs = tt
+
+returns : tie.Need-returns Inv-loop μ-loop
+returns c = least-nothing _ _ _ _ _ (c .before .elements-at .ensures) (c .if1 .taken)
+
+add-at : tie.Need-add-at Inv-loop μ-loop
+add-at c = omega (arith, c .before .elements-at .ensures .room (omega arith))
+
+loop-holds : tie.Need-loop-holds Inv-loop μ-loop
+loop-holds c = (least-begins _ _ _ _ _ (c .before .elements-at .ensures), omega arith, omega (arith, c .before .elements-at .ensures .room (omega arith)))
+
+weighed-requires : tie.Need-weighed-requires Inv-loop μ-loop
+weighed-requires c κs = omega arith
+
+add-at-2 : tie.Need-add-at-2 Inv-loop μ-loop
+add-at-2 c = omega arith
+
+add-i : tie.Need-add-i Inv-loop μ-loop
+add-i c = omega arith
+
+loop-less : tie.Need-loop-less Inv-loop μ-loop
+loop-less c = omega arith
+
+loop-again : tie.Need-loop-again Inv-loop μ-loop
+loop-again c = (least-next _ _ _ _ _ _ _ _ (c .before .before .loop .inv .0) _ (c .weighed .ensures) (c .before .loop-test .taken), omega arith, omega arith)
+
+returns-2 : tie.Need-returns-2 Inv-loop μ-loop
+returns-2 c = least-end _ _ _ _ _ _ _ _ (c .before .loop .inv .0) (omega arith)
+
+pub least-lacking-spec : {M : Type 1} → statement M
+least-lacking-spec =
+    tie.close
+    (tie.spec
+    Inv-loop
+    μ-loop
+    elements-at-requires
+    returns
+    add-at
+    loop-holds
+    weighed-requires
+    add-at-2
+    add-i
+    loop-less
+    loop-again
+    returns-2)

@@ -1,0 +1,107 @@
+-- `rows::walk` meets its contract. The loop's invariant: the first lacking place of the span is the one from the item on to which both cursors have come, and the row is the first one's there.
+use Prim.Native.Nat.{_+_}
+use mathlib.Core.Path.{_≡_, refl}
+use lib.ListN.{length}
+use Rattle.codec.specs.Words.{words3}
+use Rattle.rows.proofs.Walking.{Walks, walk-starts, walk-here, walk-past, walk-on, walk-less}
+use native.Mathlib.Omega.{arith}
+use Rattle.rows.proofs.walk.Statement.{statement}
+use Rattle.rows.proofs.walk.Tie as tie
+
+abbrev Inv-loop : tie.InvT-loop
+Inv-loop s r t m f0 f1 f2 l0 l1 l2 keys row₀ x₀ y₀ i0₀ i1₀ i2₀ row x y i0 i1 i2 =
+    Walks s r t m (words3 f0 f1 f2) (words3 l0 l1 l2) keys row x y (words3 i0 i1 i2) × (length row ≡ length row₀)
+
+abbrev μ-loop : tie.MeasureT-loop
+μ-loop s r t m f0 f1 f2 l0 l1 l2 keys row₀ x₀ y₀ i0₀ i1₀ i2₀ row x y i0 i1 i2 = x .left + y .left
+
+advance-requires : tie.Need-advance-requires Inv-loop μ-loop
+advance-requires c κs = tt
+
+advance-requires-2 : tie.Need-advance-requires-2 Inv-loop μ-loop
+advance-requires-2 c κs = tt
+
+fill-requires : tie.Need-fill-requires Inv-loop μ-loop
+fill-requires c κs = tt
+
+loop-holds : tie.Need-loop-holds Inv-loop μ-loop
+loop-holds c = (walk-starts _ _ _ _ _ _ _ _ _ _ _ _ _ (record { below = λ i. omega (arith, c .before .before .before .before .before .before .before .before .before .shared-slice-known .given i) }) (record { below = λ i. omega (arith, c .before .before .before .before .before .before .before .before .shared-slice-known2 .given i) }) (c .before .before .before .before .before .before .before .before .before .before .pre .0) (c .before .before .before .before .before .before .before .before .before .before .pre .1) (c .before .before .before .before .before .before .before .before .before .before .pre .2) (c .before .before .before .before .before .before .before .before .before .before .pre .3) (c .before .before .before .before .before .before .before .before .before .before .pre .4) (c .before .before .before .before .before .before .before .before .before .before .pre .5) (c .before .before .before .before .before .advance .ensures) (c .before .before .before .before .advance2 .ensures) (c .before .before .fill .ensures), refl)
+
+least-lacking-requires : tie.Need-least-lacking-requires Inv-loop μ-loop
+least-lacking-requires c κs = tt
+
+enum-known-least : tie.Need-enum-known-least Inv-loop μ-loop
+enum-known-least c = omega arith
+
+same-length : tie.Need-same-length Inv-loop μ-loop
+same-length c = omega (arith, c .before .before .before .before .before .loop .inv .1, c .before .before .before .before .before .before .before .before .fill .ensures .size)
+
+returns : tie.Need-returns Inv-loop μ-loop
+returns c = walk-here _ _ _ _ _ _ _ _ _ _ _ (c .before .before .before .before .before .loop .inv .0) _ (c .before .before .before .least-lacking .ensures) _ _ _ _ _ refl (c .before .least .given .1)
+
+enum-told : tie.Need-enum-told Inv-loop μ-loop
+enum-told c = omega arith
+
+bound-of-requires : tie.Need-bound-of-requires Inv-loop μ-loop
+bound-of-requires c κs = c .before .before .before .before .loop .inv .0 .first .coming .room
+
+bound-of-requires-2 : tie.Need-bound-of-requires-2 Inv-loop μ-loop
+bound-of-requires-2 c κs = c .before .before .before .before .before .loop .inv .0 .second .coming .room
+
+nearer-requires : tie.Need-nearer-requires Inv-loop μ-loop
+nearer-requires c κs = tt
+
+enum-known-stop : tie.Need-enum-known-stop Inv-loop μ-loop
+enum-known-stop c = omega arith
+
+enum-told-2 : tie.Need-enum-told-2 Inv-loop μ-loop
+enum-told-2 c = omega arith
+
+same-length-2 : tie.Need-same-length-2 Inv-loop μ-loop
+same-length-2 c = omega (arith, c .before .before .before .before .before .before .before .before .before .loop .inv .1, c .before .before .before .before .before .before .before .before .before .before .before .before .fill .ensures .size)
+
+returns-2 : tie.Need-returns-2 Inv-loop μ-loop
+returns-2 c = walk-past _ _ _ _ _ _ _ _ _ _ _ (c .before .before .before .before .before .before .before .before .before .loop .inv .0) _ (c .before .before .before .before .before .before .before .least-lacking .ensures) (c .before .before .before .before .before .enum-told .given .1) _ _ _ (c .before .before .before .before .bound-of .ensures) (c .before .before .before .bound-of2 .ensures) (c .before .before .nearer .ensures) (c .enum-told2 .given .1)
+
+advance-requires-3 : tie.Need-advance-requires-3 Inv-loop μ-loop
+advance-requires-3 c κs = tt
+
+advance-requires-4 : tie.Need-advance-requires-4 Inv-loop μ-loop
+advance-requires-4 c κs = tt
+
+fill-requires-2 : tie.Need-fill-requires-2 Inv-loop μ-loop
+fill-requires-2 c κs = tt
+
+loop-less : tie.Need-loop-less Inv-loop μ-loop
+loop-less c = walk-less _ _ _ _ _ _ _ _ _ _ _ (c .before .before .before .before .before .before .before .before .before .before .before .before .before .before .before .before .loop .inv .0) _ (c .before .before .before .before .before .before .before .before .before .before .before .before .before .before .least-lacking .ensures) (c .before .before .before .before .before .before .before .before .before .before .before .before .enum-told .given .1) _ _ _ (c .before .before .before .before .before .before .before .before .before .before .before .bound-of .ensures) (c .before .before .before .before .before .before .before .before .before .before .bound-of2 .ensures) (c .before .before .before .before .before .before .before .before .before .nearer .ensures) _ _ _ (c .before .before .before .before .before .before .before .stop .given .1) _ _ (c .before .before .before .before .before .advance3 .ensures) (c .before .before .before .before .advance4 .ensures)
+
+loop-again : tie.Need-loop-again Inv-loop μ-loop
+loop-again c = (walk-on _ _ _ _ _ _ _ _ _ _ _ (c .before .before .before .before .before .before .before .before .before .before .before .before .before .before .before .before .loop .inv .0) _ (c .before .before .before .before .before .before .before .before .before .before .before .before .before .before .least-lacking .ensures) (c .before .before .before .before .before .before .before .before .before .before .before .before .enum-told .given .1) _ _ _ (c .before .before .before .before .before .before .before .before .before .before .before .bound-of .ensures) (c .before .before .before .before .before .before .before .before .before .before .bound-of2 .ensures) (c .before .before .before .before .before .before .before .before .before .nearer .ensures) _ _ _ (c .before .before .before .before .before .before .before .stop .given .1) _ _ (c .before .before .before .before .before .advance3 .ensures) (c .before .before .before .before .advance4 .ensures) _ (c .before .before .fill2 .ensures), omega (arith, c .before .before .before .before .before .before .before .before .before .before .before .before .before .before .before .before .loop .inv .1, c .before .before .fill2 .ensures .size))
+
+pub walk-spec : {M : Type 1} → statement M
+walk-spec =
+    tie.close
+    (tie.spec
+    Inv-loop
+    μ-loop
+    advance-requires
+    advance-requires-2
+    fill-requires
+    loop-holds
+    least-lacking-requires
+    enum-known-least
+    same-length
+    returns
+    enum-told
+    bound-of-requires
+    bound-of-requires-2
+    nearer-requires
+    enum-known-stop
+    enum-told-2
+    same-length-2
+    returns-2
+    advance-requires-3
+    advance-requires-4
+    fill-requires-2
+    loop-less
+    loop-again)

@@ -1,0 +1,539 @@
+// Rows of ticks in the bytes of a knowledge: cover, the largest tick, and whether a replica's tick is alike in all ranges.
+//
+// Every public function is total. An item id is three words and a replica id two, the highest first. The keys of two knowledges meet
+// through their ids only.
+use layout::Checked;
+use layout::ReplicaKey;
+use layout::VectorIndex;
+use ticks::Cover;
+ghost use mathlib.Core.Path.{_≡_};
+ghost use mathlib.Core.Option.{none};
+ghost use Prim.Native.Nat.{_+_, _*_, _^_, _≤_, _<_};
+ghost use lib.Dec.{eqb, ltb};
+ghost use lib.ListN.{length, getD};
+ghost use Rattle.codec.specs.Number.{beAt};
+ghost use Rattle.codec.specs.Words.{words2, words3};
+ghost use Rattle.layout.specs.Knowledge.{basic};
+ghost use Rattle.ticks.specs.MethodRows.{lesser, weigh, leastOf};
+ghost use Rattle.ticks.specs.Calls.{coverAnswer};
+ghost use Rattle.rows.specs.Method.{keyAt, stepped, vectorFrom, passed, advanced, There, elementAt, elementsHere};
+ghost use Rattle.rows.specs.Method.{idFrom, levelOf, leastId, Blank, Filled, Keyed, stopAt, boundOf, nearerOf, lackOf};
+ghost use Rattle.rows.specs.Method.{startAt, Starts, Zeros};
+ghost use Rattle.layout.specs.Permitted.{largestReplicas, mostCount};
+ghost use Rattle.layout.specs.MethodPlaces.{wholeLength};
+ghost use Rattle.layout.specs.Decode.{decode};
+ghost use Rattle.ticks.specs.Operations.{lacking};
+
+// the place of the replica ids
+const IDS: usize = 27;
+
+// a row has a cell for each key that a clock vector may have
+const CELLS: usize = layout::LARGEST_REPLICAS as usize;
+
+// A place among the ranges of a knowledge. It only moves forward.
+pub struct Cursor {
+    // how many ranges it has not passed, and the place of the first of them
+    pub left: u32,
+    pub next: usize,
+    // the clock vector of the range that it has passed last, 0 where none, and the vector's place
+    pub index: VectorIndex,
+    pub vector: usize,
+}
+
+// The least replica id that was met, as two words.
+pub enum Least {
+    Nothing,
+    Id(u64, u64),
+}
+
+// The next item at which a knowledge may change, as three words.
+pub enum Stop {
+    // none up to the end of the span
+    Past,
+    At(u64, u64, u64),
+}
+
+// The first place where the first knowledge knows less: the item's three words and the replica's two.
+pub enum Place {
+    Nowhere,
+    Here(u64, u64, u64, u64, u64),
+}
+
+// ---- numbers that are there
+
+fn one(s: &[u8], at: usize) -> u64
+    requires { ⌜ at < length (now s) ⌝ }
+    ensures { λ r. ⌜ (r ≡ getD (now (s .entry)) at 0) × (r < 256) ⌝ }
+{
+    s[at] as u64
+}
+
+fn four(s: &[u8], at: usize) -> u64
+    requires { ⌜ at + 4 ≤ length (now s) ⌝ }
+    ensures { λ r. ⌜ (r ≡ beAt (now (s .entry)) 4 at) × (r < 2 ^ 32) ⌝ }
+{
+    one(s, at) * 16777216 + one(s, at + 1) * 65536 + one(s, at + 2) * 256 + one(s, at + 3)
+}
+
+fn eight(s: &[u8], at: usize) -> u64
+    requires { ⌜ at + 8 ≤ length (now s) ⌝ }
+    ensures { λ r. ⌜ (r ≡ beAt (now (s .entry)) 8 at) × (r < 2 ^ 64) ⌝ }
+{
+    four(s, at) * 4294967296 + four(s, at + 4)
+}
+
+// ---- the key of an id
+
+fn id_at(s: &[u8], at: usize, p0: u64, p1: u64) -> bool
+    requires { ⌜ at + 16 ≤ length (now s) ⌝ }
+    ensures { λ r. ⌜ r ≡ eqb (beAt (now (s .entry)) 16 at) (words2 p0 p1) ⌝ }
+{
+    if eight(s, at) != p0 {
+        return false;
+    }
+    eight(s, at + 8) == p1
+}
+
+// The key of an id among r ids; r where it is not there.
+fn key_of(s: &[u8], r: u32, p0: u64, p1: u64) -> ReplicaKey
+    ensures { λ k. ⌜ k ≡ keyAt (now (s .entry)) r (words2 p0 p1) ⌝ }
+{
+    let mut key = ReplicaKey(0);
+    if s.len() < IDS + 16 * (r as usize) {
+        return ReplicaKey(r);
+    }
+    let mut at = IDS;
+    while key.0 < r {
+        if id_at(s, at, p0, p1) {
+            return key;
+        }
+        at += 16;
+        let n = key.0 + 1;
+        key = ReplicaKey(n);
+    }
+    key
+}
+
+// For each of the m ids of t, its key among the r ids of s.
+fn keys_of(s: &[u8], r: u32, t: &[u8], m: u32, keys: &mut [u32])
+    requires { ⌜ (27 + 16 * m ≤ length (now t)) × (m ≤ length (now keys)) ⌝ }
+    ensures { λ _. ⌜ Keyed (now (s .entry)) r (now (t .entry)) m (now (keys .exit)) ⌝ }
+{
+    let mut k: u32 = 0;
+    let mut at = IDS;
+    while k < m {
+        let key = key_of(s, r, eight(t, at), eight(t, at + 8));
+        keys[k as usize] = key.0;
+        at += 16;
+        k += 1;
+    }
+}
+
+// ---- the vector of an index
+
+// The place after n clock vectors from a place on.
+fn step_over(s: &[u8], n: u32, start: usize) -> usize
+    ensures { λ r. ⌜ r ≡ stepped (now (s .entry)) n start ⌝ }
+{
+    if s.len() < 8 {
+        return start;
+    }
+    let end = s.len() - 8;
+    let mut i: u32 = 0;
+    let mut at = start;
+    while i < n {
+        if end < at {
+            return at;
+        }
+        at = at + 8 + 12 * (four(s, at + 4) as usize);
+        i += 1;
+    }
+    at
+}
+
+// The place of a vector, from that of another one: onwards from there, or else from the first one on.
+fn vector_place(s: &[u8], r: u32, from: VectorIndex, at: usize, to: VectorIndex) -> usize
+    ensures { λ p. ⌜ p ≡ vectorFrom (now (s .entry)) r from at to ⌝ }
+{
+    if from.0 <= to.0 {
+        return step_over(s, to.0 - from.0, at);
+    }
+    step_over(s, to.0, 48 + 16 * (r as usize))
+}
+
+// ---- the range of an item
+
+// Is the item below the bound at a place.
+fn below(s: &[u8], at: usize, i0: u64, i1: u64, i2: u64) -> bool
+    requires { ⌜ at + 24 ≤ length (now s) ⌝ }
+    ensures { λ r. ⌜ r ≡ ltb (words3 i0 i1 i2) (beAt (now (s .entry)) 24 at) ⌝ }
+{
+    let b0 = eight(s, at);
+    if i0 != b0 {
+        return i0 < b0;
+    }
+    let b1 = eight(s, at + 8);
+    if i1 != b1 {
+        return i1 < b1;
+    }
+    i2 < eight(s, at + 16)
+}
+
+// The ranges whose bounds are at or below the item are passed. The vector's place is not looked for.
+fn pass(s: &[u8], c: Cursor, i0: u64, i1: u64, i2: u64) -> Cursor
+    requires { ⌜ c .next + 28 * c .left ≤ length (now s) ⌝ }
+    ensures { λ d. ⌜ d ≡ passed (now (s .entry)) (words3 i0 i1 i2) (c .left) c ⌝ }
+{
+    let mut left = c.left;
+    let mut next = c.next;
+    let mut index = c.index;
+    let vector = c.vector;
+    while 0 < left {
+        if below(s, next, i0, i1, i2) {
+            return Cursor {
+                left,
+                next,
+                index,
+                vector,
+            };
+        }
+        let n = four(s, next + 24) as u32;
+        index = VectorIndex(n);
+        next += 28;
+        left -= 1;
+    }
+    Cursor {
+        left,
+        next,
+        index,
+        vector,
+    }
+}
+
+// The cursor moved on to an item.
+fn advance(s: &[u8], r: u32, c: Cursor, i0: u64, i1: u64, i2: u64) -> Cursor
+    ensures { λ d. ⌜ d ≡ advanced (now (s .entry)) r c (words3 i0 i1 i2) ⌝ }
+{
+    if s.len() < c.next {
+        return c;
+    }
+    if s.len() - c.next < 28 * (c.left as usize) {
+        return c;
+    }
+    let d = pass(s, c, i0, i1, i2);
+    let from = c.index;
+    let to = d.index;
+    let vector = vector_place(s, r, from, c.vector, to);
+    Cursor {
+        left: d.left,
+        next: d.next,
+        index: to,
+        vector,
+    }
+}
+
+// The next bound, where it is not above the last item.
+fn bound_of(s: &[u8], c: Cursor, l0: u64, l1: u64, l2: u64) -> Stop
+    requires { ⌜ c .next + 28 * c .left ≤ length (now s) ⌝ }
+    ensures { λ r. ⌜ stopAt r ≡ boundOf (now (s .entry)) c (words3 l0 l1 l2) ⌝ }
+{
+    if c.left == 0 {
+        return Stop::Past;
+    }
+    let b0 = eight(s, c.next);
+    let b1 = eight(s, c.next + 8);
+    let b2 = eight(s, c.next + 16);
+    if codec::less3(l0, l1, l2, b0, b1, b2) {
+        return Stop::Past;
+    }
+    Stop::At(b0, b1, b2)
+}
+
+// The nearer of two stops.
+fn nearer(a: Stop, b: Stop) -> Stop
+    ensures { λ r. ⌜ stopAt r ≡ nearerOf (stopAt a) (stopAt b) ⌝ }
+{
+    let Stop::At(a0, a1, a2) = a else {
+        return b;
+    };
+    let Stop::At(b0, b1, b2) = b else {
+        return a;
+    };
+    if codec::less3(b0, b1, b2, a0, a1, a2) {
+        return b;
+    }
+    a
+}
+
+// ---- the row of a vector
+
+// How many elements the vector at a place has, 0 where they are not all there.
+fn elements_at(s: &[u8], at: usize) -> usize
+    ensures { λ n. ⌜ There (now (s .entry)) at n ⌝ }
+{
+    if s.len() < 8 {
+        return 0;
+    }
+    if s.len() - 8 < at {
+        return 0;
+    }
+    let n = four(s, at + 4) as usize;
+    if s.len() - 8 - at < 12 * n {
+        return 0;
+    }
+    n
+}
+
+fn clear(row: &mut [u64])
+    ensures { λ _. ⌜ Blank (now (row .entry)) (now (row .exit)) ⌝ }
+{
+    let mut k: usize = 0;
+    while k < row.len() {
+        row[k] = 0;
+        k += 1;
+    }
+}
+
+// The ticks of the elements of the vector at a place, each in the cell of its key, from the last one to the first. The row was filled from
+// the vector at another place, or the same.
+fn fill(s: &[u8], before: usize, vector: usize, row: &mut [u64])
+    ensures { λ _. ⌜ Filled (now (s .entry)) before vector (now (row .entry)) (now (row .exit)) ⌝ }
+{
+    if before == vector {
+        return;
+    }
+    clear(row);
+    let n = elements_at(s, vector);
+    if n == 0 {
+        return;
+    }
+    let mut left = n;
+    let mut at = vector + 8 + 12 * n;
+    while 0 < left {
+        at -= 12;
+        let key = four(s, at) as usize;
+        if key < row.len() {
+            row[key] = eight(s, at + 4);
+        }
+        left -= 1;
+    }
+}
+
+// ---- what lacks at an item
+
+// The tick in the row of the first knowledge for a key of the second.
+fn level(keys: &[u32], row: &[u64], key: ReplicaKey) -> u64
+    ensures { λ r. ⌜ r ≡ levelOf (now (keys .entry)) (now (row .entry)) (key .0) ⌝ }
+{
+    let k = key.0 as usize;
+    if keys.len() <= k {
+        return 0;
+    }
+    let other = ReplicaKey(keys[k]);
+    let c = other.0 as usize;
+    if row.len() <= c {
+        return 0;
+    }
+    row[c]
+}
+
+fn lesser(best: Least, p0: u64, p1: u64) -> Least
+    ensures { λ r. ⌜ leastId r ≡ lesser (leastId best) (words2 p0 p1) ⌝ }
+{
+    let Least::Id(q0, q1) = best else {
+        return Least::Id(p0, p1);
+    };
+    if codec::less2(p0, p1, q0, q1) {
+        return Least::Id(p0, p1);
+    }
+    best
+}
+
+// The least lacking id so far, with the element at a place.
+fn weighed(t: &[u8], at: usize, keys: &[u32], row: &[u64], best: Least) -> Least
+    requires { ⌜ at + 12 ≤ length (now t) ⌝ }
+    ensures { λ r. ⌜ leastId r ≡ weigh (levelOf (now (keys .entry)) (now (row .entry))) (idFrom (now (t .entry))) (leastId best) (elementAt (now (t .entry)) at) ⌝ }
+{
+    let n = four(t, at) as u32;
+    let key = ReplicaKey(n);
+    let tick = eight(t, at + 4);
+    if tick <= level(keys, row, key) {
+        return best;
+    }
+    let place = IDS + 16 * (n as usize);
+    lesser(best, codec::read8(t, place), codec::read8(t, place + 8))
+}
+
+// The least id of an element of the vector at a place with a tick above the row's.
+fn least_lacking(t: &[u8], vector: usize, keys: &[u32], row: &[u64]) -> Least
+    ensures { λ r. ⌜ leastId r ≡ leastOf (levelOf (now (keys .entry)) (now (row .entry))) (idFrom (now (t .entry))) none (elementsHere (now (t .entry)) vector) ⌝ }
+{
+    let mut best = Least::Nothing;
+    let n = elements_at(t, vector);
+    if n == 0 {
+        return best;
+    }
+    let mut i: usize = 0;
+    let mut at = vector + 8;
+    while i < n {
+        best = weighed(t, at, keys, row, best);
+        at += 12;
+        i += 1;
+    }
+    best
+}
+
+// ---- cover
+
+// The cursor that has passed no range, from the sizes of a knowledge.
+fn start(r: usize, v: usize, e: usize, g: usize) -> Cursor
+    requires { ⌜ wholeLength r v e g ≤ mostCount ⌝ }
+    ensures { λ c. ⌜ c ≡ startAt r v e g ⌝ }
+{
+    let left = g as u32;
+    let next = 64 + 16 * r + 8 * v + 12 * e;
+    let index = VectorIndex(0);
+    let vector = 48 + 16 * r;
+    Cursor {
+        left,
+        next,
+        index,
+        vector,
+    }
+}
+
+// The first place of a span where the knowledge of s knows less than that of t, with a key among those of s for each of t, and a row that is
+// clear. Item by item: at the first one, and at each bound of either up to the last.
+fn walk(
+    s: &[u8],
+    r: u32,
+    from: Cursor,
+    t: &[u8],
+    m: u32,
+    begin: Cursor,
+    f0: u64,
+    f1: u64,
+    f2: u64,
+    l0: u64,
+    l1: u64,
+    l2: u64,
+    keys: &[u32],
+    row: &mut [u64],
+) -> Place
+    requires { ⌜ (Starts (now s) r from) × (Starts (now t) m begin) × (Keyed (now s) r (now t) m (now keys)) × (Zeros (now row)) × (largestReplicas ≤ length (now row)) × (words3 f0 f1 f2 ≤ words3 l0 l1 l2) ⌝ }
+    ensures { λ a. ⌜ lackOf a ≡ lacking (decode (now (s .entry))) (decode (now (t .entry))) (words3 f0 f1 f2) (words3 l0 l1 l2) ⌝ }
+{
+    let mut x = advance(s, r, from, f0, f1, f2);
+    let mut y = advance(t, m, begin, f0, f1, f2);
+    fill(s, from.vector, x.vector, row);
+    let mut i0 = f0;
+    let mut i1 = f1;
+    let mut i2 = f2;
+    loop {
+        let least = least_lacking(t, y.vector, keys, row);
+        if let Least::Id(p0, p1) = least {
+            return Place::Here(i0, i1, i2, p0, p1);
+        }
+        let stop = nearer(bound_of(s, x, l0, l1, l2), bound_of(t, y, l0, l1, l2));
+        let Stop::At(n0, n1, n2) = stop else {
+            return Place::Nowhere;
+        };
+        let before = x.vector;
+        x = advance(s, r, x, n0, n1, n2);
+        y = advance(t, m, y, n0, n1, n2);
+        fill(s, before, x.vector, row);
+        i0 = n0;
+        i1 = n1;
+        i2 = n2;
+    }
+}
+
+// The same from the sizes of both.
+fn lacking(
+    s: &[u8],
+    r: u32,
+    from: Cursor,
+    t: &[u8],
+    m: u32,
+    begin: Cursor,
+    first: &[u8],
+    last: &[u8],
+) -> Place
+    requires { ⌜ (Starts (now s) r from) × (Starts (now t) m begin) × (length (now first) ≡ 24) × (length (now last) ≡ 24) × (beAt (now first) 24 0 ≤ beAt (now last) 24 0) ⌝ }
+    ensures { λ a. ⌜ lackOf a ≡ lacking (decode (now (s .entry))) (decode (now (t .entry))) (beAt (now (first .entry)) 24 0) (beAt (now (last .entry)) 24 0) ⌝ }
+{
+    let mut keys = [0u32; CELLS];
+    let mut row = [0u64; CELLS];
+    keys_of(s, r, t, m, &mut keys);
+    walk(
+        s,
+        r,
+        from,
+        t,
+        m,
+        begin,
+        eight(first, 0),
+        eight(first, 8),
+        eight(first, 16),
+        eight(last, 0),
+        eight(last, 8),
+        eight(last, 16),
+        &keys,
+        &mut row,
+    )
+}
+
+fn cover_in(
+    s: &[u8],
+    r: u32,
+    from: Cursor,
+    t: &[u8],
+    m: u32,
+    begin: Cursor,
+    first: &[u8],
+    last: &[u8],
+) -> Cover
+    requires { ⌜ (Starts (now s) r from) × (Starts (now t) m begin) ⌝ }
+    ensures { λ a. ⌜ a ≡ coverAnswer basic (now (s .entry)) (now (t .entry)) (now (first .entry)) (now (last .entry)) ⌝ }
+{
+    if first.len() != 24 {
+        return Cover::Refused(17);
+    }
+    if last.len() != 24 {
+        return Cover::Refused(17);
+    }
+    if below(first, 0, eight(last, 0), eight(last, 8), eight(last, 16)) {
+        return Cover::Refused(17);
+    }
+    match lacking(s, r, from, t, m, begin, first, last) {
+        Place::Nowhere => Cover::Covers,
+        Place::Here(_, _, _, _, _) => Cover::Lacks,
+    }
+}
+
+// Does the first knowledge know at least as much as the second from the first id to the last.
+pub fn cover(knowledge: &[u8], other: &[u8], first: &[u8], last: &[u8]) -> Cover
+    ensures { λ a. ⌜ a ≡ coverAnswer basic (now (knowledge .entry)) (now (other .entry)) (now (first .entry)) (now (last .entry)) ⌝ }
+{
+    match reader::check(&knowledge[..]) {
+        Checked::Accepted { r, v, e, g } => match reader::check(&other[..]) {
+            Checked::Accepted {
+                r: m,
+                v: w,
+                e: d,
+                g: h,
+            } => cover_in(
+                knowledge,
+                r as u32,
+                start(r, v, e, g),
+                other,
+                m as u32,
+                start(m, w, d, h),
+                first,
+                last,
+            ),
+            Checked::Refused(n) => Cover::Refused(n),
+        },
+        Checked::Refused(n) => Cover::Refused(n),
+    }
+}
