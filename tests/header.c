@@ -1,5 +1,5 @@
-/* Calls the engine through its C header, as C and as C++: the smallest knowledge, cut, and with a byte left over; with
-   SYNC_CALLS, the other calls on the paper's knowledges A and B too. */
+/* Calls the engine through its C header, as C and as C++: the smallest knowledge, cut, and with a byte left over;
+   and the other calls on the paper's knowledges A and B. */
 
 #include <inttypes.h>
 #include <stdio.h>
@@ -34,8 +34,6 @@ static int right(size_t n, uint32_t number, uint64_t r, uint64_t v, uint64_t e, 
             n, given, sizes[0], sizes[1], sizes[2], sizes[3], number, r, v, e, g);
     return 0;
 }
-
-#ifdef SYNC_CALLS
 
 #define ITEM 24
 #define REPLICA 16
@@ -121,15 +119,6 @@ static int calls(void)
         && cover(b, sizeof b, last, first, 17, 7)
         && cover(b, 0, last, first, SYNC_CUT, 7);
 }
-
-#else
-
-static int calls(void)
-{
-    return 1;
-}
-
-#endif
 
 int main(void)
 {

@@ -4,7 +4,6 @@ unsafe extern "C" {
     fn sync_check(knowledge: *const u8, n: usize, sizes: *mut u64) -> u32;
 }
 
-#[cfg(feature = "calls")]
 unsafe extern "C" {
     fn sync_contain(
         knowledge: *const u8,
@@ -52,7 +51,6 @@ pub fn check(knowledge: &[u8], sizes: &mut [u64; 4]) -> u32 {
 }
 
 /// Whether a knowledge contains a version. Gives 0 and sets 1 or 0, or gives the number of the refusal.
-#[cfg(feature = "calls")]
 #[inline]
 pub fn contain(knowledge: &[u8], item: &[u8], replica: &[u8], tick: u64, contained: &mut u32) -> u32 {
     unsafe {
@@ -70,7 +68,6 @@ pub fn contain(knowledge: &[u8], item: &[u8], replica: &[u8], tick: u64, contain
 }
 
 /// The first's tick minus the second's. Gives 0 and sets it, or gives the number of the refusal.
-#[cfg(feature = "calls")]
 #[inline]
 pub fn lead(first: &[u8], second: &[u8], item: &[u8], replica: &[u8], lead: &mut i64) -> u32 {
     unsafe {
@@ -90,7 +87,6 @@ pub fn lead(first: &[u8], second: &[u8], item: &[u8], replica: &[u8], lead: &mut
 
 /// Whether the first knows at least as much as the second throughout a span. Gives 0 and sets 1 or 0, or gives the number
 /// of the refusal.
-#[cfg(feature = "calls")]
 #[inline]
 pub fn cover(first: &[u8], second: &[u8], first_item: &[u8], last_item: &[u8], covers: &mut u32) -> u32 {
     unsafe {
@@ -109,10 +105,8 @@ pub fn cover(first: &[u8], second: &[u8], first_item: &[u8], last_item: &[u8], c
 }
 
 /// The calls of the library that is linked.
-#[cfg(feature = "calls")]
 pub struct Linked;
 
-#[cfg(feature = "calls")]
 impl crate::calls::Engine for Linked {
     fn contain(&self, knowledge: &[u8], item: &[u8], replica: &[u8], tick: u64, contained: &mut u32) -> u32 {
         contain(knowledge, item, replica, tick, contained)

@@ -15,7 +15,6 @@ fn engine_and_reference_agree_on_the_check() {
     }
 }
 
-#[cfg(feature = "calls")]
 #[test]
 fn engine_and_reference_agree_on_the_other_calls() {
     let plan = Plan::from_environment();

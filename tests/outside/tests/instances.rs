@@ -1,6 +1,5 @@
 //! The instances that the paper names, on the engine and on the reference.
 
-#[cfg(feature = "calls")]
 use inputs::{FIRST_ITEM, LAST_ITEM, item_id, replica_id};
 use inputs::{Knowledge, instances};
 use outside::engine;
@@ -27,7 +26,6 @@ fn the_named_lengths() {
     assert_eq!(Knowledge::largest().bytes().len(), 14_933);
 }
 
-#[cfg(feature = "calls")]
 #[test]
 fn k5_a_contains_p_5_and_neither_p_6_nor_p_0() {
     let a = Knowledge::a().bytes();
@@ -41,7 +39,6 @@ fn k5_a_contains_p_5_and_neither_p_6_nor_p_0() {
     }
 }
 
-#[cfg(feature = "calls")]
 #[test]
 fn k8_the_lead_of_a_over_b_is_2_for_p_and_minus_2_for_q() {
     let (a, b) = (Knowledge::a().bytes(), Knowledge::b().bytes());

@@ -12,7 +12,6 @@ fn main() -> ExitCode {
     let plan = Plan::from_environment();
     println!("inputs: {} from seed {}", plan.inputs, plan.seed);
     let agree = said(compare::run(&plan, engine::check));
-    #[cfg(feature = "calls")]
     let agree = said(outside::calls::run(&plan, &engine::Linked)) && agree;
     if agree { ExitCode::SUCCESS } else { ExitCode::FAILURE }
 }

@@ -19,9 +19,6 @@ use sample::{Sample, samples};
 /// The rows of a table that are measured on a sample.
 type Rows = fn(&Sample) -> Vec<Row>;
 
-#[cfg(not(feature = "calls"))]
-const TABLES: [(&str, Rows); 1] = [("check", sample::check)];
-#[cfg(feature = "calls")]
 const TABLES: [(&str, Rows); 4] =
     [("check", sample::check), ("contain", sample::contain), ("lead", sample::lead), ("cover", sample::cover)];
 

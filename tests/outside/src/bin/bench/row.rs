@@ -7,30 +7,10 @@ use outside::engine;
 use crate::measure::Times;
 
 pub enum Asked {
-    Check {
-        knowledge: Vec<u8>,
-    },
-    #[cfg(feature = "calls")]
-    Contain {
-        knowledge: Vec<u8>,
-        item: Vec<u8>,
-        replica: Vec<u8>,
-        tick: u64,
-    },
-    #[cfg(feature = "calls")]
-    Lead {
-        first: Vec<u8>,
-        second: Vec<u8>,
-        item: Vec<u8>,
-        replica: Vec<u8>,
-    },
-    #[cfg(feature = "calls")]
-    Cover {
-        first: Vec<u8>,
-        second: Vec<u8>,
-        first_item: Vec<u8>,
-        last_item: Vec<u8>,
-    },
+    Check { knowledge: Vec<u8> },
+    Contain { knowledge: Vec<u8>, item: Vec<u8>, replica: Vec<u8>, tick: u64 },
+    Lead { first: Vec<u8>, second: Vec<u8>, item: Vec<u8>, replica: Vec<u8> },
+    Cover { first: Vec<u8>, second: Vec<u8>, first_item: Vec<u8>, last_item: Vec<u8> },
 }
 
 pub struct Row {
@@ -66,7 +46,6 @@ impl Row {
                     },
                 );
             }
-            #[cfg(feature = "calls")]
             Asked::Contain { knowledge, item, replica, tick } => {
                 let (knowledge, item, replica) = (&knowledge[..], &item[..], &replica[..]);
                 let mut contained = 0;
@@ -84,7 +63,6 @@ impl Row {
                     },
                 );
             }
-            #[cfg(feature = "calls")]
             Asked::Lead { first, second, item, replica } => {
                 let (first, second, item, replica) = (&first[..], &second[..], &item[..], &replica[..]);
                 let mut lead = 0;
@@ -104,7 +82,6 @@ impl Row {
                     },
                 );
             }
-            #[cfg(feature = "calls")]
             Asked::Cover { first, second, first_item, last_item } => {
                 let (first, second, first_item, last_item) = (&first[..], &second[..], &first_item[..], &last_item[..]);
                 let mut covers = 0;
@@ -142,9 +119,7 @@ impl Row {
     fn bytes(&self) -> usize {
         match &self.asked {
             Asked::Check { knowledge } => knowledge.len(),
-            #[cfg(feature = "calls")]
             Asked::Contain { knowledge, .. } => knowledge.len(),
-            #[cfg(feature = "calls")]
             Asked::Lead { first, second, .. } | Asked::Cover { first, second, .. } => first.len() + second.len(),
         }
     }

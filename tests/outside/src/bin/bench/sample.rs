@@ -1,6 +1,5 @@
 //! The knowledges that are measured on, and the rows of each table.
 
-#[cfg(feature = "calls")]
 use inputs::{FIRST_ITEM, LAST_ITEM, item_id, replica_id};
 use inputs::{Field, Kind, Knowledge};
 
@@ -8,7 +7,6 @@ use crate::row::{Asked, Row};
 
 pub struct Sample {
     pub name: &'static str,
-    #[cfg_attr(not(feature = "calls"), expect(dead_code))]
     knowledge: Knowledge,
     /// Its bytes, and these with a fault.
     whole: Vec<u8>,
@@ -48,7 +46,6 @@ pub fn check(sample: &Sample) -> Vec<Row> {
     ]
 }
 
-#[cfg(feature = "calls")]
 impl Sample {
     /// The replica with the last key; in the smallest knowledge, one that it does not have.
     fn last_replica(&self) -> [u8; 16] {
@@ -66,7 +63,6 @@ impl Sample {
     }
 }
 
-#[cfg(feature = "calls")]
 pub fn contain(sample: &Sample) -> Vec<Row> {
     let tick = sample.knowledge.known(&LAST_ITEM, &sample.last_replica());
     let row = |name, number, knowledge: &[u8], item: &[u8], replica: &[u8]| {
@@ -90,7 +86,6 @@ pub fn contain(sample: &Sample) -> Vec<Row> {
     ]
 }
 
-#[cfg(feature = "calls")]
 pub fn lead(sample: &Sample) -> Vec<Row> {
     let row = |name, number, first: &[u8], second: &[u8], replica: &[u8]| {
         let (first, second) = (first.to_vec(), second.to_vec());
@@ -109,7 +104,6 @@ pub fn lead(sample: &Sample) -> Vec<Row> {
     ]
 }
 
-#[cfg(feature = "calls")]
 pub fn cover(sample: &Sample) -> Vec<Row> {
     let row = |name, number, first: &[u8], second: &[u8], first_item: &[u8], last_item: &[u8]| {
         let (first, second) = (first.to_vec(), second.to_vec());
