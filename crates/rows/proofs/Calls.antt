@@ -26,10 +26,11 @@ use Rattle.ticks.specs.Calls.{coverFound, coverAnswer}
 use Rattle.ticks.specs.Answers.{ProperSpan}
 use Rattle.ticks.proofs.ForCode.{Refusing}
 use Rattle.ticks.proofs.ForRows.{cover-refuses-first, cover-refuses-second, cover-wrong, cover-answers}
-use Rattle.rows.specs.declared.Cursor.{Cursor}
+use Rattle.lookup.specs.declared.Cursor.{Cursor}
 use Rattle.rows.specs.declared.Place.{Place}
 use Rattle.rows.specs.declared.Place.the-variants as O
-use Rattle.rows.specs.Method.{startAt, Starts, Zeros, lackOf}
+use Rattle.lookup.specs.Method.{startAt}
+use Rattle.rows.specs.Method.{Starts, Zeros, lackOf}
 
 -- Scratch
 

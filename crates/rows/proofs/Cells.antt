@@ -26,13 +26,14 @@ use Rattle.ticks.proofs.Lists.{less, same, more, order}
 use Rattle.ticks.proofs.Vectors.{tick-nil, tick-same, tick-other}
 use Rattle.ticks.proofs.Equality.{exact?, eqb-exact}
 use Rattle.ticks.proofs.ForRows.{weigh-fine, weigh-lacks}
-use Rattle.rows.specs.declared.Cursor.{Cursor}
+use Rattle.lookup.specs.declared.Cursor.{Cursor}
 use Rattle.rows.specs.declared.Least.{Least}
 use Rattle.rows.specs.declared.Least.the-variants as M
 use Rattle.rows.specs.declared.Stop.{Stop}
 use Rattle.rows.specs.declared.Stop.the-variants as N
-use Rattle.rows.specs.Method.{keyAt, Keyed, startAt, stopAt, boundOf, nearerOf, elementsThere, There, elementsHere, elementAt, Zeros, Blank, RowOf, Filled, idFrom, levelOf, leastId}
-use Rattle.rows.proofs.Loops.{cursor}
+use Rattle.lookup.specs.Method.{keyAt, startAt, elementsThere, There}
+use Rattle.rows.specs.Method.{Keyed, stopAt, boundOf, nearerOf, elementsHere, elementAt, Zeros, Blank, RowOf, Filled, idFrom, levelOf, leastId}
+use Rattle.lookup.proofs.Loops.{cursor}
 
 -- past the end of a list of numbers there is 0
 pub beyond : (l : List ℕ) (c : ℕ) → length l ≤ c → getD l c 0 ≡ 0

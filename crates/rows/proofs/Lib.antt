@@ -1,5 +1,4 @@
 -- The laws that the rows are proved by.
-pub mod Loops
 pub mod Cells
 pub mod Standing
 pub mod Walking

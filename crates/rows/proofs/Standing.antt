@@ -19,9 +19,10 @@ use Rattle.ticks.specs.MethodLookup.{indexAt, firstIndex}
 use Rattle.ticks.proofs.Lists.{less, same, more, order}
 use Rattle.ticks.proofs.ForCode.{indexAt-nil, indexAt-lt, indexAt-ge}
 use Rattle.ticks.proofs.ForRows.{Stands, Clear}
-use Rattle.rows.specs.declared.Cursor.{Cursor}
-use Rattle.rows.specs.Method.{stepped, vectorFrom, startAt, past, passed, settled, advanced, Starts, elementsThere, elementsHere}
-use Rattle.rows.proofs.Loops.{stepped-zero, stepped-on, from-here, from-first, cursor, there-all}
+use Rattle.lookup.specs.declared.Cursor.{Cursor}
+use Rattle.lookup.specs.Method.{stepped, vectorFrom, startAt, past, passed, settled, advanced, elementsThere}
+use Rattle.rows.specs.Method.{Starts, elementsHere}
+use Rattle.lookup.proofs.Loops.{stepped-zero, stepped-on, from-here, from-first, cursor, there-all}
 
 -- Vectors
 

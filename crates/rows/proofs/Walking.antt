@@ -26,15 +26,16 @@ use Rattle.ticks.proofs.Lists.{less, same, more, order}
 use Rattle.ticks.proofs.Vectors.{tick-nil, tick-none}
 use Rattle.ticks.proofs.ForCode.{keys-below}
 use Rattle.ticks.proofs.ForRows.{Fine, Still, LeastLacking, idIn, least-none, least-some, lacking-on, lacking-past, lacking-here, Clear, stands-vector, stands-known, stands-still}
-use Rattle.rows.specs.declared.Cursor.{Cursor}
+use Rattle.lookup.specs.declared.Cursor.{Cursor}
 use Rattle.rows.specs.declared.Least.{Least}
 use Rattle.rows.specs.declared.Least.the-variants as M
 use Rattle.rows.specs.declared.Stop.{Stop}
 use Rattle.rows.specs.declared.Stop.the-variants as N
 use Rattle.rows.specs.declared.Place.{Place}
 use Rattle.rows.specs.declared.Place.the-variants as O
-use Rattle.rows.specs.Method.{keyAt, Keyed, advanced, Starts, stopAt, boundOf, nearerOf, elementsHere, Zeros, RowOf, Filled, idFrom, levelOf, leastId, lackOf}
-use Rattle.rows.proofs.Loops.{key-there}
+use Rattle.lookup.specs.Method.{keyAt, advanced}
+use Rattle.rows.specs.Method.{Keyed, Starts, stopAt, boundOf, nearerOf, elementsHere, Zeros, RowOf, Filled, idFrom, levelOf, leastId, lackOf}
+use Rattle.lookup.proofs.Loops.{key-there}
 use Rattle.rows.proofs.Cells.{beyond, level-is}
 use Rattle.rows.proofs.Standing.{Coming, Standing, coming-start, coming-replicas, standing-advanced, advanced-fewer, advanced-passes, index-clear, value, value-is, value-lawful, value-ids, ids-room, standing-stands, standing-elements, start-elements}
 

@@ -1,6 +1,5 @@
 -- The method of the rows, by places, for any bytes: nothing here is to be believed. The laws show that for bytes that the check accepts
--- cover answers as defined. A thing that is not all there is not read: a vector without its bytes is stepped over no further and has no
--- elements, and ranges that are not all there are not passed.
+-- cover answers as defined. The cursor and the keys are lookup's.
 use Rattle.codec.specs.Prelude.{ℕ, zero, suc, _+_, _-_, _*_, _≤_, _<_, _≡_, true, false, Option, none, some, List, ltb, leb, length, getD}
 use Rattle.codec.specs.Number.{beAt}
 use Rattle.codec.specs.Total.{readAt}
@@ -15,7 +14,8 @@ use Rattle.layout.specs.MethodPlaces.{idsPlace, vectorsPlace, rangesPlace, coun
 use Rattle.ticks.specs.Meaning.{tickAt}
 use Rattle.ticks.specs.MethodLookup.{keyOf, firstIndex}
 use Rattle.ticks.specs.Operations.{Lack, nowhere, here}
-use Rattle.rows.specs.declared.Cursor.{Cursor}
+use Rattle.lookup.specs.declared.Cursor.{Cursor}
+use Rattle.lookup.specs.Method.{keyAt, startAt, elementsThere}
 use Rattle.rows.specs.declared.Least.{Least}
 use Rattle.rows.specs.declared.Least.the-variants as M
 use Rattle.rows.specs.declared.Stop.{Stop}
@@ -25,48 +25,10 @@ use Rattle.rows.specs.declared.Place.the-variants as O
 
 -- The key of an id
 
--- among the r ids of the map; r where they are not all there
-unfoldable pub keyAt : List ℕ → ℕ → ℕ → ReplicaKey
-keyAt s r p = elim (leb (idsPlace + 16 * r) (length s)) [ true ↦ keyOf (idsAt s r idsPlace) p | false ↦ record { 0 = r } ]
-
 -- the keys in s of the m ids of t
 pub record Keyed (s : List ℕ) (r : ℕ) (t : List ℕ) (m : ℕ) (keys : List ℕ) : Type 0 where
   pub is : (k : ℕ) → k < m → getD keys k 0 ≡ keyAt s r (beAt t 16 (idsPlace + 16 * k)) .0
   pub size : m ≤ length keys
-
--- The place of a vector
-
--- the place after n vectors from a place on
-unfoldable pub stepped : List ℕ → ℕ → ℕ → ℕ
-stepped s zero at = at
-stepped s (suc n) at = elim (leb (at + 8) (length s)) [ true ↦ stepped s n (at + 8 + 12 * countAt s at) | false ↦ at ]
-
--- the place of the vector of an index, from another one, whose place is known: onwards from there, or else from the first one on
-unfoldable pub vectorFrom : List ℕ → ℕ → VectorIndex → ℕ → VectorIndex → ℕ
-vectorFrom s r from at to =
-    elim (leb (from .0) (to .0)) [ true ↦ stepped s (to .0 - from .0) at | false ↦ stepped s (to .0) (vectorsPlace r) ]
-
--- The range of an item
-
--- before any range
-unfoldable pub startAt : ℕ → ℕ → ℕ → ℕ → Cursor
-startAt r v e g = record { left = g; next = rangesPlace r v e; index = firstIndex; vector = vectorsPlace r }
-
--- past the next range; the vector's place is not looked for
-unfoldable pub past : List ℕ → Cursor → ℕ → Cursor
-past s c n = record { left = n; next = c .next + 28; index = record { 0 = beAt s 4 (c .next + 24) }; vector = c .vector }
-
--- past those of the next n ranges whose bounds are at or below the item
-unfoldable pub passed : List ℕ → ℕ → ℕ → Cursor → Cursor
-passed s i zero c = c
-passed s i (suc n) c = elim (ltb i (beAt s 24 (c .next))) [ true ↦ c | false ↦ passed s i n (past s c n) ]
-
--- d with the place of its vector, from the cursor that it came from
-unfoldable pub settled : List ℕ → ℕ → Cursor → Cursor → Cursor
-settled s r c d = record { left = d .left; next = d .next; index = d .index; vector = vectorFrom s r (c .index) (c .vector) (d .index) }
-
-unfoldable pub advanced : List ℕ → ℕ → Cursor → ℕ → Cursor
-advanced s r c i = elim (leb (c .next + 28 * c .left) (length s)) [ true ↦ settled s r c (passed s i (c .left) c) | false ↦ c ]
 
 -- accepted bytes of r replicas, and the cursor before any of their ranges
 pub record Starts (s : List ℕ) (r : ℕ) (c : Cursor) : Type 0 where
@@ -96,19 +58,6 @@ nearerOf (some a) none = some a
 nearerOf (some a) (some b) = elim (ltb b a) [ true ↦ some b | false ↦ some a ]
 
 -- The row of a vector
-
--- how many elements the vector at a place has, all there
-unfoldable pub elementsThere : List ℕ → ℕ → ℕ
-elementsThere s at =
-    elim (leb (at + 8) (length s)) [
-      | true ↦ elim (leb (at + 8 + 12 * countAt s at) (length s)) [ true ↦ countAt s at | false ↦ 0 ]
-      | false ↦ 0
-    ]
-
--- n is that number
-pub record There (s : List ℕ) (at n : ℕ) : Type 0 where
-  pub is : n ≡ elementsThere s at
-  pub room : 1 ≤ n → at + 8 + 12 * n ≤ length s
 
 unfoldable pub elementsHere : List ℕ → ℕ → List Element
 elementsHere s at = elementsAt s (elementsThere s at) (at + 8)

@@ -5,20 +5,22 @@
 use layout::Checked;
 use layout::ReplicaKey;
 use layout::VectorIndex;
+use lookup::Cursor;
 use ticks::Cover;
 ghost use mathlib.Core.Path.{_≡_};
 ghost use mathlib.Core.Option.{none};
 ghost use Prim.Native.Nat.{_+_, _*_, _^_, _≤_, _<_};
-ghost use lib.Dec.{eqb, ltb};
+ghost use lib.Dec.{ltb};
 ghost use lib.ListN.{length, getD};
 ghost use Rattle.codec.specs.Number.{beAt};
 ghost use Rattle.codec.specs.Words.{words2, words3};
 ghost use Rattle.layout.specs.Knowledge.{basic};
 ghost use Rattle.ticks.specs.MethodRows.{lesser, weigh, leastOf};
 ghost use Rattle.ticks.specs.Calls.{coverAnswer};
-ghost use Rattle.rows.specs.Method.{keyAt, stepped, vectorFrom, passed, advanced, There, elementAt, elementsHere};
+ghost use Rattle.rows.specs.Method.{elementAt, elementsHere};
 ghost use Rattle.rows.specs.Method.{idFrom, levelOf, leastId, Blank, Filled, Keyed, stopAt, boundOf, nearerOf, lackOf};
-ghost use Rattle.rows.specs.Method.{startAt, Starts, Zeros};
+ghost use Rattle.lookup.specs.Method.{startAt};
+ghost use Rattle.rows.specs.Method.{Starts, Zeros};
 ghost use Rattle.layout.specs.Permitted.{largestReplicas, mostCount};
 ghost use Rattle.layout.specs.MethodPlaces.{wholeLength};
 ghost use Rattle.layout.specs.Decode.{decode};
@@ -29,16 +31,6 @@ const IDS: usize = 27;
 
 // a row has a cell for each key that a clock vector may have
 const CELLS: usize = layout::LARGEST_REPLICAS as usize;
-
-// A place among the ranges of a knowledge. It only moves forward.
-pub struct Cursor {
-    // how many ranges it has not passed, and the place of the first of them
-    pub left: u32,
-    pub next: usize,
-    // the clock vector of the range that it has passed last, 0 where none, and the vector's place
-    pub index: VectorIndex,
-    pub vector: usize,
-}
 
 // The least replica id that was met, as two words.
 pub enum Least {
@@ -84,36 +76,6 @@ fn eight(s: &[u8], at: usize) -> u64
 
 // ---- the key of an id
 
-fn id_at(s: &[u8], at: usize, p0: u64, p1: u64) -> bool
-    requires { ⌜ at + 16 ≤ length (now s) ⌝ }
-    ensures { λ r. ⌜ r ≡ eqb (beAt (now (s .entry)) 16 at) (words2 p0 p1) ⌝ }
-{
-    if eight(s, at) != p0 {
-        return false;
-    }
-    eight(s, at + 8) == p1
-}
-
-// The key of an id among r ids; r where it is not there.
-fn key_of(s: &[u8], r: u32, p0: u64, p1: u64) -> ReplicaKey
-    ensures { λ k. ⌜ k ≡ keyAt (now (s .entry)) r (words2 p0 p1) ⌝ }
-{
-    let mut key = ReplicaKey(0);
-    if s.len() < IDS + 16 * (r as usize) {
-        return ReplicaKey(r);
-    }
-    let mut at = IDS;
-    while key.0 < r {
-        if id_at(s, at, p0, p1) {
-            return key;
-        }
-        at += 16;
-        let n = key.0 + 1;
-        key = ReplicaKey(n);
-    }
-    key
-}
-
 // For each of the m ids of t, its key among the r ids of s.
 fn keys_of(s: &[u8], r: u32, t: &[u8], m: u32, keys: &mut [u32])
     requires { ⌜ (27 + 16 * m ≤ length (now t)) × (m ≤ length (now keys)) ⌝ }
@@ -122,43 +84,11 @@ fn keys_of(s: &[u8], r: u32, t: &[u8], m: u32, keys: &mut [u32])
     let mut k: u32 = 0;
     let mut at = IDS;
     while k < m {
-        let key = key_of(s, r, eight(t, at), eight(t, at + 8));
+        let key = lookup::key_of(s, r, eight(t, at), eight(t, at + 8));
         keys[k as usize] = key.0;
         at += 16;
         k += 1;
     }
-}
-
-// ---- the vector of an index
-
-// The place after n clock vectors from a place on.
-fn step_over(s: &[u8], n: u32, start: usize) -> usize
-    ensures { λ r. ⌜ r ≡ stepped (now (s .entry)) n start ⌝ }
-{
-    if s.len() < 8 {
-        return start;
-    }
-    let end = s.len() - 8;
-    let mut i: u32 = 0;
-    let mut at = start;
-    while i < n {
-        if end < at {
-            return at;
-        }
-        at = at + 8 + 12 * (four(s, at + 4) as usize);
-        i += 1;
-    }
-    at
-}
-
-// The place of a vector, from that of another one: onwards from there, or else from the first one on.
-fn vector_place(s: &[u8], r: u32, from: VectorIndex, at: usize, to: VectorIndex) -> usize
-    ensures { λ p. ⌜ p ≡ vectorFrom (now (s .entry)) r from at to ⌝ }
-{
-    if from.0 <= to.0 {
-        return step_over(s, to.0 - from.0, at);
-    }
-    step_over(s, to.0, 48 + 16 * (r as usize))
 }
 
 // ---- the range of an item
@@ -177,59 +107,6 @@ fn below(s: &[u8], at: usize, i0: u64, i1: u64, i2: u64) -> bool
         return i1 < b1;
     }
     i2 < eight(s, at + 16)
-}
-
-// The ranges whose bounds are at or below the item are passed. The vector's place is not looked for.
-fn pass(s: &[u8], c: Cursor, i0: u64, i1: u64, i2: u64) -> Cursor
-    requires { ⌜ c .next + 28 * c .left ≤ length (now s) ⌝ }
-    ensures { λ d. ⌜ d ≡ passed (now (s .entry)) (words3 i0 i1 i2) (c .left) c ⌝ }
-{
-    let mut left = c.left;
-    let mut next = c.next;
-    let mut index = c.index;
-    let vector = c.vector;
-    while 0 < left {
-        if below(s, next, i0, i1, i2) {
-            return Cursor {
-                left,
-                next,
-                index,
-                vector,
-            };
-        }
-        let n = four(s, next + 24) as u32;
-        index = VectorIndex(n);
-        next += 28;
-        left -= 1;
-    }
-    Cursor {
-        left,
-        next,
-        index,
-        vector,
-    }
-}
-
-// The cursor moved on to an item.
-fn advance(s: &[u8], r: u32, c: Cursor, i0: u64, i1: u64, i2: u64) -> Cursor
-    ensures { λ d. ⌜ d ≡ advanced (now (s .entry)) r c (words3 i0 i1 i2) ⌝ }
-{
-    if s.len() < c.next {
-        return c;
-    }
-    if s.len() - c.next < 28 * (c.left as usize) {
-        return c;
-    }
-    let d = pass(s, c, i0, i1, i2);
-    let from = c.index;
-    let to = d.index;
-    let vector = vector_place(s, r, from, c.vector, to);
-    Cursor {
-        left: d.left,
-        next: d.next,
-        index: to,
-        vector,
-    }
 }
 
 // The next bound, where it is not above the last item.
@@ -267,23 +144,6 @@ fn nearer(a: Stop, b: Stop) -> Stop
 
 // ---- the row of a vector
 
-// How many elements the vector at a place has, 0 where they are not all there.
-fn elements_at(s: &[u8], at: usize) -> usize
-    ensures { λ n. ⌜ There (now (s .entry)) at n ⌝ }
-{
-    if s.len() < 8 {
-        return 0;
-    }
-    if s.len() - 8 < at {
-        return 0;
-    }
-    let n = four(s, at + 4) as usize;
-    if s.len() - 8 - at < 12 * n {
-        return 0;
-    }
-    n
-}
-
 fn clear(row: &mut [u64])
     ensures { λ _. ⌜ Blank (now (row .entry)) (now (row .exit)) ⌝ }
 {
@@ -303,7 +163,7 @@ fn fill(s: &[u8], before: usize, vector: usize, row: &mut [u64])
         return;
     }
     clear(row);
-    let n = elements_at(s, vector);
+    let n = lookup::elements_at(s, vector);
     if n == 0 {
         return;
     }
@@ -369,7 +229,7 @@ fn least_lacking(t: &[u8], vector: usize, keys: &[u32], row: &[u64]) -> Least
     ensures { λ r. ⌜ leastId r ≡ leastOf (levelOf (now (keys .entry)) (now (row .entry))) (idFrom (now (t .entry))) none (elementsHere (now (t .entry)) vector) ⌝ }
 {
     let mut best = Least::Nothing;
-    let n = elements_at(t, vector);
+    let n = lookup::elements_at(t, vector);
     if n == 0 {
         return best;
     }
@@ -423,8 +283,8 @@ fn walk(
     requires { ⌜ (Starts (now s) r from) × (Starts (now t) m begin) × (Keyed (now s) r (now t) m (now keys)) × (Zeros (now row)) × (largestReplicas ≤ length (now row)) × (words3 f0 f1 f2 ≤ words3 l0 l1 l2) ⌝ }
     ensures { λ a. ⌜ lackOf a ≡ lacking (decode (now (s .entry))) (decode (now (t .entry))) (words3 f0 f1 f2) (words3 l0 l1 l2) ⌝ }
 {
-    let mut x = advance(s, r, from, f0, f1, f2);
-    let mut y = advance(t, m, begin, f0, f1, f2);
+    let mut x = lookup::advance(s, r, from, f0, f1, f2);
+    let mut y = lookup::advance(t, m, begin, f0, f1, f2);
     fill(s, from.vector, x.vector, row);
     let mut i0 = f0;
     let mut i1 = f1;
@@ -439,8 +299,8 @@ fn walk(
             return Place::Nowhere;
         };
         let before = x.vector;
-        x = advance(s, r, x, n0, n1, n2);
-        y = advance(t, m, y, n0, n1, n2);
+        x = lookup::advance(s, r, x, n0, n1, n2);
+        y = lookup::advance(t, m, y, n0, n1, n2);
         fill(s, before, x.vector, row);
         i0 = n0;
         i1 = n1;

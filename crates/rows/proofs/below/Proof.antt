@@ -1,7 +1,7 @@
 -- `rows::below` meets its contract: the first words that differ decide.
 use native.Mathlib.Omega.{arith}
 use Rattle.codec.specs.Number.{Bytes}
-use Rattle.rows.proofs.Loops.{bound-first, bound-second, bound-third}
+use Rattle.lookup.proofs.Loops.{bound-first, bound-second, bound-third}
 use Rattle.rows.proofs.below.Statement.{statement}
 use Rattle.rows.proofs.below.Tie as tie
 

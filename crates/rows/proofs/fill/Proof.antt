@@ -4,7 +4,8 @@ use mathlib.Core.Path.{_≡_, refl}
 use mathlib.Core.Logic.{⊎-elim}
 use lib.ListN.{length}
 use Rattle.layout.specs.Decode.{elementsAt}
-use Rattle.rows.specs.Method.{RowOf, There}
+use Rattle.lookup.specs.Method.{There}
+use Rattle.rows.specs.Method.{RowOf}
 use Rattle.rows.proofs.Cells.{filled-same, filled-nothing, filled-all, row-begins, Put, put-set, put-skip}
 use native.Mathlib.Omega.{arith}
 use Rattle.rows.proofs.fill.Statement.{statement}
