@@ -232,6 +232,32 @@ module _ (level id : ℕ → ℕ) (t : List ℕ) where
     unfolding leastOf
     least-end h = sym (inv ∙ ap (leastOf level id (leastId best)) (elements-zero t (n - i) at (omega arith)))
 
+pub least-fine : (whole : Option ℕ) → whole ≡ none → leastId M.Nothing ≡ whole
+unfolding leastId
+least-fine whole e = sym e
+
+module _ (keys row : List ℕ) (id : ℕ → ℕ) (t : List ℕ) where
+  pub fine-none : (vector n : ℕ) → There t vector n → n ≡ 0 → leastOf (levelOf keys row) id none (elementsHere t vector) ≡ none
+  unfolding leastId
+  fine-none vector n h e = sym (least-nothing (levelOf keys row) id t vector n h e)
+
+  pub fine-begins : (vector n : ℕ) → There t vector n
+      → leastOf (levelOf keys row) id none (elementsHere t vector) ≡ leastOf (levelOf keys row) id none (elementsAt t (n - 0) (vector + 8))
+  unfolding leastId
+  fine-begins vector n h = least-begins (levelOf keys row) id t vector n h
+
+  module _ (whole : Option ℕ) (n i at : ℕ) (inv : whole ≡ leastOf (levelOf keys row) id none (elementsAt t (n - i) at)) where
+    pub fine-next : (k tick l : ℕ) → k ≡ beAt t 4 at → tick ≡ beAt t 8 (at + 4) → l ≡ levelOf keys row k → tick ≤ l → i < n
+        → whole ≡ leastOf (levelOf keys row) id none (elementsAt t (n - (i + 1)) (at + 12))
+    unfolding leastId
+    fine-next k tick l e f g h j =
+        least-next (levelOf keys row) id t whole n i at M.Nothing inv M.Nothing
+        (sym (weigh-fine (levelOf keys row) id none (elementAt t at) (omega (arith, e, f, g, ap (levelOf keys row) e)))) j
+
+    pub fine-all : n ≤ i → whole ≡ none
+    unfolding leastId
+    fine-all h = sym (least-end (levelOf keys row) id t whole n i at M.Nothing inv h)
+
 -- Stops
 
 module _ (s : List ℕ) (c : Cursor) (hi : ℕ) where

@@ -8,6 +8,7 @@ use layout::VectorIndex;
 use lookup::Cursor;
 use ticks::Cover;
 ghost use mathlib.Core.Path.{_≡_};
+ghost use mathlib.Core.Bool.{true};
 ghost use mathlib.Core.Option.{none};
 ghost use Prim.Native.Nat.{_+_, _*_, _^_, _≤_, _<_};
 ghost use lib.Dec.{ltb};
@@ -224,10 +225,40 @@ fn weighed(t: &[u8], at: usize, keys: &[u32], row: &[u64], best: Least) -> Least
     lesser(best, codec::read8(t, place), codec::read8(t, place + 8))
 }
 
+// Is no element of the vector at a place above the row. This is what cover spends its time on; the least id is looked for only where
+// one is.
+fn fine(t: &[u8], vector: usize, keys: &[u32], row: &[u64]) -> bool
+    ensures { λ r. ⌜ (r ≡ true → leastOf
+        (levelOf (now (keys .entry)) (now (row .entry)))
+        (idFrom (now (t .entry)))
+        none
+        (elementsHere (now (t .entry)) vector) ≡ none) ⌝ }
+{
+    let n = lookup::elements_at(t, vector);
+    if n == 0 {
+        return true;
+    }
+    let mut i: usize = 0;
+    let mut at = vector + 8;
+    while i < n {
+        let k = four(t, at) as u32;
+        let key = ReplicaKey(k);
+        if level(keys, row, key) < eight(t, at + 4) {
+            return false;
+        }
+        at += 12;
+        i += 1;
+    }
+    true
+}
+
 // The least id of an element of the vector at a place with a tick above the row's.
 fn least_lacking(t: &[u8], vector: usize, keys: &[u32], row: &[u64]) -> Least
     ensures { λ r. ⌜ leastId r ≡ leastOf (levelOf (now (keys .entry)) (now (row .entry))) (idFrom (now (t .entry))) none (elementsHere (now (t .entry)) vector) ⌝ }
 {
+    if fine(t, vector, keys, row) {
+        return Least::Nothing;
+    }
     let mut best = Least::Nothing;
     let n = lookup::elements_at(t, vector);
     if n == 0 {

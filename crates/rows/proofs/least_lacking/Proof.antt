@@ -6,7 +6,7 @@ use lib.ListN.{length}
 use Rattle.layout.specs.Decode.{elementsAt}
 use Rattle.ticks.specs.MethodRows.{leastOf}
 use Rattle.rows.specs.Method.{elementsHere, idFrom, levelOf, leastId}
-use Rattle.rows.proofs.Cells.{least-nothing, least-begins, least-next, least-end}
+use Rattle.rows.proofs.Cells.{least-fine, least-nothing, least-begins, least-next, least-end}
 use native.Mathlib.Omega.{arith}
 use Rattle.rows.proofs.least_lacking.Statement.{statement}
 use Rattle.rows.proofs.least_lacking.Tie as tie
@@ -18,11 +18,17 @@ Inv-loop t vector keys row best₀ n i₀ at₀ best i at =
 abbrev μ-loop : tie.MeasureT-loop
 μ-loop t vector keys row best₀ n i₀ at₀ best i at = n - i
 
+fine-requires : tie.Need-fine-requires Inv-loop μ-loop
+fine-requires c κs = tt
+
+returns : tie.Need-returns Inv-loop μ-loop
+returns c = least-fine _ (c .before .fine .ensures (c .if1 .taken))
+
 elements-at-requires : tie.Need-elements-at-requires Inv-loop μ-loop
 elements-at-requires c κs = tt
 
-returns : tie.Need-returns Inv-loop μ-loop
-returns c = least-nothing _ _ _ _ _ (c .before .elements-at .ensures) (c .if1 .taken)
+returns-2 : tie.Need-returns-2 Inv-loop μ-loop
+returns-2 c = least-nothing _ _ _ _ _ (c .before .elements-at .ensures) (c .if2 .taken)
 
 add-at : tie.Need-add-at Inv-loop μ-loop
 add-at c = omega (arith, c .before .elements-at .ensures .room (omega arith))
@@ -45,8 +51,8 @@ loop-less c = omega arith
 loop-again : tie.Need-loop-again Inv-loop μ-loop
 loop-again c = (least-next _ _ _ _ _ _ _ _ (c .before .before .loop .inv .0) _ (c .weighed .ensures) (c .before .loop-test .taken), omega arith, omega arith)
 
-returns-2 : tie.Need-returns-2 Inv-loop μ-loop
-returns-2 c = least-end _ _ _ _ _ _ _ _ (c .before .loop .inv .0) (omega arith)
+returns-3 : tie.Need-returns-3 Inv-loop μ-loop
+returns-3 c = least-end _ _ _ _ _ _ _ _ (c .before .loop .inv .0) (omega arith)
 
 pub least-lacking-spec : {M : Type 1} → statement M
 least-lacking-spec =
@@ -54,8 +60,10 @@ least-lacking-spec =
     (tie.spec
     Inv-loop
     μ-loop
-    elements-at-requires
+    fine-requires
     returns
+    elements-at-requires
+    returns-2
     add-at
     loop-holds
     weighed-requires
@@ -63,4 +71,4 @@ least-lacking-spec =
     add-i
     loop-less
     loop-again
-    returns-2)
+    returns-3)

@@ -1,0 +1,87 @@
+-- `rows::fine` meets its contract. The loop's invariant: what lacks among all elements is what lacks among those that are left.
+use Prim.Native.Nat.{_+_, _-_, _*_, _≤_}
+use mathlib.Core.Path.{_≡_, sym}
+use mathlib.Core.Bool.{true≢false}
+use mathlib.Core.Option.{none}
+use lib.ListN.{length}
+use Rattle.layout.specs.Decode.{elementsAt}
+use Rattle.ticks.specs.MethodRows.{leastOf}
+use Rattle.rows.specs.Method.{elementsHere, idFrom, levelOf}
+use Rattle.rows.proofs.Cells.{fine-none, fine-begins, fine-next, fine-all}
+use native.Mathlib.Omega.{arith}
+use Rattle.rows.proofs.fine.Statement.{statement}
+use Rattle.rows.proofs.fine.Tie as tie
+
+abbrev Inv-loop : tie.InvT-loop
+Inv-loop t vector keys row n i₀ at₀ i at =
+    (leastOf (levelOf keys row) (idFrom t) none (elementsHere t vector) ≡ leastOf (levelOf keys row) (idFrom t) none (elementsAt t (n - i) at)) × (i ≤ n) × (at + 12 * (n - i) ≤ length t)
+
+abbrev μ-loop : tie.MeasureT-loop
+μ-loop t vector keys row n i₀ at₀ i at = n - i
+
+elements-at-requires : tie.Need-elements-at-requires Inv-loop μ-loop
+elements-at-requires c κs = tt
+
+returns : tie.Need-returns Inv-loop μ-loop
+returns c = λ e. fine-none _ _ _ _ _ _ (c .before .elements-at .ensures) (c .if1 .taken)
+
+add-at : tie.Need-add-at Inv-loop μ-loop
+add-at c = omega (arith, c .before .elements-at .ensures .room (omega arith))
+
+loop-holds : tie.Need-loop-holds Inv-loop μ-loop
+loop-holds c = (fine-begins _ _ _ _ _ _ (c .before .elements-at .ensures), omega arith, omega (arith, c .before .elements-at .ensures .room (omega arith)))
+
+four-requires : tie.Need-four-requires Inv-loop μ-loop
+four-requires c κs = omega arith
+
+cast-k : tie.Need-cast-k Inv-loop μ-loop
+cast-k c = omega arith
+
+level-requires : tie.Need-level-requires Inv-loop μ-loop
+level-requires c κs = tt
+
+add-eight : tie.Need-add-eight Inv-loop μ-loop
+add-eight c = omega arith
+
+eight-requires : tie.Need-eight-requires Inv-loop μ-loop
+eight-requires c κs = omega arith
+
+returns-2 : tie.Need-returns-2 Inv-loop μ-loop
+returns-2 c = λ e. absurd (true≢false (sym e))
+
+add-at-2 : tie.Need-add-at-2 Inv-loop μ-loop
+add-at-2 c = omega arith
+
+add-i : tie.Need-add-i Inv-loop μ-loop
+add-i c = omega arith
+
+loop-less : tie.Need-loop-less Inv-loop μ-loop
+loop-less c = omega arith
+
+loop-again : tie.Need-loop-again Inv-loop μ-loop
+loop-again c = (fine-next _ _ _ _ _ _ _ _ (c .before .before .before .before .before .loop .inv .0) _ _ _ (c .before .before .before .four .ensures .0) (c .before .eight .ensures .0) (c .before .before .level .ensures) (c .if2 .left) (c .before .before .before .before .loop-test .taken), omega arith, omega arith)
+
+returns-3 : tie.Need-returns-3 Inv-loop μ-loop
+returns-3 c = λ e. fine-all _ _ _ _ _ _ _ _ (c .before .loop .inv .0) (omega arith)
+
+pub fine-spec : {M : Type 1} → statement M
+fine-spec =
+    tie.close
+    (tie.spec
+    Inv-loop
+    μ-loop
+    elements-at-requires
+    returns
+    add-at
+    loop-holds
+    four-requires
+    cast-k
+    level-requires
+    add-eight
+    eight-requires
+    returns-2
+    add-at-2
+    add-i
+    loop-less
+    loop-again
+    returns-3)
