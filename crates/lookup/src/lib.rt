@@ -122,7 +122,7 @@ fn step_over(s: &[u8], n: u32, start: usize) -> usize
 }
 
 // The place of a vector, from another one whose place is known: onwards from there, or else from the first vector on.
-fn vector_place(s: &[u8], r: u32, from: VectorIndex, at: usize, to: VectorIndex) -> usize
+pub fn vector_place(s: &[u8], r: u32, from: VectorIndex, at: usize, to: VectorIndex) -> usize
     ensures { λ p. ⌜ p ≡ vectorFrom (now (s .entry)) r from at to ⌝ }
 {
     if from.0 <= to.0 {

@@ -73,7 +73,7 @@ filled-same s before vector row e = record { is = λ h. rw (← e) h; size = ref
 row-blank : (row₀ row : List ℕ) → Blank row₀ row → RowOf [] row
 row-blank row₀ row b = record { is = λ c h. b .is .is c ∙ sym (tick-nil c) }
 
-elements-zero : (s : List ℕ) (n at : ℕ) → n ≡ 0 → elementsAt s n at ≡ []
+pub elements-zero : (s : List ℕ) (n at : ℕ) → n ≡ 0 → elementsAt s n at ≡ []
 unfolding elementsAt
 elements-zero s n at e = ap (λ m. elementsAt s m at) e
 
@@ -83,7 +83,7 @@ elements-cons s zero at h = absurd (omega arith)
 elements-cons s (suc n) at h = let e : n ≡ suc n - 1 = omega arith in ap (λ m. elementAt s at ∷ elementsAt s m (at + 12)) e
 
 module _ (s : List ℕ) (before vector n : ℕ) (row₀ row : List ℕ) (t : There s vector n) where
-  here-is : elementsHere s vector ≡ elementsAt s n (vector + 8)
+  pub here-is : elementsHere s vector ≡ elementsAt s n (vector + 8)
   unfolding elementsHere
   here-is = ap (λ m. elementsAt s m (vector + 8)) (sym (t .is))
 

@@ -3,3 +3,4 @@ pub mod Cells
 pub mod Standing
 pub mod Walking
 pub mod Calls
+pub mod Ranges

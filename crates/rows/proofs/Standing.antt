@@ -34,7 +34,7 @@ stepped-inside s (suc n) at h =
     stepped-on s n at room ∙ stepped-inside s n next (omega (arith, after-suc s n at)) ∙ sym (after-suc s n at)
 
 -- from the place of one vector to that of another
-vector-from : (s : List ℕ) (r v : ℕ) (a b : VectorIndex) (at : ℕ) → a .0 < v → b .0 < v → vectorPlace s r v ≤ length s
+pub vector-from : (s : List ℕ) (r v : ℕ) (a b : VectorIndex) (at : ℕ) → a .0 < v → b .0 < v → vectorPlace s r v ≤ length s
     → at ≡ vectorPlace s r (a .0) → vectorFrom s r a at b ≡ vectorPlace s r (b .0)
 vector-from s r v a b at ha hb room is =
     elim (order (b .0) (a .0)) [
@@ -271,3 +271,25 @@ start-elements s r c b h =
     ∙ ap (λ x. elementsAt s (elementsThere s x) (x + 8)) (sym (after-zero s (vectorsPlace r)))
     ∙ ap (λ n. elementsAt s n (at + 8)) (sym (there-all s at (countAt s at) refl end .is))
     ∙ sym (vector-place basic s r (h .v) (h .e) (h .g) q 0 (p .someVector)) ∙ first-empty basic s r (h .v) (h .e) (h .g) q
+
+-- Vectors of accepted bytes
+
+module _ (s : List ℕ) (r v e g : ℕ) (h : Reading basic s r v e g) where
+  -- the elements at the place of a vector are the vector's
+  pub vector-elements : (y : ℕ) → y < v → elementsHere s (vectorPlace s r y) ≡ vectorOf (valueAt s r v e g) y
+  unfolding elementsHere
+  vector-elements y l =
+      let p = places basic s r v e g h in
+      let at = vectorPlace s r y in
+      let end : at + 8 + 12 * countAt s at ≤ length s = omega (arith, vector-ends s v y (vectorsPlace r) l, p .afterVectors, p .whole) in
+      ap (λ n. elementsAt s n (at + 8)) (sym (there-all s at (countAt s at) refl end .is))
+      ∙ sym (vector-place basic s r v e g h y l)
+
+  pub first-place : vectorsPlace r ≡ vectorPlace s r 0
+  first-place = sym (after-zero s (vectorsPlace r))
+
+  pub first-indices : All (λ x. x .index .0 < v) (rangesAt s g (rangesPlace r v e))
+  unfolding valueAt
+  first-indices =
+      subst (λ n. All (λ x. x .index .0 < n) (rangesAt s g (rangesPlace r v e))) (vectors-length s v (vectorsPlace r))
+      (places basic s r v e g h .lawful .indices)

@@ -10,20 +10,19 @@ use ticks::Cover;
 ghost use mathlib.Core.Path.{_≡_};
 ghost use mathlib.Core.Bool.{true};
 ghost use mathlib.Core.Option.{none};
-ghost use Prim.Native.Nat.{_+_, _*_, _^_, _≤_, _<_};
-ghost use lib.Dec.{ltb};
+ghost use Prim.Native.Nat.{max, _+_, _*_, _^_, _≤_, _<_};
+ghost use lib.Dec.{eqb, ltb};
 ghost use lib.ListN.{length, getD};
 ghost use Rattle.codec.specs.Number.{beAt};
 ghost use Rattle.codec.specs.Words.{words2, words3};
 ghost use Rattle.layout.specs.Knowledge.{basic};
-ghost use Rattle.ticks.specs.MethodRows.{lesser, weigh, leastOf};
+ghost use Rattle.ticks.specs.MethodRows.{lesser, weigh, leastOf, topTick};
 ghost use Rattle.ticks.specs.Calls.{coverAnswer};
 ghost use Rattle.rows.specs.Method.{elementAt, elementsHere};
 ghost use Rattle.rows.specs.Method.{idFrom, levelOf, leastId, Blank, Filled, Keyed, stopAt, boundOf, nearerOf, lackOf};
-ghost use Rattle.lookup.specs.Method.{startAt};
-ghost use Rattle.rows.specs.Method.{Starts, Zeros};
-ghost use Rattle.layout.specs.Permitted.{largestReplicas, mostCount};
-ghost use Rattle.layout.specs.MethodPlaces.{wholeLength};
+ghost use Rattle.lookup.specs.Method.{startAt, tickOf};
+ghost use Rattle.rows.specs.Method.{Starts, Zeros, topOf, largestIn, alikeOf, alikeIn};
+ghost use Rattle.layout.specs.Permitted.{largestReplicas};
 ghost use Rattle.layout.specs.Decode.{decode};
 ghost use Rattle.ticks.specs.Operations.{lacking};
 
@@ -277,14 +276,13 @@ fn least_lacking(t: &[u8], vector: usize, keys: &[u32], row: &[u64]) -> Least
 // ---- cover
 
 // The cursor that has passed no range, from the sizes of a knowledge.
-fn start(r: usize, v: usize, e: usize, g: usize) -> Cursor
-    requires { ⌜ wholeLength r v e g ≤ mostCount ⌝ }
+fn start(r: u32, v: u32, e: u32, g: u32) -> Cursor
     ensures { λ c. ⌜ c ≡ startAt r v e g ⌝ }
 {
-    let left = g as u32;
-    let next = 64 + 16 * r + 8 * v + 12 * e;
+    let left = g;
+    let next = 64 + 16 * (r as usize) + 8 * (v as usize) + 12 * (e as usize);
     let index = VectorIndex(0);
-    let vector = 48 + 16 * r;
+    let vector = 48 + 16 * (r as usize);
     Cursor {
         left,
         next,
@@ -416,10 +414,10 @@ pub fn cover(knowledge: &[u8], other: &[u8], first: &[u8], last: &[u8]) -> Cover
             } => cover_in(
                 knowledge,
                 r as u32,
-                start(r, v, e, g),
+                start(r as u32, v as u32, e as u32, g as u32),
                 other,
                 m as u32,
-                start(m, w, d, h),
+                start(m as u32, w as u32, d as u32, h as u32),
                 first,
                 last,
             ),
@@ -427,4 +425,107 @@ pub fn cover(knowledge: &[u8], other: &[u8], first: &[u8], last: &[u8]) -> Cover
         },
         Checked::Refused(n) => Cover::Refused(n),
     }
+}
+
+// ---- range by range
+
+fn larger(a: u64, b: u64) -> u64
+    ensures { λ r. ⌜ r ≡ max a b ⌝ }
+{
+    if a < b {
+        return b;
+    }
+    a
+}
+
+// The largest tick of the elements of the vector at a place, and of what was met before.
+fn top_of(s: &[u8], vector: usize, before: u64) -> u64
+    ensures { λ t. ⌜ t ≡ topTick before (elementsHere (now (s .entry)) vector) ⌝ }
+{
+    let n = lookup::elements_at(s, vector);
+    if n == 0 {
+        return before;
+    }
+    let mut top = before;
+    let mut i: usize = 0;
+    let mut at = vector + 8;
+    while i < n {
+        top = larger(top, eight(s, at + 4));
+        at += 12;
+        i += 1;
+    }
+    top
+}
+
+// The largest tick of the ranges that a cursor has not passed.
+fn top_from(s: &[u8], r: u32, c: Cursor) -> u64
+    ensures { λ t. ⌜ t ≡ topOf (now (s .entry)) r c ⌝ }
+{
+    let mut left = c.left;
+    let mut next = c.next;
+    let mut index = c.index;
+    let mut vector = c.vector;
+    if s.len() < next {
+        return 0;
+    }
+    if s.len() - next < 28 * (left as usize) {
+        return 0;
+    }
+    let mut top: u64 = 0;
+    while 0 < left {
+        let n = four(s, next + 24) as u32;
+        let to = VectorIndex(n);
+        vector = lookup::vector_place(s, r, index, vector, to);
+        top = top_of(s, vector, top);
+        index = to;
+        next += 28;
+        left -= 1;
+    }
+    top
+}
+
+// The largest tick of a knowledge that was checked, with its sizes.
+pub fn largest_tick(s: &[u8], r: u32, v: u32, e: u32, g: u32) -> u64
+    ensures { λ t. ⌜ t ≡ largestIn (now (s .entry)) r v e g ⌝ }
+{
+    top_from(s, r, start(r, v, e, g))
+}
+
+// Is the tick of a key the given one in every range that a cursor has not passed.
+fn alike(s: &[u8], r: u32, key: ReplicaKey, own: u64, c: Cursor) -> bool
+    ensures { λ b. ⌜ b ≡ alikeOf (now (s .entry)) r key own c ⌝ }
+{
+    let mut left = c.left;
+    let mut next = c.next;
+    let mut index = c.index;
+    let mut vector = c.vector;
+    if s.len() < next {
+        return true;
+    }
+    if s.len() - next < 28 * (left as usize) {
+        return true;
+    }
+    while 0 < left {
+        let n = four(s, next + 24) as u32;
+        let to = VectorIndex(n);
+        vector = lookup::vector_place(s, r, index, vector, to);
+        if lookup::tick_at(s, vector, key) != own {
+            return false;
+        }
+        index = to;
+        next += 28;
+        left -= 1;
+    }
+    true
+}
+
+// Is the tick of the replica of two words alike in all ranges of a knowledge that was checked, with its sizes.
+pub fn own_alike(s: &[u8], r: u32, v: u32, e: u32, g: u32, p0: u64, p1: u64) -> bool
+    ensures { λ b. ⌜ b ≡ alikeIn (now (s .entry)) r v e g (words2 p0 p1) ⌝ }
+{
+    let from = start(r, v, e, g);
+    let key = lookup::key_of(s, r, p0, p1);
+    let first = lookup::advance(s, r, from, 0, 0, 0);
+    let own = lookup::tick_at(s, first.vector, key);
+    alike(s, r, key, own, from)
 }

@@ -19,14 +19,38 @@ enum-known-m c = omega arith
 cast-cover-in : tie.Need-cast-cover-in
 cast-cover-in c = omega (arith, accepted-small _ _ _ _ _ _ (record { below = λ i. omega (arith, c .before .before .before .before .before .before .before .before .before .before .before .shared-slice-known .given i) }) (c .before .before .before .before .before .before .before .check .ensures) (c .before .before .before .before .before .r .given .1))
 
+cast-start : tie.Need-cast-start
+cast-start c = omega (arith, accepted-small _ _ _ _ _ _ (record { below = λ i. omega (arith, c .before .before .before .before .before .before .before .before .before .before .before .shared-slice-known .given i) }) (c .before .before .before .before .before .before .before .check .ensures) (c .before .before .before .before .before .r .given .1))
+
+cast-start-2 : tie.Need-cast-start-2
+cast-start-2 c = omega (arith, accepted-small _ _ _ _ _ _ (record { below = λ i. omega (arith, c .before .before .before .before .before .before .before .before .before .before .before .shared-slice-known .given i) }) (c .before .before .before .before .before .before .before .check .ensures) (c .before .before .before .before .before .r .given .1))
+
+cast-start-3 : tie.Need-cast-start-3
+cast-start-3 c = omega (arith, accepted-small _ _ _ _ _ _ (record { below = λ i. omega (arith, c .before .before .before .before .before .before .before .before .before .before .before .shared-slice-known .given i) }) (c .before .before .before .before .before .before .before .check .ensures) (c .before .before .before .before .before .r .given .1))
+
+cast-start-4 : tie.Need-cast-start-4
+cast-start-4 c = omega (arith, accepted-small _ _ _ _ _ _ (record { below = λ i. omega (arith, c .before .before .before .before .before .before .before .before .before .before .before .shared-slice-known .given i) }) (c .before .before .before .before .before .before .before .check .ensures) (c .before .before .before .before .before .r .given .1))
+
 start-requires : tie.Need-start-requires
-start-requires c κs = accepted-small _ _ _ _ _ _ (record { below = λ i. omega (arith, c .before .before .before .before .before .before .before .before .before .before .before .shared-slice-known .given i) }) (c .before .before .before .before .before .before .before .check .ensures) (c .before .before .before .before .before .r .given .1)
+start-requires c κs = tt
 
 cast-cover-in-2 : tie.Need-cast-cover-in-2
 cast-cover-in-2 c = omega (arith, accepted-small _ _ _ _ _ _ (record { below = λ i. omega (arith, c .before .before .before .before .before .before .before .before .before .before .before .shared-slice-known2 .given i) }) (c .before .before .before .before .check2 .ensures) (c .before .before .m .given .1))
 
+cast-start-5 : tie.Need-cast-start-5
+cast-start-5 c = omega (arith, accepted-small _ _ _ _ _ _ (record { below = λ i. omega (arith, c .before .before .before .before .before .before .before .before .before .before .before .shared-slice-known2 .given i) }) (c .before .before .before .before .check2 .ensures) (c .before .before .m .given .1))
+
+cast-start-6 : tie.Need-cast-start-6
+cast-start-6 c = omega (arith, accepted-small _ _ _ _ _ _ (record { below = λ i. omega (arith, c .before .before .before .before .before .before .before .before .before .before .before .shared-slice-known2 .given i) }) (c .before .before .before .before .check2 .ensures) (c .before .before .m .given .1))
+
+cast-start-7 : tie.Need-cast-start-7
+cast-start-7 c = omega (arith, accepted-small _ _ _ _ _ _ (record { below = λ i. omega (arith, c .before .before .before .before .before .before .before .before .before .before .before .shared-slice-known2 .given i) }) (c .before .before .before .before .check2 .ensures) (c .before .before .m .given .1))
+
+cast-start-8 : tie.Need-cast-start-8
+cast-start-8 c = omega (arith, accepted-small _ _ _ _ _ _ (record { below = λ i. omega (arith, c .before .before .before .before .before .before .before .before .before .before .before .shared-slice-known2 .given i) }) (c .before .before .before .before .check2 .ensures) (c .before .before .m .given .1))
+
 start-requires-2 : tie.Need-start-requires-2
-start-requires-2 c κs = accepted-small _ _ _ _ _ _ (record { below = λ i. omega (arith, c .before .before .before .before .before .before .before .before .before .before .before .shared-slice-known2 .given i) }) (c .before .before .before .before .check2 .ensures) (c .before .before .m .given .1)
+start-requires-2 c κs = tt
 
 cover-in-requires : tie.Need-cover-in-requires
 cover-in-requires c κs = (accepted-starts _ _ _ _ _ _ _ (c .before .before .before .before .before .before .before .before .before .check .ensures) (c .before .before .before .before .before .before .before .r .given .1) (c .before .start .ensures), accepted-starts _ _ _ _ _ _ _ (c .before .before .before .before .before .check2 .ensures) (c .before .before .before .m .given .1) (c .start2 .ensures))
@@ -55,8 +79,16 @@ cover-spec =
     check-requires-2
     enum-known-m
     cast-cover-in
+    cast-start
+    cast-start-2
+    cast-start-3
+    cast-start-4
     start-requires
     cast-cover-in-2
+    cast-start-5
+    cast-start-6
+    cast-start-7
+    cast-start-8
     start-requires-2
     cover-in-requires
     enum-known-n

@@ -4,9 +4,6 @@ use native.Mathlib.Omega.{arith}
 use Rattle.rows.proofs.start.Statement.{statement}
 use Rattle.rows.proofs.start.Tie as tie
 
-cast-left : tie.Need-cast-left
-cast-left c = omega arith
-
 mul-next : tie.Need-mul-next
 mul-next c = omega arith
 
@@ -38,7 +35,6 @@ pub start-spec : {M : Type 1} → statement M
 start-spec =
     tie.close
     (tie.spec
-    cast-left
     mul-next
     add-next
     mul-next-2

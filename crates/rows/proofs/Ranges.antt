@@ -1,0 +1,219 @@
+-- The largest tick, and a tick alike in all ranges, range by range: the whole answer is the answer from here on. For bytes that the check
+-- accepts they are the defined ones (`largest-in`, `alike-in`): the vector's place is kept from range to range, so the elements are those
+-- of the range's vector.
+use Prim.Native.Nat.{ℕ, zero, suc, _+_, _-_, _*_, _≤_, _<_, max}
+use mathlib.Core.Path.{_≡_, refl, sym, ap, ap₂, _∙_, subst}
+use mathlib.Core.Bool.{Bool, true, false}
+use mathlib.Core.List.{List, [], _∷_}
+use native.Mathlib.Omega.{arith}
+use lib.Dec.{eqb}
+use lib.ListN.{length}
+use borrow.Author.Tests.{le-leb, lt-leb, eq-eqb, ne-eqb}
+use Rattle.codec.specs.Number.{Bytes, beAt}
+use Rattle.codec.specs.Words.{words3}
+use Rattle.layout.specs.declared.ReplicaKey.{ReplicaKey}
+use Rattle.layout.specs.declared.VectorIndex.{VectorIndex}
+use Rattle.layout.specs.Knowledge.{basic, Element, Range, Knowledge, All}
+use Rattle.layout.specs.Decode.{idsAt, elementsAt, rangesAt, decode}
+use Rattle.layout.specs.MethodPlaces.{idsPlace, vectorsPlace, rangesPlace, vectorPlace, valueAt}
+use Rattle.layout.proofs.Places.{Reading, places}
+use Rattle.ticks.specs.Meaning.{known, place, tickAt, vectorOf}
+use Rattle.ticks.specs.MethodLookup.{keyOf, firstIndex, tickIn}
+use Rattle.ticks.specs.MethodRows.{topTick, topFrom, alikeRows}
+use Rattle.ticks.specs.Operations.{largest, ownAlike}
+use Rattle.ticks.proofs.ForRows.{largest-rows, alike-rows, vectorBy, stands-known}
+use Rattle.lookup.specs.declared.Cursor.{Cursor}
+use Rattle.lookup.specs.Method.{keyAt, vectorFrom, startAt, advanced, elementsThere, There, tickOf}
+use Rattle.rows.specs.Method.{Starts, elementsHere, elementAt, indexThere, topBy, topOf, largestIn, alikeBy, alikeOf, alikeIn}
+use Rattle.lookup.proofs.Loops.{cursor, key-there}
+use Rattle.rows.proofs.Cells.{elements-cons, elements-zero, here-is}
+use Rattle.rows.proofs.Standing.{Coming, Standing, coming-start, standing-advanced, vector-from, vector-elements, first-place, first-indices, value, value-is, value-lawful, value-ids, ids-room, standing-stands, standing-elements}
+
+-- The largest tick
+
+module _ (s : List ℕ) (vector n before : ℕ) (t : There s vector n) where
+  pub top-nothing : n ≡ 0 → before ≡ topTick before (elementsHere s vector)
+  unfolding topTick
+  top-nothing e = sym (ap (topTick before) (here-is s 0 vector n [] [] t ∙ elements-zero s n (vector + 8) e))
+
+  pub top-begins : topTick before (elementsHere s vector) ≡ topTick before (elementsAt s (n - 0) (vector + 8))
+  top-begins =
+      let e : n ≡ n - 0 = omega arith in
+      ap (topTick before) (here-is s 0 vector n [] [] t ∙ ap (λ m. elementsAt s m (vector + 8)) e)
+
+module _ (s : List ℕ) (whole n i at top : ℕ) (inv : whole ≡ topTick top (elementsAt s (n - i) at)) where
+  pub top-next : (x y : ℕ) → x ≡ beAt s 8 (at + 4) → y ≡ max top x → i < n → whole ≡ topTick y (elementsAt s (n - (i + 1)) (at + 12))
+  unfolding topTick
+  top-next x y e f h =
+      let m : n - i - 1 ≡ n - (i + 1) = omega arith in
+      inv ∙ ap (topTick top) (elements-cons s (n - i) at (omega arith) ∙ ap (λ z. elementAt s at ∷ elementsAt s z (at + 12)) m)
+      ∙ ap (λ z. topTick z (elementsAt s (n - (i + 1)) (at + 12))) (sym (f ∙ ap (max top) e))
+
+  pub top-end : n ≤ i → top ≡ whole
+  unfolding topTick
+  top-end h = sym (inv ∙ ap (topTick top) (elements-zero s (n - i) at (omega arith)))
+
+module _ (s : List ℕ) (r : ℕ) (c : Cursor) where
+  pub tops-short : length s < c .next + 28 * c .left → 0 ≡ topOf s r c
+  unfolding topOf
+  tops-short h = sym (rw (lt-leb (c .next + 28 * c .left) (length s) h, topOf))
+
+  pub tops-there : (t : ℕ) → c .next + 28 * c .left ≤ length s → t ≡ topBy s r (c .left) (c .next) (c .index) (c .vector) 0 → t ≡ topOf s r c
+  unfolding topOf
+  tops-there t h e = e ∙ sym (rw (le-leb (c .next + 28 * c .left) (length s) h, topOf))
+
+  module _ (key : ReplicaKey) (own : ℕ) where
+    pub alike-short : length s < c .next + 28 * c .left → true ≡ alikeOf s r key own c
+    unfolding alikeOf
+    alike-short h = sym (rw (lt-leb (c .next + 28 * c .left) (length s) h, alikeOf))
+
+    pub alike-there : (b : Bool) → c .next + 28 * c .left ≤ length s
+        → b ≡ alikeBy s r key own (c .left) (c .next) (c .index) (c .vector) → b ≡ alikeOf s r key own c
+    unfolding alikeOf
+    alike-there b h e = e ∙ sym (rw (le-leb (c .next + 28 * c .left) (length s) h, alikeOf))
+
+module _ (s : List ℕ) (r whole left next : ℕ) (index : VectorIndex) (vector top : ℕ) (inv : whole ≡ topBy s r left next index vector top) where
+  pub tops-next : (n at t : ℕ) → n ≡ beAt s 4 (next + 24) → at ≡ vectorFrom s r index vector (record { 0 = n })
+      → t ≡ topTick top (elementsHere s at) → 0 < left → whole ≡ topBy s r (left - 1) (next + 28) (record { 0 = n }) at t
+  unfolding topBy indexThere
+  tops-next n at t e f g h =
+      let z : left ≡ suc (left - 1) = omega arith in
+      inv ∙ ap (λ m. topBy s r m next index vector top) z ∙ rw (g, f, e) refl
+
+  pub tops-end : left ≤ 0 → top ≡ whole
+  unfolding topBy
+  tops-end h = let z : left ≡ 0 = omega arith in sym (inv ∙ ap (λ m. topBy s r m next index vector top) z)
+
+-- the second, only where the first holds
+unfoldable only : Bool → Bool → Bool
+only b z = elim b [ true ↦ z | false ↦ false ]
+
+module _ (s : List ℕ) (r : ℕ) (key : ReplicaKey) (own : ℕ) (whole : Bool) (left next : ℕ) (index : VectorIndex) (vector : ℕ)
+    (inv : whole ≡ alikeBy s r key own left next index vector) (n at t : ℕ) (e : n ≡ beAt s 4 (next + 24))
+    (f : at ≡ vectorFrom s r index vector (record { 0 = n })) (g : t ≡ tickOf s at key) (h : 0 < left) where
+  there : at ≡ vectorFrom s r index vector (indexThere s next)
+  unfolding indexThere
+  there = f ∙ ap (λ m. vectorFrom s r index vector (record { 0 = m })) e
+
+  opened : (m : ℕ) → alikeBy s r key own (suc m) next index vector
+      ≡ only (eqb (tickOf s (vectorFrom s r index vector (indexThere s next)) key) own)
+      (alikeBy s r key own m (next + 28) (indexThere s next) (vectorFrom s r index vector (indexThere s next)))
+  unfolding alikeBy only
+  opened m = refl
+
+  step : whole ≡ only (eqb t own) (alikeBy s r key own (left - 1) (next + 28) (record { 0 = n }) at)
+  unfolding indexThere
+  step =
+      let z : left ≡ suc (left - 1) = omega arith in
+      let same-tick : tickOf s (vectorFrom s r index vector (indexThere s next)) key ≡ t = sym (g ∙ ap (λ a. tickOf s a key) there) in
+      let same-index : indexThere s next ≡ record { 0 = n } = ap (λ m. record { 0 = m }) (sym e) in
+      inv ∙ ap (λ m. alikeBy s r key own m next index vector) z ∙ opened (left - 1)
+      ∙ ap₂ only (ap (λ x. eqb x own) same-tick)
+      (ap₂ (λ (y : VectorIndex) (a : ℕ). alikeBy s r key own (left - 1) (next + 28) y a) same-index (sym there))
+
+  pub alike-next : t ≡ own → whole ≡ alikeBy s r key own (left - 1) (next + 28) (record { 0 = n }) at
+  unfolding only
+  alike-next k = step ∙ rw (eq-eqb t own k, only) refl
+
+  pub alike-stop : (t ≡ own → ⊥) → false ≡ whole
+  unfolding only
+  alike-stop k = sym (step ∙ rw (ne-eqb t own k, only) refl)
+
+pub alike-end : (s : List ℕ) (r : ℕ) (key : ReplicaKey) (own : ℕ) (whole : Bool) (left next : ℕ) (index : VectorIndex) (vector : ℕ)
+    → whole ≡ alikeBy s r key own left next index vector → left ≤ 0 → true ≡ whole
+unfolding alikeBy
+alike-end s r key own whole left next index vector inv h =
+    let z : left ≡ 0 = omega arith in
+    sym (inv ∙ ap (λ m. alikeBy s r key own m next index vector) z)
+
+pub largest-is : (s : List ℕ) (r v e g : ℕ) (c : Cursor) (t : ℕ) → c ≡ startAt r v e g → t ≡ topOf s r c → t ≡ largestIn s r v e g
+unfolding largestIn
+largest-is s r v e g c t h k = k ∙ ap (topOf s r) h
+
+pub alike-is : (s : List ℕ) (r v e g p : ℕ) (c d : Cursor) (key : ReplicaKey) (own : ℕ) (b : Bool) → c ≡ startAt r v e g → key ≡ keyAt s r p
+    → d ≡ advanced s r c (words3 0 0 0) → own ≡ tickOf s (d .vector) key → b ≡ alikeOf s r key own c → b ≡ alikeIn s r v e g p
+unfolding alikeIn words3
+alike-is s r v e g p c d key own b h k l m n = n ∙ rw (m, l, k, h) refl
+
+-- Accepted bytes
+
+module _ (s : List ℕ) (r v e g : ℕ) (h : Reading basic s r v e g) where
+  abbrev k : Knowledge
+  k = valueAt s r v e g
+
+  -- the elements of the next range are its vector's
+  next-elements : (index : VectorIndex) (vector : ℕ) (to : VectorIndex) → index .0 < v → to .0 < v → vector ≡ vectorPlace s r (index .0)
+      → (vectorFrom s r index vector to ≡ vectorPlace s r (to .0)) × (elementsHere s (vectorFrom s r index vector to) ≡ vectorOf k (to .0))
+  next-elements index vector to a b p =
+      let q = places basic s r v e g h in
+      let w = vector-from s r v index to vector a b (omega (arith, q .afterVectors, q .whole)) p in
+      (w, ap (elementsHere s) w ∙ vector-elements s r v e g h (to .0) b)
+
+  top-by : (n next : ℕ) (index : VectorIndex) (vector top : ℕ) → index .0 < v → vector ≡ vectorPlace s r (index .0)
+      → All (λ x. x .index .0 < v) (rangesAt s n next)
+      → topBy s r n next index vector top ≡ topFrom (λ y. vectorOf k (y .0)) top (rangesAt s n next)
+  unfolding topBy topFrom rangesAt indexThere
+  top-by zero next index vector top a p all = refl
+  top-by (suc n) next index vector top a p all =
+      let to : VectorIndex = record { 0 = beAt s 4 (next + 24) } in
+      let w = next-elements index vector to a (all .0) p in
+      top-by n (next + 28) to (vectorFrom s r index vector to) (topTick top (elementsHere s (vectorFrom s r index vector to))) (all .0) (w .0) (all .1)
+      ∙ ap (λ es. topFrom (λ y. vectorOf k (y .0)) (topTick top es) (rangesAt s n (next + 28))) (w .1)
+
+  alike-by : (key : ReplicaKey) (own n next : ℕ) (index : VectorIndex) (vector : ℕ) → index .0 < v → vector ≡ vectorPlace s r (index .0)
+      → All (λ x. x .index .0 < v) (rangesAt s n next)
+      → alikeBy s r key own n next index vector ≡ alikeRows (λ y. vectorOf k (y .0)) key own (rangesAt s n next)
+  unfolding alikeBy alikeRows rangesAt indexThere tickOf elementsHere
+  alike-by key own zero next index vector a p all = refl
+  alike-by key own (suc n) next index vector a p all =
+      let to : VectorIndex = record { 0 = beAt s 4 (next + 24) } in
+      let w = next-elements index vector to a (all .0) p in
+      ap₂ (λ (es : List Element) (z : Bool). elim (eqb (tickAt es (key .0)) own) [ true ↦ z | false ↦ false ]) (w .1)
+      (alike-by key own n (next + 28) to (vectorFrom s r index vector to) (all .0) (w .0) (all .1))
+
+  starts : Starts s r (startAt r v e g)
+  starts = record { v = v; e = e; g = g; accepts = h .accepts; start = refl }
+
+  coming : Coming s r (startAt r v e g) 0
+  coming = coming-start s r (startAt r v e g) (h .bytes) starts
+
+  abbrev ranges : List Range
+  ranges = rangesAt s g (rangesPlace r v e)
+
+  -- the largest tick
+  pub largest-in : largestIn s r v e g ≡ largest (decode s)
+  unfolding largestIn startAt valueAt
+  largest-in =
+      let p = places basic s r v e g h in
+      sym (tops-there s r (startAt r v e g) (topBy s r g (rangesPlace r v e) firstIndex (vectorsPlace r) 0) (omega (arith, p .whole)) refl)
+      ∙ top-by g (rangesPlace r v e) firstIndex (vectorsPlace r) 0 (p .someVector) (first-place s r v e g h) (first-indices s r v e g h)
+      ∙ sym (ap largest (p .value) ∙ largest-rows basic k (p .lawful))
+
+  -- the tick at item 0: the cursor that was moved there stands at the first range with that bound, or before all
+  own-tick : (p : ℕ) → tickOf s (advanced s r (startAt r v e g) 0 .vector) (keyOf (idsAt s r idsPlace) p) ≡ known k 0 p
+  unfolding tickOf elementsHere tickIn keyOf
+  own-tick p =
+      let d = advanced s r (startAt r v e g) 0 in
+      let st = standing-advanced s r (startAt r v e g) 0 0 coming (omega arith) in
+      ap (λ es. tickAt es (place p (idsAt s r idsPlace))) (standing-elements s r d 0 st)
+      ∙ ap (λ ids. tickAt (vectorOf (value s r d 0 st) (d .index .0)) (place p ids)) (sym (value-ids s r d 0 st))
+      ∙ sym (stands-known basic (value s r d 0 st) (value-lawful s r d 0 st) 0 (d .index) (rangesAt s (d .left) (d .next)) (standing-stands s r d 0 st) p)
+      ∙ ap (λ z. known z 0 p) (sym (value-is s r d 0 st) ∙ places basic s r v e g h .value)
+
+  -- a tick alike in all ranges
+  pub alike-in : (p : ℕ) → alikeIn s r v e g p ≡ ownAlike p (decode s)
+  unfolding alikeIn startAt valueAt tickOf keyOf tickIn
+  alike-in p =
+      let q = places basic s r v e g h in
+      let d = advanced s r (startAt r v e g) 0 in
+      let key : keyAt s r p ≡ keyOf (idsAt s r idsPlace) p =
+      sym (key-there s r p (keyOf (idsAt s r idsPlace) p) (omega (arith, q .whole)) refl) in
+      let own : tickOf s (d .vector) (keyAt s r p) ≡ known k 0 p =
+      ap (tickOf s (d .vector)) key ∙ own-tick p in
+      sym (alike-there s r (startAt r v e g) (keyAt s r p) (tickOf s (d .vector) (keyAt s r p))
+      (alikeBy s r (keyAt s r p) (tickOf s (d .vector) (keyAt s r p)) g (rangesPlace r v e) firstIndex (vectorsPlace r))
+      (omega (arith, q .whole)) refl)
+      ∙ ap₂ (λ (x : ReplicaKey) (y : ℕ). alikeBy s r x y g (rangesPlace r v e) firstIndex (vectorsPlace r)) key own
+      ∙ alike-by (keyOf (idsAt s r idsPlace) p) (known k 0 p) g (rangesPlace r v e) firstIndex (vectorsPlace r) (q .someVector)
+      (first-place s r v e g h) (first-indices s r v e g h)
+      ∙ sym (ap (ownAlike p) (q .value) ∙ alike-rows basic k (q .lawful) p)
