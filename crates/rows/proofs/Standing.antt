@@ -10,6 +10,7 @@ use borrow.Author.Tests.{lt-ltb, le-ltb, le-leb}
 use Rattle.codec.specs.Number.{Bytes, beAt}
 use Rattle.layout.specs.declared.VectorIndex.{VectorIndex}
 use Rattle.layout.specs.Knowledge.{basic, Range, Knowledge, All, Lawful}
+use Rattle.layout.specs.Permitted.{largestReplicas}
 use Rattle.layout.specs.Decode.{idsAt, elementsAt, afterVectors, rangesAt, decode}
 use Rattle.layout.specs.MethodPlaces.{idsPlace, vectorsPlace, rangesPlace, vectorPlace, countAt, valueAt}
 use Rattle.layout.proofs.Exact.{base-permitted}
@@ -167,8 +168,8 @@ coming-start s r c b h =
     })
 
 -- its replicas have room in a row of the largest size
-pub coming-replicas : (s : List ℕ) (r : ℕ) (c : Cursor) (i : ℕ) → Coming s r c i → r ≤ 16
-coming-replicas s r c i h = places basic s r (h .v) (h .e) (h .g) (h .reading) .replicas
+pub coming-replicas : (s : List ℕ) (r : ℕ) (c : Cursor) (i : ℕ) → Coming s r c i → r ≤ largestReplicas
+coming-replicas s r c i h = omega (arith, places basic s r (h .v) (h .e) (h .g) (h .reading) .replicas)
 
 module _ (s : List ℕ) (r : ℕ) (c : Cursor) (i j : ℕ) (h : Coming s r c i) (l : i ≤ j) where
   abbrev d : Cursor

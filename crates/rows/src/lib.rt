@@ -29,8 +29,8 @@ ghost use Rattle.ticks.specs.Operations.{lacking};
 // the place of the replica ids
 const IDS: usize = 27;
 
-// a row has a cell for each key that a clock vector may have
-const CELLS: usize = layout::LARGEST_REPLICAS as usize;
+// a row has a cell for each key that a clock vector may have, and one for the key of no replica
+const CELLS: usize = layout::LARGEST_REPLICAS as usize + 1;
 
 // The least replica id that was met, as two words.
 pub enum Least {
