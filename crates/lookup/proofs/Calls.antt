@@ -41,11 +41,14 @@ use Rattle.lookup.proofs.Leaf.{Stands, stands-start, stands-tick, known
 
 -- Opening
 
-pub opened-at : (c : Checked) (r v e g : ℕ) → c ≡ A.Accepted r v e g
-    → O.At (inFour r) (cursor (inFour g) (rangesPlace (inFour r) (inFour v) (inFour e)) firstIndex (vectorsPlace (inFour r)))
-    ≡ openOf c
-unfolding openOf startAt
-opened-at c r v e g is = sym (ap openOf is)
+pub start-is : (r v e g : ℕ) → cursor g (rangesPlace r v e) firstIndex (vectorsPlace r) ≡ startAt r v e g
+unfolding startAt
+start-is r v e g = refl
+
+pub opened-at : (k : Checked) (r v e g : ℕ) (c : Cursor) → k ≡ A.Accepted r v e g
+    → c ≡ startAt (inFour r) (inFour v) (inFour e) (inFour g) → O.At (inFour r) c ≡ openOf k
+unfolding openOf
+opened-at k r v e g c is from = ap (O.At (inFour r)) from ∙ sym (ap openOf is)
 
 pub opened-refused : (c : Checked) (n : ℕ) → c ≡ A.Refused n → O.Refused n ≡ openOf c
 unfolding openOf

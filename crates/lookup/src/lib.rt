@@ -18,10 +18,14 @@ ghost use Rattle.codec.specs.Words.{words2, words3};
 ghost use Rattle.layout.specs.Knowledge.{basic};
 ghost use Rattle.layout.specs.Parse.{checkedBy};
 ghost use Rattle.ticks.specs.Calls.{containAnswer, leadAnswer};
-ghost use Rattle.lookup.specs.Method.{keyAt, stepped, vectorFrom, passed, advanced, There, tickOf, tickFrom, openOf, Opens, Known};
+ghost use Rattle.lookup.specs.Method.{keyAt, stepped, vectorFrom, passed, advanced, There, tickOf, tickFrom, startAt, openOf, Opens, Known};
 
-// the place of the replica ids
+// the places of the replica ids, of the vectors where there is no replica, and of the ranges where there is nothing else
 const IDS: usize = 27;
+
+const VECTORS: usize = 48;
+
+const RANGES: usize = 64;
 
 // A place among the ranges of a knowledge, for items in rising order: it only moves forward.
 pub struct Cursor {
@@ -128,7 +132,7 @@ pub fn vector_place(s: &[u8], r: u32, from: VectorIndex, at: usize, to: VectorIn
     if from.0 <= to.0 {
         return step_over(s, to.0 - from.0, at);
     }
-    step_over(s, to.0, 48 + 16 * (r as usize))
+    step_over(s, to.0, VECTORS + 16 * (r as usize))
 }
 
 // ---- the range of an item
@@ -253,24 +257,36 @@ pub fn known_tick(s: &[u8], r: u32, c: Cursor, i0: u64, i1: u64, i2: u64, p0: u6
 
 // ---- from the check
 
+// The cursor before any range, from the sizes of a knowledge.
+pub fn start(r: u32, v: u32, e: u32, g: u32) -> Cursor
+    ensures { λ c. ⌜ c ≡ startAt r v e g ⌝ }
+{
+    let left = g;
+    let next = RANGES + 16 * (r as usize) + 8 * (v as usize) + 12 * (e as usize);
+    let index = VectorIndex(0);
+    let vector = VECTORS + 16 * (r as usize);
+    Cursor {
+        left,
+        next,
+        index,
+        vector,
+    }
+}
+
 // What the check answered, for lookup. Counts are numbers of four bytes, and those of an accepted knowledge always fit.
 pub fn from_check(c: Checked) -> Opened
     ensures { λ r. ⌜ r ≡ openOf c ⌝ }
 {
     match c {
         Checked::Accepted { r, v, e, g } => {
-            let next = 64 + 16 * (r % 4294967296) + 8 * (v % 4294967296) + 12 * (e % 4294967296);
-            let vector = 48 + 16 * (r % 4294967296);
             let r = (r % 4294967296) as u32;
-            let left = (g % 4294967296) as u32;
-            let index = VectorIndex(0);
-            let start = Cursor {
-                left,
-                next,
-                index,
-                vector,
-            };
-            Opened::At { r, start }
+            let v = (v % 4294967296) as u32;
+            let e = (e % 4294967296) as u32;
+            let g = (g % 4294967296) as u32;
+            Opened::At {
+                r,
+                start: start(r, v, e, g),
+            }
         }
         Checked::Refused(n) => Opened::Refused(n),
     }

@@ -303,7 +303,3 @@ module _ (a b : Stop) where
       pub nearer-not : t ≡ false → stopAt (N.At x y z) ≡ nearerOf (stopAt a) (stopAt b)
       unfolding stopAt nearerOf
       nearer-not h = rw (e, f) (sym (rw (stopAt, nearerOf, sym g ∙ h) refl))
-
-pub start-is : (r v e g : ℕ) → cursor g (64 + 16 * r + 8 * v + 12 * e) (record { 0 = 0 }) (48 + 16 * r) ≡ startAt r v e g
-unfolding startAt
-start-is r v e g = refl

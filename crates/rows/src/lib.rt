@@ -275,22 +275,6 @@ fn least_lacking(t: &[u8], vector: usize, keys: &[u32], row: &[u64]) -> Least
 
 // ---- cover
 
-// The cursor that has passed no range, from the sizes of a knowledge.
-fn start(r: u32, v: u32, e: u32, g: u32) -> Cursor
-    ensures { λ c. ⌜ c ≡ startAt r v e g ⌝ }
-{
-    let left = g;
-    let next = 64 + 16 * (r as usize) + 8 * (v as usize) + 12 * (e as usize);
-    let index = VectorIndex(0);
-    let vector = 48 + 16 * (r as usize);
-    Cursor {
-        left,
-        next,
-        index,
-        vector,
-    }
-}
-
 // The first place of a span where the knowledge of s knows less than that of t, with a key among those of s for each of t, and a row that is
 // clear. Item by item: at the first one, and at each bound of either up to the last.
 fn walk(
@@ -414,10 +398,10 @@ pub fn cover(knowledge: &[u8], other: &[u8], first: &[u8], last: &[u8]) -> Cover
             } => cover_in(
                 knowledge,
                 r as u32,
-                start(r as u32, v as u32, e as u32, g as u32),
+                lookup::start(r as u32, v as u32, e as u32, g as u32),
                 other,
                 m as u32,
-                start(m as u32, w as u32, d as u32, h as u32),
+                lookup::start(m as u32, w as u32, d as u32, h as u32),
                 first,
                 last,
             ),
@@ -488,7 +472,7 @@ fn top_from(s: &[u8], r: u32, c: Cursor) -> u64
 pub fn largest_tick(s: &[u8], r: u32, v: u32, e: u32, g: u32) -> u64
     ensures { λ t. ⌜ t ≡ largestIn (now (s .entry)) r v e g ⌝ }
 {
-    top_from(s, r, start(r, v, e, g))
+    top_from(s, r, lookup::start(r, v, e, g))
 }
 
 // Is the tick of a key the given one in every range that a cursor has not passed.
@@ -523,7 +507,7 @@ fn alike(s: &[u8], r: u32, key: ReplicaKey, own: u64, c: Cursor) -> bool
 pub fn own_alike(s: &[u8], r: u32, v: u32, e: u32, g: u32, p0: u64, p1: u64) -> bool
     ensures { λ b. ⌜ b ≡ alikeIn (now (s .entry)) r v e g (words2 p0 p1) ⌝ }
 {
-    let from = start(r, v, e, g);
+    let from = lookup::start(r, v, e, g);
     let key = lookup::key_of(s, r, p0, p1);
     let first = lookup::advance(s, r, from, 0, 0, 0);
     let own = lookup::tick_at(s, first.vector, key);

@@ -1,8 +1,8 @@
--- `rows::start` meets its contract: the places are those that the sizes give.
-use Rattle.rows.proofs.Cells.{start-is}
+-- `lookup::start` meets its contract: the places are those that the sizes give.
+use Rattle.lookup.proofs.Calls.{start-is}
 use native.Mathlib.Omega.{arith}
-use Rattle.rows.proofs.start.Statement.{statement}
-use Rattle.rows.proofs.start.Tie as tie
+use Rattle.lookup.proofs.start.Statement.{statement}
+use Rattle.lookup.proofs.start.Tie as tie
 
 mul-next : tie.Need-mul-next
 mul-next c = omega arith
