@@ -6,7 +6,8 @@ use mathlib.Core.Bool.{Bool, true, false}
 use mathlib.Core.List.{List}
 use native.Mathlib.Omega.{arith}
 use lib.Dec.{ltb}
-use lib.ListN.{length, getD, replicate}
+use lib.ListN.{length, getD, replicate, take, length-take}
+use lib.Seq.{getD-take}
 use borrow.Author.Tests.{ltb-true, ltb-false}
 use Rattle.codec.specs.Number.{Bytes, beAt}
 use Rattle.codec.specs.Words.{words3}
@@ -29,7 +30,7 @@ use Rattle.ticks.proofs.ForRows.{cover-refuses-first, cover-refuses-second, cov
 use Rattle.rows.specs.declared.Cursor.{Cursor}
 use Rattle.rows.specs.declared.Place.{Place}
 use Rattle.rows.specs.declared.Place.the-variants as O
-use Rattle.rows.specs.Method.{startAt, Starts, Zeros, lackOf}
+use Rattle.rows.specs.Method.{Keyed, startAt, Starts, Zeros, lackOf}
 
 -- Scratch
 
@@ -40,6 +41,16 @@ zero-at (suc n) (suc c) = zero-at n c
 
 pub zeros : (n : ℕ) → Zeros (replicate {A = ℕ} n 0)
 zeros n = record { is = zero-at n }
+
+-- the keys that are looked for, and no more
+pub keyed-length : (s : List ℕ) (r : ℕ) (t : List ℕ) (m : ℕ) (keys : List ℕ) → Keyed s r t m keys → m ≡ length (take m keys)
+keyed-length s r t m keys h = omega (arith, length-take m keys, h .size)
+
+pub keyed-part : (s : List ℕ) (r : ℕ) (t : List ℕ) (m : ℕ) (keys : List ℕ) → Keyed s r t m keys → Keyed s r t m (take m keys)
+keyed-part s r t m keys h = record {
+  is = λ k l. getD-take m keys k 0 l ∙ h .is k l;
+  size = omega (arith, length-take m keys, h .size);
+}
 
 -- The ids of a span
 
