@@ -6,7 +6,8 @@ use mathlib.Core.Bool.{Bool, true, false}
 use mathlib.Core.List.{List}
 use native.Mathlib.Omega.{arith}
 use lib.Dec.{ltb}
-use lib.ListN.{length, getD, replicate}
+use lib.ListN.{length, getD, replicate, take, length-take}
+use lib.Seq.{getD-take}
 use borrow.Author.Tests.{ltb-true, ltb-false}
 use Rattle.codec.specs.Number.{Bytes, beAt}
 use Rattle.codec.specs.Words.{words3}
@@ -14,7 +15,7 @@ use Rattle.codec.proofs.Order.{words3-be}
 use Rattle.layout.specs.declared.Checked.{Checked}
 use Rattle.layout.specs.declared.Checked.the-variants.{Accepted, Refused}
 use Rattle.layout.specs.Knowledge.{basic}
-use Rattle.layout.specs.Permitted.{mostCount}
+use Rattle.layout.specs.Permitted.{largestReplicas, mostCount}
 use Rattle.layout.specs.Decode.{decode}
 use Rattle.layout.specs.Parse.{checkedBy}
 use Rattle.layout.specs.MethodPlaces.{idsPlace, wholeLength}
@@ -30,7 +31,7 @@ use Rattle.lookup.specs.declared.Cursor.{Cursor}
 use Rattle.rows.specs.declared.Place.{Place}
 use Rattle.rows.specs.declared.Place.the-variants as O
 use Rattle.lookup.specs.Method.{startAt}
-use Rattle.rows.specs.Method.{Starts, Zeros, lackOf}
+use Rattle.rows.specs.Method.{Keyed, Starts, Zeros, lackOf}
 
 -- Scratch
 
@@ -41,6 +42,16 @@ zero-at (suc n) (suc c) = zero-at n c
 
 pub zeros : (n : ℕ) → Zeros (replicate {A = ℕ} n 0)
 zeros n = record { is = zero-at n }
+
+-- the keys that are looked for, and no more
+pub keyed-length : (s : List ℕ) (r : ℕ) (t : List ℕ) (m : ℕ) (keys : List ℕ) → Keyed s r t m keys → m ≡ length (take m keys)
+keyed-length s r t m keys h = omega (arith, length-take m keys, h .size)
+
+pub keyed-part : (s : List ℕ) (r : ℕ) (t : List ℕ) (m : ℕ) (keys : List ℕ) → Keyed s r t m keys → Keyed s r t m (take m keys)
+keyed-part s r t m keys h = record {
+  is = λ k l. getD-take m keys k 0 l ∙ h .is k l;
+  size = omega (arith, length-take m keys, h .size);
+}
 
 -- The ids of a span
 
@@ -60,10 +71,10 @@ pub accepted-starts : (s : List ℕ) (c : Checked) (r v e g : ℕ) (x : Cursor) 
     → Starts s r x
 accepted-starts s c r v e g x h k l = record { v = v; e = e; g = g; accepts = sym h ∙ k; start = l }
 
-pub starts-room : (s : List ℕ) (r : ℕ) (c : Cursor) → Bytes s → Starts s r c → (idsPlace + 16 * r ≤ length s) × (r ≤ 16)
+pub starts-room : (s : List ℕ) (r : ℕ) (c : Cursor) → Bytes s → Starts s r c → (idsPlace + 16 * r ≤ length s) × (r ≤ largestReplicas)
 starts-room s r c b h =
     let p = places basic s r (h .v) (h .e) (h .g) (reading s r (h .v) (h .e) (h .g) b (h .accepts)) in
-    (omega (arith, p .whole), p .replicas)
+    (omega (arith, p .whole), omega (arith, p .replicas))
 
 -- The ways that the call goes
 

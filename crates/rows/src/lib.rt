@@ -351,7 +351,7 @@ fn lacking(
         eight(last, 0),
         eight(last, 8),
         eight(last, 16),
-        &keys,
+        &keys[..m as usize],
         &mut row,
     )
 }
