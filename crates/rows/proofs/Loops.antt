@@ -1,6 +1,6 @@
--- The loops that look for keys, vectors and ranges. The laws of each have the same form: the whole answer is the answer from here on, counting what is left;
--- the loop ends where the answer is found or nothing is left, and else one thing less is left. Beside them, what the functions
--- with no loop return.
+-- The loops that look for keys, vectors and ranges. The laws of each have the same form: the whole answer is the answer
+-- from here on, counting what is left; the loop ends where the answer is found or nothing is left, and else one thing less
+-- is left. Beside them, what the functions with no loop return.
 use Prim.Native.Nat.{ℕ, zero, suc, _+_, _-_, _*_, _^_, _≤_, _<_}
 use mathlib.Core.Path.{_≡_, refl, sym, ap, ap₂, _∙_}
 use mathlib.Core.Bool.{Bool, true, false}

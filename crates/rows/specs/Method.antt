@@ -1,6 +1,6 @@
--- The method of the rows, by places, for any bytes: nothing here is to be believed. The laws show that for bytes that the check accepts
--- cover answers as defined. A thing that is not all there is not read: a vector without its bytes is stepped over no further and has no
--- elements, and ranges that are not all there are not passed.
+-- The method of the rows, by places, for any bytes: nothing here is to be believed. The laws show that for bytes that the
+-- check accepts cover answers as defined. A thing that is not all there is not read: a vector without its bytes is stepped
+-- over no further and has no elements, and ranges that are not all there are not passed.
 use Rattle.codec.specs.Prelude.{ℕ, zero, suc, _+_, _-_, _*_, _≤_, _<_, _≡_, Bool, true, false, max, eqb, Option, none, some, List, ltb, leb, length, getD}
 use Rattle.codec.specs.Number.{beAt}
 use Rattle.codec.specs.Total.{readAt}
@@ -42,7 +42,8 @@ unfoldable pub stepped : List ℕ → ℕ → ℕ → ℕ
 stepped s zero at = at
 stepped s (suc n) at = elim (leb (at + 8) (length s)) [ true ↦ stepped s n (at + 8 + 12 * countAt s at) | false ↦ at ]
 
--- the place of the vector of an index, from another one, whose place is known: onwards from there, or else from the first one on
+-- the place of the vector of an index, from another one, whose place is known: onwards from there, or else from the first
+-- one on
 unfoldable pub vectorFrom : List ℕ → ℕ → VectorIndex → ℕ → VectorIndex → ℕ
 vectorFrom s r from at to =
     elim (leb (from .0) (to .0)) [ true ↦ stepped s (to .0 - from .0) at | false ↦ stepped s (to .0) (vectorsPlace r) ]
