@@ -1,5 +1,5 @@
--- Cover from the check's answer on: the sizes fit the numbers that code keeps them in, the ids of a span are three words each, and each
--- way that the call goes has its equation.
+-- Cover from the check's answer on: the sizes fit the numbers that code keeps them in, the ids of a span are three words
+-- each, and each way that the call goes has its equation.
 use Prim.Native.Nat.{ℕ, zero, suc, _+_, _*_, _≤_, _<_}
 use mathlib.Core.Path.{_≡_, refl, sym, ap, ap₂, _∙_}
 use mathlib.Core.Bool.{Bool, true, false}
@@ -67,7 +67,8 @@ pub accepted-small : (s : List ℕ) (c : Checked) (r v e g : ℕ) → Bytes s �
     → wholeLength r v e g ≤ mostCount
 accepted-small s c r v e g b h k = let p = places basic s r v e g (reading s r v e g b (sym h ∙ k)) in omega (arith, p .whole, p .small)
 
-pub accepted-starts : (s : List ℕ) (c : Checked) (r v e g : ℕ) (x : Cursor) → c ≡ checkedBy basic s → c ≡ Accepted r v e g → x ≡ startAt r v e g
+pub accepted-starts : (s : List ℕ) (c : Checked) (r v e g : ℕ) (x : Cursor) → c ≡ checkedBy basic s → c ≡ Accepted r v e g
+    → x ≡ startAt r v e g
     → Starts s r x
 accepted-starts s c r v e g x h k l = record { v = v; e = e; g = g; accepts = sym h ∙ k; start = l }
 
@@ -83,7 +84,8 @@ module _ (s t first last : List ℕ) where
   cover-first c n h k =
       sym (cover-refuses-first basic s t first last n (record { permitted = base-permitted; refuses = sym h ∙ k }))
 
-  pub cover-second : (c d : Checked) (r v e g n : ℕ) → Bytes s → c ≡ checkedBy basic s → c ≡ Accepted r v e g → d ≡ checkedBy basic t
+  pub cover-second : (c d : Checked) (r v e g n : ℕ) → Bytes s → c ≡ checkedBy basic s → c ≡ Accepted r v e g
+      → d ≡ checkedBy basic t
       → d ≡ Refused n → E.Refused n ≡ coverAnswer basic s t first last
   cover-second c d r v e g n b h k i j =
       sym (cover-refuses-second basic s t first last r v e g (reading s r v e g b (sym h ∙ k)) n

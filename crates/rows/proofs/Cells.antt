@@ -1,6 +1,6 @@
--- Rows of ticks, and what lacks at an item. A row is cleared and then filled from the last element to the first, so that the first
--- element of a key stays. The elements of the other knowledge's vector are weighed one after the other: the whole answer is the answer
--- from here on. Beside these, what the functions with no loop return.
+-- Rows of ticks, and what lacks at an item. A row is cleared and then filled from the last element to the first, so that
+-- the first element of a key stays. The elements of the other knowledge's vector are weighed one after the other: the whole
+-- answer is the answer from here on. Beside these, what the functions with no loop return.
 use Prim.Native.Nat.{ℕ, zero, suc, _+_, _-_, _*_, _≤_, _<_}
 use mathlib.Core.Path.{_≡_, refl, sym, ap, ap₂, _∙_}
 use mathlib.Core.Logic.{inl, inr}
@@ -93,7 +93,8 @@ module _ (s : List ℕ) (before vector n : ℕ) (row₀ row : List ℕ) (t : The
     size = b .size;
   }
 
-  pub filled-all : (left at : ℕ) → RowOf (elementsAt s (n - left) at) row → at ≡ vector + 8 + 12 * left → left ≡ 0 → length row ≡ length row₀
+  pub filled-all : (left at : ℕ) → RowOf (elementsAt s (n - left) at) row → at ≡ vector + 8 + 12 * left → left ≡ 0
+      → length row ≡ length row₀
       → Filled s before vector row₀ row
   filled-all left at r p z e =
       let m : n - left ≡ n = omega arith in
@@ -110,10 +111,12 @@ module _ (s : List ℕ) (n left at prev : ℕ) (row : List ℕ) (key : ℕ) (r :
       let m : n - (left - 1) - 1 ≡ n - left = omega arith in
       elements-cons s (n - (left - 1)) prev (omega arith) ∙ ap₂ (λ x y. elementAt s prev ∷ elementsAt s x y) m q
 
-  row-set : (tick : ℕ) → tick ≡ beAt s 8 (prev + 4) → key < length row → RowOf (elementsAt s (n - (left - 1)) prev) (set row key tick)
+  row-set : (tick : ℕ) → tick ≡ beAt s 8 (prev + 4) → key < length row
+      → RowOf (elementsAt s (n - (left - 1)) prev) (set row key tick)
   row-set tick g k = rw more-elements (record { is = each })
     where
-      each : (c : ℕ) → c < length (set row key tick) → getD (set row key tick) c 0 ≡ tickAt (elementAt s prev ∷ elementsAt s (n - left) at) c
+      each : (c : ℕ) → c < length (set row key tick)
+          → getD (set row key tick) c 0 ≡ tickAt (elementAt s prev ∷ elementsAt s (n - left) at) c
       each c h =
           elim (exact? eqb eqb-exact c key) [
             | inl e ↦
@@ -200,7 +203,8 @@ module _ (t : List ℕ) (at : ℕ) (keys row : List ℕ) (best : Least) (n tick 
   weighed-fine h =
       sym (weigh-fine (levelOf keys row) (idFrom t) (leastId best) (elementAt t at) (omega (arith, e, f, g, ap (levelOf keys row) e)))
 
-  pub weighed-lacks : l < tick → (x y : ℕ) → x ≡ readAt t 8 (idsPlace + 16 * n) → y ≡ readAt t 8 (idsPlace + 16 * n + 8) → (r : Least)
+  pub weighed-lacks : l < tick → (x y : ℕ) → x ≡ readAt t 8 (idsPlace + 16 * n) → y ≡ readAt t 8 (idsPlace + 16 * n + 8)
+      → (r : Least)
       → leastId r ≡ lesser (leastId best) (words2 x y) → leastId r ≡ weigh (levelOf keys row) (idFrom t) (leastId best) (elementAt t at)
   unfolding idFrom
   weighed-lacks h x y i j r k =

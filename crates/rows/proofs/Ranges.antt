@@ -1,6 +1,6 @@
--- The largest tick, and a tick alike in all ranges, range by range: the whole answer is the answer from here on. For bytes that the check
--- accepts they are the defined ones (`largest-in`, `alike-in`): the vector's place is kept from range to range, so the elements are those
--- of the range's vector.
+-- The largest tick, and a tick alike in all ranges, range by range: the whole answer is the answer from here on. For bytes
+-- that the check accepts they are the defined ones (`largest-in`, `alike-in`): the vector's place is kept from range to
+-- range, so the elements are those of the range's vector.
 use Prim.Native.Nat.{ℕ, zero, suc, _+_, _-_, _*_, _≤_, _<_, max}
 use mathlib.Core.Path.{_≡_, refl, sym, ap, ap₂, _∙_, subst}
 use mathlib.Core.Bool.{Bool, true, false}
@@ -42,7 +42,8 @@ module _ (s : List ℕ) (vector n before : ℕ) (t : There s vector n) where
       ap (topTick before) (here-is s 0 vector n [] [] t ∙ ap (λ m. elementsAt s m (vector + 8)) e)
 
 module _ (s : List ℕ) (whole n i at top : ℕ) (inv : whole ≡ topTick top (elementsAt s (n - i) at)) where
-  pub top-next : (x y : ℕ) → x ≡ beAt s 8 (at + 4) → y ≡ max top x → i < n → whole ≡ topTick y (elementsAt s (n - (i + 1)) (at + 12))
+  pub top-next : (x y : ℕ) → x ≡ beAt s 8 (at + 4) → y ≡ max top x → i < n
+      → whole ≡ topTick y (elementsAt s (n - (i + 1)) (at + 12))
   unfolding topTick
   top-next x y e f h =
       let m : n - i - 1 ≡ n - (i + 1) = omega arith in
@@ -58,7 +59,8 @@ module _ (s : List ℕ) (r : ℕ) (c : Cursor) where
   unfolding topOf
   tops-short h = sym (rw (lt-leb (c .next + 28 * c .left) (length s) h, topOf))
 
-  pub tops-there : (t : ℕ) → c .next + 28 * c .left ≤ length s → t ≡ topBy s r (c .left) (c .next) (c .index) (c .vector) 0 → t ≡ topOf s r c
+  pub tops-there : (t : ℕ) → c .next + 28 * c .left ≤ length s → t ≡ topBy s r (c .left) (c .next) (c .index) (c .vector) 0
+      → t ≡ topOf s r c
   unfolding topOf
   tops-there t h e = e ∙ sym (rw (le-leb (c .next + 28 * c .left) (length s) h, topOf))
 
@@ -130,7 +132,8 @@ pub largest-is : (s : List ℕ) (r v e g : ℕ) (c : Cursor) (t : ℕ) → c ≡
 unfolding largestIn
 largest-is s r v e g c t h k = k ∙ ap (topOf s r) h
 
-pub alike-is : (s : List ℕ) (r v e g p : ℕ) (c d : Cursor) (key : ReplicaKey) (own : ℕ) (b : Bool) → c ≡ startAt r v e g → key ≡ keyAt s r p
+pub alike-is : (s : List ℕ) (r v e g p : ℕ) (c d : Cursor) (key : ReplicaKey) (own : ℕ) (b : Bool) → c ≡ startAt r v e g
+    → key ≡ keyAt s r p
     → d ≡ advanced s r c (words3 0 0 0) → own ≡ tickOf s (d .vector) key → b ≡ alikeOf s r key own c → b ≡ alikeIn s r v e g p
 unfolding alikeIn words3
 alike-is s r v e g p c d key own b h k l m n = n ∙ rw (m, l, k, h) refl
@@ -142,7 +145,8 @@ module _ (s : List ℕ) (r v e g : ℕ) (h : Reading basic s r v e g) where
   k = valueAt s r v e g
 
   -- the elements of the next range are its vector's
-  next-elements : (index : VectorIndex) (vector : ℕ) (to : VectorIndex) → index .0 < v → to .0 < v → vector ≡ vectorPlace s r (index .0)
+  next-elements : (index : VectorIndex) (vector : ℕ) (to : VectorIndex) → index .0 < v → to .0 < v
+      → vector ≡ vectorPlace s r (index .0)
       → (vectorFrom s r index vector to ≡ vectorPlace s r (to .0)) × (elementsHere s (vectorFrom s r index vector to) ≡ vectorOf k (to .0))
   next-elements index vector to a b p =
       let q = places basic s r v e g h in
@@ -160,7 +164,8 @@ module _ (s : List ℕ) (r v e g : ℕ) (h : Reading basic s r v e g) where
       top-by n (next + 28) to (vectorFrom s r index vector to) (topTick top (elementsHere s (vectorFrom s r index vector to))) (all .0) (w .0) (all .1)
       ∙ ap (λ es. topFrom (λ y. vectorOf k (y .0)) (topTick top es) (rangesAt s n (next + 28))) (w .1)
 
-  alike-by : (key : ReplicaKey) (own n next : ℕ) (index : VectorIndex) (vector : ℕ) → index .0 < v → vector ≡ vectorPlace s r (index .0)
+  alike-by : (key : ReplicaKey) (own n next : ℕ) (index : VectorIndex) (vector : ℕ) → index .0 < v
+      → vector ≡ vectorPlace s r (index .0)
       → All (λ x. x .index .0 < v) (rangesAt s n next)
       → alikeBy s r key own n next index vector ≡ alikeRows (λ y. vectorOf k (y .0)) key own (rangesAt s n next)
   unfolding alikeBy alikeRows rangesAt indexThere tickOf elementsHere

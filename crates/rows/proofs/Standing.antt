@@ -1,6 +1,7 @@
--- Cursors in bytes that the check accepts. Everything that is read is all there, so stepping over vectors leads where they stand, and a
--- vector's elements are its own. A cursor that has come to an item (`Standing`) has passed just the ranges with bounds at or below it;
--- moved on to a later item, it has come to that one, and has passed one range more at least where the next bound was at or below it.
+-- Cursors in bytes that the check accepts. Everything that is read is all there, so stepping over vectors leads where they
+-- stand, and a vector's elements are its own. A cursor that has come to an item (`Standing`) has passed just the ranges
+-- with bounds at or below it; moved on to a later item, it has come to that one, and has passed one range more at least
+-- where the next bound was at or below it.
 use Prim.Native.Nat.{ℕ, zero, suc, _+_, _-_, _*_, _≤_, _<_}
 use mathlib.Core.Path.{_≡_, refl, sym, ap, ap₂, _∙_, subst}
 use mathlib.Core.List.{List, []}
@@ -59,7 +60,8 @@ vector-from s r v a b at ha hb room is =
 
 -- Ranges
 
--- d, which was moved on from c to item i: for the items from i on the ranges that are left say the same, and their bounds are above i
+-- d, which was moved on from c to item i: for the items from i on the ranges that are left say the same, and their bounds
+-- are above i
 record Moved (s : List ℕ) (v i : ℕ) (c d : Cursor) : Type 0 where
   room : d .next + 28 * d .left ≤ c .next + 28 * c .left
   index : c .index .0 < v → All (λ x. x .index .0 < v) (rangesAt s (c .left) (c .next)) → d .index .0 < v
@@ -116,7 +118,8 @@ moved s v i (suc n) next index vector =
     ]
 
 -- up to a stop at or below every bound that is left, or where none is left, the index stays
-pub index-clear : (s : List ℕ) (index : VectorIndex) (n next stop : ℕ) → (0 < n → stop ≤ beAt s 24 next) → Clear index (rangesAt s n next) stop
+pub index-clear : (s : List ℕ) (index : VectorIndex) (n next stop : ℕ) → (0 < n → stop ≤ beAt s 24 next)
+    → Clear index (rangesAt s n next) stop
 unfolding rangesAt
 index-clear s index zero next stop h = record { is = λ j l. indexAt-nil index j }
 index-clear s index (suc n) next stop h =

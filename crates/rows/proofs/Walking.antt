@@ -1,7 +1,7 @@
--- Cover from stop to stop. At an item to which both cursors have come, the levels are the first knowledge's ticks of the second's replicas,
--- so the least lacking id among the elements there is the least replica that lacks. The next stop is the nearer of the two next bounds:
--- up to it nothing changes, and one cursor at least passes a range there. So the first lacking place of the span is the one from the
--- stop on (`Walks`).
+-- Cover from stop to stop. At an item to which both cursors have come, the levels are the first knowledge's ticks of the
+-- second's replicas, so the least lacking id among the elements there is the least replica that lacks. The next stop is the
+-- nearer of the two next bounds: up to it nothing changes, and one cursor at least passes a range there. So the first
+-- lacking place of the span is the one from the stop on (`Walks`).
 use Prim.Native.Nat.{ℕ, zero, suc, _+_, _*_, _≤_, _<_}
 use mathlib.Core.Path.{_≡_, refl, sym, ap, ap₂, _∙_, subst}
 use mathlib.Core.Logic.{_⊎_, inl, inr, ⊎-elim}
@@ -259,7 +259,8 @@ pub record Walks (s : List ℕ) (r : ℕ) (t : List ℕ) (m lo hi : ℕ) (keys r
   pub keyed : Keyed s r t m keys
 
 module _ (s : List ℕ) (r : ℕ) (from : Cursor) (t : List ℕ) (m : ℕ) (begin : Cursor) (lo hi : ℕ) (keys row after : List ℕ) (x y : Cursor) where
-  pub walk-starts : Bytes s → Bytes t → Starts s r from → Starts t m begin → Keyed s r t m keys → Zeros row → 16 ≤ length row → lo ≤ hi
+  pub walk-starts : Bytes s → Bytes t → Starts s r from → Starts t m begin → Keyed s r t m keys → Zeros row
+      → 16 ≤ length row → lo ≤ hi
       → x ≡ advanced s r from lo → y ≡ advanced t m begin lo → Filled s (from .vector) (x .vector) row after
       → Walks s r t m lo hi keys after x y lo
   walk-starts bs bt hs ht k z n l e f g =
@@ -295,7 +296,8 @@ module _ (s : List ℕ) (r : ℕ) (t : List ℕ) (m lo hi : ℕ) (keys row : Lis
     nearest : stopAt stop ≡ nearerOf (boundOf s x hi) (boundOf t y hi)
     nearest = near ∙ ap₂ nearerOf ep eq
 
-    still : (n : ℕ) → (0 < x .left → n ≤ beAt s 24 (x .next)) → (0 < y .left → n ≤ beAt t 24 (y .next)) → Still (decode s) (decode t) i n
+    still : (n : ℕ) → (0 < x .left → n ≤ beAt s 24 (x .next)) → (0 < y .left → n ≤ beAt t 24 (y .next))
+        → Still (decode s) (decode t) i n
     still n f g =
         here-still s r x t m y i keys row (w .first) (w .second) (w .cells) (w .size) (w .keyed) n
         (index-clear s (x .index) (x .left) (x .next) n f) (index-clear t (y .index) (y .left) (y .next) n g)

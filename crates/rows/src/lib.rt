@@ -1,7 +1,7 @@
 // Rows of ticks in the bytes of a knowledge: cover, the largest tick, and whether a replica's tick is alike in all ranges.
 //
-// Every public function is total. An item id is three words and a replica id two, the highest first. The keys of two knowledges meet
-// through their ids only.
+// Every public function is total. An item id is three words and a replica id two, the highest first. The keys of two
+// knowledges meet through their ids only.
 use layout::Checked;
 use layout::ReplicaKey;
 use layout::VectorIndex;
@@ -154,8 +154,8 @@ fn clear(row: &mut [u64])
     }
 }
 
-// The ticks of the elements of the vector at a place, each in the cell of its key, from the last one to the first. The row was filled from
-// the vector at another place, or the same.
+// The ticks of the elements of the vector at a place, each in the cell of its key, from the last one to the first. The row
+// was filled from the vector at another place, or the same.
 fn fill(s: &[u8], before: usize, vector: usize, row: &mut [u64])
     ensures { λ _. ⌜ Filled (now (s .entry)) before vector (now (row .entry)) (now (row .exit)) ⌝ }
 {
@@ -212,7 +212,11 @@ fn lesser(best: Least, p0: u64, p1: u64) -> Least
 // The least lacking id so far, with the element at a place.
 fn weighed(t: &[u8], at: usize, keys: &[u32], row: &[u64], best: Least) -> Least
     requires { ⌜ at + 12 ≤ length (now t) ⌝ }
-    ensures { λ r. ⌜ leastId r ≡ weigh (levelOf (now (keys .entry)) (now (row .entry))) (idFrom (now (t .entry))) (leastId best) (elementAt (now (t .entry)) at) ⌝ }
+    ensures { λ r. ⌜ leastId r ≡ weigh
+        (levelOf (now (keys .entry)) (now (row .entry)))
+        (idFrom (now (t .entry)))
+        (leastId best)
+        (elementAt (now (t .entry)) at) ⌝ }
 {
     let n = four(t, at) as u32;
     let key = ReplicaKey(n);
@@ -224,8 +228,8 @@ fn weighed(t: &[u8], at: usize, keys: &[u32], row: &[u64], best: Least) -> Least
     lesser(best, codec::read8(t, place), codec::read8(t, place + 8))
 }
 
-// Is no element of the vector at a place above the row. This is what cover spends its time on; the least id is looked for only where
-// one is.
+// Is no element of the vector at a place above the row. This is what cover spends its time on; the least id is looked for
+// only where one is.
 fn fine(t: &[u8], vector: usize, keys: &[u32], row: &[u64]) -> bool
     ensures { λ r. ⌜ (r ≡ true → leastOf
         (levelOf (now (keys .entry)) (now (row .entry)))
@@ -253,7 +257,11 @@ fn fine(t: &[u8], vector: usize, keys: &[u32], row: &[u64]) -> bool
 
 // The least id of an element of the vector at a place with a tick above the row's.
 fn least_lacking(t: &[u8], vector: usize, keys: &[u32], row: &[u64]) -> Least
-    ensures { λ r. ⌜ leastId r ≡ leastOf (levelOf (now (keys .entry)) (now (row .entry))) (idFrom (now (t .entry))) none (elementsHere (now (t .entry)) vector) ⌝ }
+    ensures { λ r. ⌜ leastId r ≡ leastOf
+        (levelOf (now (keys .entry)) (now (row .entry)))
+        (idFrom (now (t .entry)))
+        none
+        (elementsHere (now (t .entry)) vector) ⌝ }
 {
     if fine(t, vector, keys, row) {
         return Least::Nothing;
@@ -275,8 +283,8 @@ fn least_lacking(t: &[u8], vector: usize, keys: &[u32], row: &[u64]) -> Least
 
 // ---- cover
 
-// The first place of a span where the knowledge of s knows less than that of t, with a key among those of s for each of t, and a row that is
-// clear. Item by item: at the first one, and at each bound of either up to the last.
+// The first place of a span where the knowledge of s knows less than that of t, with a key among those of s for each of t,
+// and a row that is clear. Item by item: at the first one, and at each bound of either up to the last.
 fn walk(
     s: &[u8],
     r: u32,
@@ -293,7 +301,9 @@ fn walk(
     keys: &[u32],
     row: &mut [u64],
 ) -> Place
-    requires { ⌜ (Starts (now s) r from) × (Starts (now t) m begin) × (Keyed (now s) r (now t) m (now keys)) × (Zeros (now row)) × (largestReplicas ≤ length (now row)) × (words3 f0 f1 f2 ≤ words3 l0 l1 l2) ⌝ }
+    requires { ⌜ (Starts (now s) r from) × (Starts (now t) m begin)
+        × (Keyed (now s) r (now t) m (now keys)) × (Zeros (now row)) × (largestReplicas ≤ length (now row))
+        × (words3 f0 f1 f2 ≤ words3 l0 l1 l2) ⌝ }
     ensures { λ a. ⌜ lackOf a ≡ lacking (decode (now (s .entry))) (decode (now (t .entry))) (words3 f0 f1 f2) (words3 l0 l1 l2) ⌝ }
 {
     let mut x = lookup::advance(s, r, from, f0, f1, f2);
@@ -332,8 +342,10 @@ fn lacking(
     first: &[u8],
     last: &[u8],
 ) -> Place
-    requires { ⌜ (Starts (now s) r from) × (Starts (now t) m begin) × (length (now first) ≡ 24) × (length (now last) ≡ 24) × (beAt (now first) 24 0 ≤ beAt (now last) 24 0) ⌝ }
-    ensures { λ a. ⌜ lackOf a ≡ lacking (decode (now (s .entry))) (decode (now (t .entry))) (beAt (now (first .entry)) 24 0) (beAt (now (last .entry)) 24 0) ⌝ }
+    requires { ⌜ (Starts (now s) r from) × (Starts (now t) m begin)
+        × (length (now first) ≡ 24) × (length (now last) ≡ 24) × (beAt (now first) 24 0 ≤ beAt (now last) 24 0) ⌝ }
+    ensures { λ a. ⌜ lackOf a ≡ lacking (decode (now (s .entry))) (decode (now (t .entry)))
+        (beAt (now (first .entry)) 24 0) (beAt (now (last .entry)) 24 0) ⌝ }
 {
     let mut keys = [0u32; CELLS];
     let mut row = [0u64; CELLS];

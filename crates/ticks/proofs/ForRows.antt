@@ -1,11 +1,13 @@
 -- For code that goes through rows of ticks.
 --
--- The first lacking place of a span is settled by its description (`first-is`, `none-is`), so it can be looked for from stop to stop:
--- where nothing lacks at an item and both knowledges stay as they are up to the next stop, the first lacking place from the item on is
--- the one from the next stop on (`lacking-on`); where they stay so to the span's end there is none (`lacking-past`); and where
--- something lacks at the item, the least replica there is it (`lacking-here`). Cover is whether there is one, so its steps are the same.
+-- The first lacking place of a span is settled by its description (`first-is`, `none-is`), so it can be looked for from
+-- stop to stop: where nothing lacks at an item and both knowledges stay as they are up to the next stop, the first lacking
+-- place from the item on is the one from the next stop on (`lacking-on`); where they stay so to the span's end there is
+-- none (`lacking-past`); and where something lacks at the item, the least replica there is it (`lacking-here`). Cover is
+-- whether there is one, so its steps are the same.
 --
--- What lacks at an item is found by the elements of the second knowledge's vector alone: a replica without an element there has tick 0.
+-- What lacks at an item is found by the elements of the second knowledge's vector alone: a replica without an element there
+-- has tick 0.
 --
 -- The largest tick and a tick alike in all ranges are found range by range: the range of a bound is its own.
 --
@@ -200,7 +202,8 @@ module _ (level id : ℕ → ℕ) where
   unfolding weigh
   weigh-fine best x h = rw (le-leb (x .tick) (level (x .key .0)) h, weigh)
 
-  pub weigh-lacks : (best : Option ℕ) (x : Element) → level (x .key .0) < x .tick → weigh level id best x ≡ lesser best (id (x .key .0))
+  pub weigh-lacks : (best : Option ℕ) (x : Element) → level (x .key .0) < x .tick
+      → weigh level id best x ≡ lesser best (id (x .key .0))
   unfolding weigh
   weigh-lacks best x h = rw (lt-leb (x .tick) (level (x .key .0)) h, weigh)
 
@@ -258,7 +261,8 @@ module _ (R : Rules) (k : Knowledge) (l : Lawful R k) (i : ℕ) (x : Element) (m
 abbrev pub idIn : Knowledge → ℕ → ℕ
 idIn k key = getD (k .replicas) key 0
 
--- the levels are the first knowledge's ticks of the second's replicas, and the ids are theirs: what the search through the elements at an item finds
+-- the levels are the first knowledge's ticks of the second's replicas, and the ids are theirs: what the search through the
+-- elements at an item finds
 module _ (R : Rules) (a b : Knowledge) (l : Lawful R b) (i : ℕ) (level id : ℕ → ℕ)
     (is : (key : ℕ) → key < length (b .replicas) → level key ≡ known a i (idIn b key))
     (own : (key : ℕ) → key < length (b .replicas) → id key ≡ idIn b key) where
@@ -334,7 +338,8 @@ among-bound x (y ∷ ys) (inl e) = inl (ap (λ (z : Range). z .bound) e)
 among-bound x (y ∷ ys) (inr m) = inr (among-bound x ys m)
 
 -- the range of a bound is its own
-pub index-own : (found : VectorIndex) (lo : ℕ) (xs : List Range) (x : Range) → Rising lo (bounds xs) → In x xs → indexAt found xs (x .bound) ≡ x .index
+pub index-own : (found : VectorIndex) (lo : ℕ) (xs : List Range) (x : Range) → Rising lo (bounds xs) → In x xs
+    → indexAt found xs (x .bound) ≡ x .index
 unfolding bounds
 index-own found lo [] x r m = absurd m
 index-own found lo (y ∷ ys) x r (inl e) =
@@ -409,7 +414,8 @@ module _ (R : Rules) (k : Knowledge) (l : Lawful R k) where
       )) in
       omega (arith, low, at-within n i (k .replicas) all, top-le top (vectorAt k i))
 
-  top-from : (top : ℕ) (xs : List Range) → ((x : Range) → In x xs → In x (k .ranges)) → topFrom vectorBy top xs ≡ max top (largestFrom k xs)
+  top-from : (top : ℕ) (xs : List Range) → ((x : Range) → In x xs → In x (k .ranges))
+      → topFrom vectorBy top xs ≡ max top (largestFrom k xs)
   unfolding topFrom largestFrom
   top-from top [] f = omega arith
   top-from top (x ∷ xs) f =

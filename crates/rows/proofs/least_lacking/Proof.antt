@@ -1,4 +1,5 @@
--- `rows::least_lacking` meets its contract. The loop's invariant: the whole answer is the answer from the least id so far and the elements that are left.
+-- `rows::least_lacking` meets its contract. The loop's invariant: the whole answer is the answer from the least id so far
+-- and the elements that are left.
 use Prim.Native.Nat.{_+_, _-_, _*_, _≤_}
 use mathlib.Core.Path.{_≡_}
 use mathlib.Core.Option.{none}

@@ -1,4 +1,5 @@
--- `rows::top_of` meets its contract. The loop's invariant: the largest tick of all elements is that of the largest so far and those that are left.
+-- `rows::top_of` meets its contract. The loop's invariant: the largest tick of all elements is that of the largest so far
+-- and those that are left.
 use Prim.Native.Nat.{_+_, _-_, _*_, _≤_}
 use mathlib.Core.Path.{_≡_}
 use lib.ListN.{length}

@@ -1,4 +1,5 @@
--- `rows::walk` meets its contract. The loop's invariant: the first lacking place of the span is the one from the item on to which both cursors have come, and the row is the first one's there.
+-- `rows::walk` meets its contract. The loop's invariant: the first lacking place of the span is the one from the item on to
+-- which both cursors have come, and the row is the first one's there.
 use Prim.Native.Nat.{_+_}
 use mathlib.Core.Path.{_≡_, refl}
 use lib.ListN.{length}
