@@ -2,6 +2,7 @@
 pub mod Instances
 pub mod NotNormal
 pub mod Broken
+pub mod Unusual
 pub mod Lists
 pub mod Longer
 pub mod FirstFault

@@ -21,7 +21,6 @@ pub mod RecordPlaces
 pub mod BrokenStore
 pub mod BrokenBatch
 pub mod BrokenBytes
-pub mod Unusual
 pub mod ContentsMake
 pub mod ContentsEdit
 pub mod ContentsApply
