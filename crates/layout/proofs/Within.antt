@@ -30,11 +30,11 @@ base-within = refl
 
 -- numbers inside 1 to the largest are the limits themselves
 module _ (replicas ranges records : ℕ) where
-  pub within-replicas : 1 ≤ replicas → replicas ≤ 16 → within replicas ranges records .replicas ≡ replicas
+  pub within-replicas : 1 ≤ replicas → replicas ≤ largestReplicas → within replicas ranges records .replicas ≡ replicas
   within-replicas a b = omega (arith, brought-inside replicas largestReplicas a b)
 
-  pub within-ranges : 1 ≤ ranges → ranges ≤ 64 → within replicas ranges records .ranges ≡ ranges
+  pub within-ranges : 1 ≤ ranges → ranges ≤ largestRanges → within replicas ranges records .ranges ≡ ranges
   within-ranges a b = omega (arith, brought-inside ranges largestRanges a b)
 
-  pub within-records : 1 ≤ records → records ≤ 256 → within replicas ranges records .records ≡ records
+  pub within-records : 1 ≤ records → records ≤ largestRecords → within replicas ranges records .records ≡ records
   within-records a b = omega (arith, brought-inside records largestRecords a b)

@@ -15,6 +15,7 @@ use Rattle.codec.specs.Number.{Bytes, beAt}
 use Rattle.codec.specs.Words.{words2, words3}
 use Rattle.codec.proofs.Total.{read-id2}
 use Rattle.layout.specs.Knowledge.{basic, Knowledge, Lawful}
+use Rattle.layout.specs.Permitted.{largestReplicas}
 use Rattle.layout.specs.Decode.{idsAt, rangesAt, decode}
 use Rattle.layout.specs.MethodPlaces.{idsPlace}
 use Rattle.layout.proofs.Places.{ids-length}
@@ -260,7 +261,7 @@ pub record Walks (s : List ℕ) (r : ℕ) (t : List ℕ) (m lo hi : ℕ) (keys r
 
 module _ (s : List ℕ) (r : ℕ) (from : Cursor) (t : List ℕ) (m : ℕ) (begin : Cursor) (lo hi : ℕ) (keys row after : List ℕ) (x y : Cursor) where
   pub walk-starts : Bytes s → Bytes t → Starts s r from → Starts t m begin → Keyed s r t m keys → Zeros row
-      → 16 ≤ length row → lo ≤ hi
+      → largestReplicas ≤ length row → lo ≤ hi
       → x ≡ advanced s r from lo → y ≡ advanced t m begin lo → Filled s (from .vector) (x .vector) row after
       → Walks s r t m lo hi keys after x y lo
   walk-starts bs bt hs ht k z n l e f g =
