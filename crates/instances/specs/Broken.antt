@@ -145,7 +145,8 @@ brokenBatches =
     batchPair (carrying (again 1 5 3 8 0 9 ∷ [])) (carrying (again 1 5 3 8 1 9 ∷ [])) ∷
     batchPair (carrying (fresh 1 5 0 9 ∷ [])) (carrying (fresh 1 5 1 9 ∷ [])) ∷
     -- a change tick 2^63, and one at the largest
-    batchPair (overAll emptyValue (one 5 mostTick) (again 1 5 overTick 5 1 9 ∷ [])) (overAll emptyValue (one 5 mostTick) (again 1 5 mostTick 5 1 9 ∷ [])) ∷
+    batchPair (overAll emptyValue (one 5 mostTick) (again 1 5 overTick 5 1 9 ∷ []))
+    (overAll emptyValue (one 5 mostTick) (again 1 5 mostTick 5 1 9 ∷ [])) ∷
     -- a create tick above the change tick
     batchPair (carrying (again 1 8 1 5 2 9 ∷ [])) (carrying (again 1 8 2 5 2 9 ∷ [])) ∷
     -- first above last

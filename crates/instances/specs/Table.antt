@@ -23,7 +23,8 @@ use Rattle.replication.specs.Operate.{nextTick}
 use Rattle.replication.specs.Calls.{newReply, editReply, deleteReply, makeReply, applyReply}
 use Rattle.replication.specs.Queries.{winnerPart, learnedPart}
 use Rattle.instances.specs.Spelled.{bytesK6, bytesK10, bytesK11, bytesDeleted, bytesTwoRecords, bytesTwoVectors}
-use Rattle.instances.specs.Given.{emptyValue, smallest, itemBytes, replicaBytes, tagged, ran, one, two, parts, fresh, again, store, batch, p1, q1, p2, q2}
+use Rattle.instances.specs.Given.{emptyValue, smallest, itemBytes, replicaBytes, tagged, ran, one, two, parts}
+use Rattle.instances.specs.Given.{fresh, again, store, batch, p1, q1, p2, q2}
 use Rattle.replication.specs.declared.Part.{Part}
 use Rattle.replication.specs.declared.Part.the-variants as W
 use Rattle.codec.specs.Parsed.{Parsed, accepted, refused}
@@ -136,10 +137,12 @@ storeRows P Q =
     -- K10 P and Q both edit item 1 first, P applies Q's batch: Q's record wins, P's next tick 2
     gets (editReply base (encodeStore (newOf Q)) (itemBytes 1) (tagged 6)) (encodeStore (editedOnce Q 6)) 263 ∷
     gets (everything (makeReply basic (encodeStore (editedOnce Q 6)) smallest)) (encodeBatch (batchOne Q 6)) 412 ∷
-    gets (applyReply base (encodeStore (editedOnce P 9)) (encodeBatch (batchOne Q 6))) (encodeStore (store P (two P 1 Q 1) (fresh 1 Q 1 6 ∷ []))) 291 ∷
+    gets (applyReply base (encodeStore (editedOnce P 9)) (encodeBatch (batchOne Q 6)))
+    (encodeStore (store P (two P 1 Q 1) (fresh 1 Q 1 6 ∷ []))) 291 ∷
     hands (winnerPart base (encodeStore (editedOnce P 9)) (encodeBatch (batchOne Q 6)) (itemBytes 1)) (W.OfBatch 323 89) ∷
     next (store P (two P 1 Q 1) (fresh 1 Q 1 6 ∷ [])) 2 ∷
-    gets (editReply base (encodeStore (store P (two P 1 Q 1) (fresh 1 Q 1 6 ∷ []))) (itemBytes 1) (tagged 7)) (encodeStore (store P (two P 2 Q 1) (again 1 P 2 Q 1 7 ∷ []))) 291 ∷
+    gets (editReply base (encodeStore (store P (two P 1 Q 1) (fresh 1 Q 1 6 ∷ []))) (itemBytes 1) (tagged 7))
+    (encodeStore (store P (two P 2 Q 1) (again 1 P 2 Q 1 7 ∷ []))) 291 ∷
     -- K11 batch of K9's edited store for empty knowledge, all ids: 412 bytes
     gets (everything (makeReply basic (encodeStore (editedOnce P 9)) smallest)) (encodeBatch (batchOne P 9)) 412 ∷
     -- K12 P edits item 1, makes batch one for empty knowledge (K11), edits item 2, and makes batch two for batch one's
@@ -150,7 +153,8 @@ storeRows P Q =
     gets (everything (makeReply basic (encodeStore (editedTwice P)) (encode (one P 1)))) (encodeBatch (batchTwo P)) 448 ∷
     refusesWith (applyReply base (encodeStore (newOf Q)) (encodeBatch (batchTwo P))) 18 ∷
     gets (applyReply base (encodeStore (newOf Q)) (encodeBatch (batchOne P 9))) (encodeStore (store Q (one P 1) (fresh 1 P 1 9 ∷ []))) 263 ∷
-    gets (applyReply base (encodeStore (store Q (one P 1) (fresh 1 P 1 9 ∷ []))) (encodeBatch (batchTwo P))) (encodeStore (store Q (one P 2) (fresh 1 P 1 9 ∷ fresh 2 P 2 8 ∷ []))) 352 ∷
+    gets (applyReply base (encodeStore (store Q (one P 1) (fresh 1 P 1 9 ∷ []))) (encodeBatch (batchTwo P)))
+    (encodeStore (store Q (one P 2) (fresh 1 P 1 9 ∷ fresh 2 P 2 8 ∷ []))) 352 ∷
     []
 
 -- replies with their bytes written out, for P1 and Q1

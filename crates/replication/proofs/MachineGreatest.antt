@@ -89,6 +89,25 @@ pub winner-mine : (x y : Rec) → wins x y ≡ false → winnerOf x y ≡ x
 unfolding winnerOf
 winner-mine x y e = rw (e, winnerOf)
 
+-- the tick decides before the replica: a later version of a lesser replica wins against an earlier one of a greater
+abbrev made : ℕ → ℕ → Rec
+made replica tick = record {
+  item = 0;
+  changeReplica = replica;
+  changeTick = tick;
+  createReplica = replica;
+  createTick = tick;
+  content = record { deleted = false; tag = 0 };
+}
+
+pub wins-by-tick : (wins (made 5 1) (made 1 2) ≡ true) × (wins (made 1 2) (made 5 1) ≡ false)
+unfolding wins
+wins-by-tick = (refl, refl)
+
+pub wins-by-replica : (wins (made 1 2) (made 5 2) ≡ true) × (wins (made 5 2) (made 1 2) ≡ false)
+unfolding wins
+wins-by-replica = (refl, refl)
+
 -- the batch's record wins just where the store's is the lesser in the order of versions
 pub wins-later : (x y : Rec) → wins x y ≡ later x y
 unfolding wins later

@@ -48,13 +48,13 @@ pub count-nil : (k : Knowledge) → countIn k [] ≡ 0
 unfolding countIn
 count-nil k = refl
 
+pub count-unknown : (k : Knowledge) (r : Rec) (rs : List Rec) → (ContainsChange k r → ⊥) → countIn k (r ∷ rs) ≡ countIn k rs
+unfolding countIn
+count-unknown k r rs h = ap (λ b. elim b [ true ↦ suc (countIn k rs) | false ↦ countIn k rs ]) (contains-not k r h)
+
 pub count-known : (k : Knowledge) (r : Rec) (rs : List Rec) → ContainsChange k r → countIn k (r ∷ rs) ≡ suc (countIn k rs)
 unfolding countIn
 count-known k r rs h = rw (contains-yes k (r .item) (r .changeReplica) (r .changeTick) (h .0) (h .1), countIn)
-
-pub count-unknown : (k : Knowledge) (r : Rec) (rs : List Rec) → (ContainsChange k r → ⊥) → countIn k (r ∷ rs) ≡ countIn k rs
-unfolding countIn
-count-unknown k r rs h = rw (contains-not k r h, countIn)
 
 -- n of the records have a change version that the knowledge contains
 pub data Counts (k : Knowledge) : List Rec → ℕ → Type 0 where

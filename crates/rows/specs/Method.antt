@@ -1,6 +1,7 @@
 -- The method of the rows, by places, for any bytes: nothing here is to be believed. The laws show that for bytes that the
 -- check accepts cover answers as defined. The cursor and the keys are lookup's.
-use Rattle.codec.specs.Prelude.{ℕ, zero, suc, _+_, _-_, _*_, _≤_, _<_, _≡_, Bool, true, false, max, eqb, Option, none, some, List, ltb, leb, length, getD}
+use Rattle.codec.specs.Prelude.{ℕ, zero, suc, _+_, _*_, _≤_, _<_, _≡_, Bool, true, false, Option, none, some, List}
+use Rattle.codec.specs.Prelude.{eqb, ltb, leb, length, getD}
 use Rattle.codec.specs.Number.{beAt}
 use Rattle.codec.specs.Total.{readAt}
 use Rattle.codec.specs.Words.{words2, words3}
