@@ -1,0 +1,2 @@
+-- What filling a table comes to.
+pub mod Method

@@ -1,0 +1,1 @@
+// What filling a table of words comes to. No function stands here.
