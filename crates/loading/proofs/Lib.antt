@@ -1,1 +1,2 @@
 -- The laws of filled tables.
+pub mod Sampling

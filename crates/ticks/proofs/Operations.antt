@@ -100,15 +100,15 @@ normal-merge a b = normal-normalOf (bounds (a .ranges) ++ bounds (b .ranges)) (a
 
 -- Project
 
-inside-yes : (first last : ℕ) (k : Knowledge) (i p : ℕ) → first ≤ i → i ≤ last → knownInside first last k i p ≡ known k i p
+pub inside-yes : (first last : ℕ) (k : Knowledge) (i p : ℕ) → first ≤ i → i ≤ last → knownInside first last k i p ≡ known k i p
 unfolding knownInside
 inside-yes first last k i p h l = rw (in-span first last i .1 (h, l), knownInside)
 
-inside-low : (first last : ℕ) (k : Knowledge) (i p : ℕ) → i < first → knownInside first last k i p ≡ 0
+pub inside-low : (first last : ℕ) (k : Knowledge) (i p : ℕ) → i < first → knownInside first last k i p ≡ 0
 unfolding knownInside
 inside-low first last k i p h = rw (span-below first last i h, knownInside)
 
-inside-high : (first last : ℕ) (k : Knowledge) (i p : ℕ) → last < i → knownInside first last k i p ≡ 0
+pub inside-high : (first last : ℕ) (k : Knowledge) (i p : ℕ) → last < i → knownInside first last k i p ≡ 0
 unfolding knownInside
 inside-high first last k i p h = rw (span-above first last i h, knownInside)
 
@@ -154,11 +154,11 @@ normal-project first last k = normal-normalOf (first ∷ suc last ∷ bounds (k 
 
 -- Raise
 
-raised-own : (p t : ℕ) (k : Knowledge) (i q : ℕ) → q ≡ p → knownRaised p t k i q ≡ t
+pub raised-own : (p t : ℕ) (k : Knowledge) (i q : ℕ) → q ≡ p → knownRaised p t k i q ≡ t
 unfolding knownRaised
 raised-own p t k i q e = rw (eq-eqb q p e, knownRaised)
 
-raised-other : (p t : ℕ) (k : Knowledge) (i q : ℕ) → (q ≡ p → ⊥) → knownRaised p t k i q ≡ known k i q
+pub raised-other : (p t : ℕ) (k : Knowledge) (i q : ℕ) → (q ≡ p → ⊥) → knownRaised p t k i q ≡ known k i q
 unfolding knownRaised
 raised-other p t k i q n = rw (ne-eqb q p n, knownRaised)
 
