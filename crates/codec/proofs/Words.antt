@@ -9,7 +9,10 @@ use native.Mathlib.Omega.{arith}
 use borrow.Author.Tests.{eqb-true, eqb-false, eq-eqb, ne-eqb}
 use lib.Arith.{digits-lt, digits-div}
 use lib.Dec.{eqb, ltb}
+use mathlib.Core.List.{List}
+use Rattle.codec.specs.Number.{put}
 use Rattle.codec.specs.Words.{words2, words3}
+use Rattle.codec.proofs.Numbers.{put-join}
 use Rattle.codec.proofs.Order.{same-test, lex}
 
 -- two tests of sameness that pass and fail together are the same
@@ -99,3 +102,13 @@ module _ (a0 a1 a2 b0 b1 b2 : ℕ) where
         same-first (2 ^ 64 * 2 ^ 64) a0 b0 (words2 a1 a2) (words2 b1 b2) (rest-below a1 a2 h1 h2)
         (rest-below b1 b2 k1 k2) ne
         ∙ sym (ap₂ eqb (words3-split a0 a1 a2) (words3-split b0 b1 b2))
+
+-- ---- the bytes of an id are the bytes of its words, one after the other
+
+pub put-words2 : (x y : ℕ) (t : List ℕ) → y < 2 ^ 64 → put 16 (words2 x y) t ≡ put 8 x (put 8 y t)
+unfolding words2
+put-words2 x y t h = put-join 8 8 x y t h
+
+pub put-words3 : (x y z : ℕ) (t : List ℕ) → y < 2 ^ 64 → z < 2 ^ 64 → put 24 (words3 x y z) t ≡ put 8 x (put 8 y (put 8 z t))
+unfolding words2 words3
+put-words3 x y z t h k = put-join 16 8 (words2 x y) z t k ∙ put-words2 x y (put 8 z t) h

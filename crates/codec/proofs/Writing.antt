@@ -10,8 +10,8 @@ use native.Mathlib.Omega.{arith}
 use borrow.Author.Tests.{le-leb, lt-leb, leb-true, leb-false}
 use lib.Dec.{leb}
 use lib.Pow.{pow-add}
-use lib.ListN.{length, set, take, drop, getD, length-take, length-drop, take-append-drop}
-use lib.Seq.{sets, sets-eq, take-length, getD-take, getD-drop, paste, paste-zero, paste-suc}
+use lib.ListN.{length, set, take, drop, getD, length-append, length-take, length-drop, take-append-drop}
+use lib.Seq.{sets, sets-eq, length-sets, take-length, getD-take, getD-drop, paste, paste-zero, paste-suc}
 use Rattle.codec.specs.Number.{put}
 use Rattle.codec.specs.Part.{placed, part, bytes}
 use Rattle.codec.proofs.Numbers.{put-length, put-append}
@@ -33,12 +33,20 @@ module _ (d : List ℕ) (at : ℕ) (vs : List ℕ) where
   stored h = sets-eq vs d at h ∙ append-assoc (take at d) vs _ ∙ sym (placed-in h)
 
 -- nothing is nothing to write, anywhere
-nothing : (d : List ℕ) (at : ℕ) → d ≡ placed d at []
+pub nothing : (d : List ℕ) (at : ℕ) → d ≡ placed d at []
 nothing d at = go (leb (at + 0) (length d)) refl
   where
     go : (t : Bool) → leb (at + 0) (length d) ≡ t → d ≡ placed d at []
     go true e = sym (placed-in d at [] (leb-true (at + 0) (length d) e) ∙ rw add-zero (take-append-drop at d))
     go false e = placed-out d at [] (leb-false (at + 0) (length d) e)
+
+-- a buffer keeps its length
+pub placed-length : (d : List ℕ) (at : ℕ) (vs : List ℕ) → length (placed d at vs) ≡ length d
+placed-length d at vs = go (leb (at + length vs) (length d)) refl
+  where
+    go : (t : Bool) → leb (at + length vs) (length d) ≡ t → length (placed d at vs) ≡ length d
+    go true e = ap length (sym (stored d at vs (leb-true (at + length vs) (length d) e))) ∙ length-sets d at vs
+    go false e = ap length (sym (placed-out d at vs (leb-false (at + length vs) (length d) e)))
 
 -- the n bytes of x: at a literal width `sets` computes to the stores that the code makes
 module _ (d : List ℕ) (at n x : ℕ) where
@@ -57,7 +65,7 @@ module _ (d : List ℕ) (at x : ℕ) where
   four-stores = rw (add-one at, add-two at, add-three at, div-one x)
 
 -- a number of eight bytes is one of four, and four more
-put-high : (n m x : ℕ) (t : List ℕ) → put (n + m) x t ≡ put n (x / 256 ^ m) (put m x t)
+pub put-high : (n m x : ℕ) (t : List ℕ) → put (n + m) x t ≡ put n (x / 256 ^ m) (put m x t)
 unfolding put
 put-high zero m x t = rw (zero-add m)
 put-high (suc n) m x t = rw (suc-add n m) (ap₂ {C = List ℕ} (λ b r. b ∷ r) (ap (λ (v : ℕ). v % 256) digit) (put-high n m x t))
@@ -69,11 +77,25 @@ bytes-eight : (x : ℕ) → bytes 8 x ≡ bytes 4 (x / 4294967296) ++ bytes 4 x
 unfolding bytes
 bytes-eight x = put-high 4 4 x [] ∙ put-append 4 (x / 4294967296) (put 4 x [])
 
-sets-append : (d vs ws : List ℕ) (at : ℕ) → sets d at (vs ++ ws) ≡ sets (sets d at vs) (at + length vs) ws
+pub sets-append : (d vs ws : List ℕ) (at : ℕ) → sets d at (vs ++ ws) ≡ sets (sets d at vs) (at + length vs) ws
 sets-append d [] ws at = rw (add-zero at)
 sets-append d (v ∷ vs) ws at =
     let e : suc at + length vs ≡ at + suc (length vs) = omega arith in
     sets-append (set d at v) vs ws (suc at) ∙ ap (λ (k : ℕ). sets (sets (set d at v) (suc at) vs) k ws) e
+
+-- with room for both, one list of bytes after another is both as one
+pub placed-append :
+    (d : List ℕ) (at : ℕ) (vs ws : List ℕ)
+    → at + length (vs ++ ws) ≤ length d
+    → placed (placed d at vs) (at + length vs) ws ≡ placed d at (vs ++ ws)
+placed-append d at vs ws h =
+    let l : at + length vs + length ws ≤ length d = omega (arith, length-append vs ws) in
+    let m : at + length vs ≤ length d = omega arith in
+    let k : at + length vs + length ws ≤ length (placed d at vs) = rw (placed-length d at vs) l in
+    sym (stored (placed d at vs) (at + length vs) ws k)
+    ∙ ap (λ (e : List ℕ). sets e (at + length vs) ws) (sym (stored d at vs m))
+    ∙ sym (sets-append d vs ws at)
+    ∙ stored d at (vs ++ ws) h
 
 pub eight-stored :
     (d e f : List ℕ) (at x : ℕ)

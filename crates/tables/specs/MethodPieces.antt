@@ -12,6 +12,11 @@ unfoldable pub laid : List ℕ → ℕ → List (List ℕ) → List ℕ
 laid d at [] = d
 laid d at (p ∷ ps) = laid (placed d at p) (at + length p) ps
 
+-- the pieces as one list of bytes
+unfoldable pub joined : List (List ℕ) → List ℕ
+joined [] = []
+joined (p ∷ ps) = p ++ joined ps
+
 -- the ids of columns
 unfoldable pub idPieces : List ℕ → List ℕ → List (List ℕ)
 idPieces ids [] = []

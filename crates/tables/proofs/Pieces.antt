@@ -1,0 +1,306 @@
+-- What is written for a plan are the bytes of the planned knowledge. With room for all of them, pieces that are written one
+-- after the other are one list of bytes, which stands where the first begins. This list is what `encode` puts together: each
+-- field of a number is the piece with its bytes, the bytes of an id are those of its words, and the counts are the sizes of
+-- the plan. Past the end of the buffer no piece has room.
+use Prim.Native.Nat.{ℕ, zero, suc, _+_, _*_, _^_, _≤_, _<_}
+use mathlib.Core.Path.{_≡_, refl, sym, ap, ap₂, _∙_}
+use mathlib.Core.Bool.{Bool, true, false}
+use mathlib.Core.List.{List, [], _∷_, _++_, append-nil, append-assoc}
+use native.Mathlib.Nat.{add-zero, add-assoc}
+use native.Mathlib.Numerals.{add-one}
+use native.Mathlib.Omega.{arith}
+use lib.Dec.{eqb}
+use lib.ListN.{length, getD, drop, length-append}
+use Rattle.codec.specs.Number.{put}
+use Rattle.codec.specs.Part.{placed, bytes}
+use Rattle.codec.specs.Words.{words2, words3}
+use Rattle.codec.proofs.Numbers.{put-append}
+use Rattle.codec.proofs.Words.{put-words2, put-words3}
+use Rattle.codec.proofs.Writing.{nothing, placed-out, placed-length, placed-append}
+use Rattle.layout.specs.Answer.{elements}
+use Rattle.layout.specs.Knowledge.{Element, Range, Knowledge, Field, putFields, putIds, putElements, putVectors, putRanges, encode}
+use Rattle.layout.specs.Knowledge.{opening, beforeVectors, beforeElements, beforeRanges, closing}
+use Rattle.layout.proofs.Forward.{encode-length}
+use Rattle.tables.specs.declared.Sizes.{Sizes}
+use Rattle.tables.specs.MethodWords.{cell, idAt, boundAt, numbersAt, Words}
+use Rattle.tables.specs.MethodPlan.{rowsFrom, numbersFrom, firstsOf, numbersOf, columnsOf, idsOf, elementsFrom}
+use Rattle.tables.specs.MethodPlan.{vectorsIn, rangesFrom, rangesIn}
+use Rattle.tables.specs.MethodPlan.{pageOf, page, elementCount, rangeCount, sizesOf, lengthOf, Over, Plans}
+use Rattle.tables.specs.MethodPieces.{laid, joined, idPieces, elementPieces, vectorPieces, vectorsPieces}
+use Rattle.tables.specs.MethodPieces.{rangePieces, rangesPieces, pagePieces}
+
+-- ---- pieces, one after the other
+
+pub laid-append : (d : List ℕ) (at : ℕ) (ps qs : List (List ℕ)) → laid d at (ps ++ qs) ≡ laid (laid d at ps) (at + length (joined ps)) qs
+unfolding laid joined
+laid-append d at [] qs = rw (add-zero at)
+laid-append d at (p ∷ ps) qs =
+    let e : at + length p + length (joined ps) ≡ at + length (p ++ joined ps) = omega (arith, length-append p (joined ps)) in
+    laid-append (placed d at p) (at + length p) ps qs
+    ∙ ap (λ (k : ℕ). laid (laid (placed d at p) (at + length p) ps) k qs) e
+
+-- a buffer keeps its length
+pub laid-length : (d : List ℕ) (at : ℕ) (ps : List (List ℕ)) → length (laid d at ps) ≡ length d
+unfolding laid
+laid-length d at [] = refl
+laid-length d at (p ∷ ps) = laid-length (placed d at p) (at + length p) ps ∙ placed-length d at p
+
+pub laid-room : (d : List ℕ) (at : ℕ) (ps : List (List ℕ)) → at + length (joined ps) ≤ length d → laid d at ps ≡ placed d at (joined ps)
+unfolding laid joined
+laid-room d at [] h = nothing d at
+laid-room d at (p ∷ ps) h =
+    let l : at + length p + length (joined ps) ≤ length (placed d at p) =
+    rw (placed-length d at p) (omega (arith, length-append p (joined ps))) in
+    laid-room (placed d at p) (at + length p) ps l ∙ placed-append d at p (joined ps) h
+
+-- past the end nothing has room
+placed-past : (d : List ℕ) (at : ℕ) (p : List ℕ) → length d < at → d ≡ placed d at p
+placed-past d at p h = placed-out d at p (omega arith)
+
+pub laid-past : (d : List ℕ) (at : ℕ) (ps : List (List ℕ)) → length d < at → laid d at ps ≡ d
+unfolding laid
+laid-past d at [] h = refl
+laid-past d at (p ∷ ps) h =
+    let e : d ≡ placed d at p = placed-past d at p h in
+    rw (← e) (laid-past d (at + length p) ps (omega arith))
+
+-- ---- a piece in front of others is a field in front of their bytes
+
+piece-put : (n x : ℕ) (qs : List (List ℕ)) → joined (bytes n x ∷ qs) ≡ put n x (joined qs)
+unfolding joined bytes
+piece-put n x qs = sym (put-append n x (joined qs))
+
+fields-append : (fs : List Field) (t : List ℕ) → putFields fs t ≡ putFields fs [] ++ t
+unfolding putFields
+fields-append [] t = refl
+fields-append (f ∷ fs) t =
+    put-append (f .size) (f .value) (putFields fs t)
+    ∙ ap (λ (r : List ℕ). put (f .size) (f .value) [] ++ r) (fields-append fs t)
+    ∙ sym (append-assoc (put (f .size) (f .value) []) (putFields fs []) t)
+    ∙ ap (λ (r : List ℕ). r ++ t) (sym (put-append (f .size) (f .value) (putFields fs [])))
+
+piece-fields : (fs : List Field) (qs : List (List ℕ)) → joined (putFields fs [] ∷ qs) ≡ putFields fs (joined qs)
+unfolding joined
+piece-fields fs qs = sym (fields-append fs (joined qs))
+
+module _ (ids : List ℕ) (w : Words ids) where
+  ids-put : (cs : List ℕ) (qs : List (List ℕ)) → joined (idPieces ids cs ++ qs) ≡ putIds (idsOf (idAt ids) cs) (joined qs)
+  unfolding idPieces putIds idsOf idAt
+  ids-put [] qs = refl
+  ids-put (c ∷ cs) qs =
+      piece-put 8 (getD ids (2 * c) 0) (bytes 8 (getD ids (2 * c + 1) 0) ∷ (idPieces ids cs ++ qs))
+      ∙ ap (put 8 (getD ids (2 * c) 0)) (piece-put 8 (getD ids (2 * c + 1) 0) (idPieces ids cs ++ qs))
+      ∙ sym (put-words2 (getD ids (2 * c) 0) (getD ids (2 * c + 1) 0) (joined (idPieces ids cs ++ qs)) (w .below (2 * c + 1)))
+      ∙ ap (put 16 (words2 (getD ids (2 * c) 0) (getD ids (2 * c + 1) 0))) (ids-put cs qs)
+
+elements-put : (g : ℕ → ℕ) (key : ℕ) (cs : List ℕ) (qs : List (List ℕ))
+    → joined (elementPieces g key cs ++ qs) ≡ putElements (elementsFrom g key cs) (joined qs)
+unfolding elementPieces putElements elementsFrom
+elements-put g key [] qs = refl
+elements-put g key (c ∷ cs) qs = go (eqb (g c) 0) refl (elements-put g (key + 1) cs qs)
+  where
+    go : (t : Bool) → eqb (g c) 0 ≡ t
+        → joined (elementPieces g (key + 1) cs ++ qs) ≡ putElements (elementsFrom g (key + 1) cs) (joined qs)
+        → joined (elementPieces g key (c ∷ cs) ++ qs) ≡ putElements (elementsFrom g key (c ∷ cs)) (joined qs)
+    go true e ih = unfold elementPieces putElements elementsFrom in rw (e, elementPieces, elementsFrom) ih
+    go false e ih =
+        unfold elementPieces putElements elementsFrom in
+        rw (e, elementPieces, elementsFrom)
+        (piece-put 4 key (bytes 8 (g c) ∷ (elementPieces g (key + 1) cs ++ qs))
+        ∙ ap (put 4 key) (piece-put 8 (g c) (elementPieces g (key + 1) cs ++ qs) ∙ ap (put 8 (g c)) ih))
+
+vectors-put : (T : ℕ → ℕ → ℕ) (cols ks : List ℕ) (qs : List (List ℕ))
+    → joined (vectorsPieces T cols ks ++ qs) ≡ putVectors (vectorsIn T cols ks) (joined qs)
+unfolding vectorPieces vectorsPieces putVectors vectorsIn
+vectors-put T cols [] qs = refl
+vectors-put T cols (k ∷ ks) qs =
+    let es = elementsFrom (T k) 0 cols in
+    let rest = vectorsPieces T cols ks ++ qs in
+    ap joined (append-assoc (vectorPieces (T k) cols) (vectorsPieces T cols ks) qs)
+    ∙ piece-fields beforeElements (bytes 4 (length es) ∷ (elementPieces (T k) 0 cols ++ rest))
+    ∙ ap (putFields beforeElements)
+    (piece-put 4 (length es) (elementPieces (T k) 0 cols ++ rest)
+    ∙ ap (put 4 (length es)) (elements-put (T k) 0 cols rest ∙ ap (putElements es) (vectors-put T cols ks qs)))
+
+module _ (bounds : List ℕ) (w : Words bounds) where
+  range-put : (k x : ℕ) (qs : List (List ℕ)) → joined (rangePieces bounds k x ++ qs) ≡ put 24 (boundAt bounds k) (put 4 x (joined qs))
+  unfolding rangePieces boundAt
+  range-put k x qs =
+      let a = getD bounds (3 * k) 0 in
+      let b = getD bounds (3 * k + 1) 0 in
+      let d = getD bounds (3 * k + 2) 0 in
+      piece-put 8 a (bytes 8 b ∷ bytes 8 d ∷ bytes 4 x ∷ qs)
+      ∙ ap (put 8 a)
+      (piece-put 8 b (bytes 8 d ∷ bytes 4 x ∷ qs)
+      ∙ ap (put 8 b) (piece-put 8 d (bytes 4 x ∷ qs) ∙ ap (put 8 d) (piece-put 4 x qs)))
+      ∙ sym (put-words3 a b d (put 4 x (joined qs)) (w .below (3 * k + 1)) (w .below (3 * k + 2)))
+
+  ranges-put : (k before : ℕ) (xs : List ℕ) (qs : List (List ℕ))
+      → joined (rangesPieces bounds k before xs ++ qs) ≡ putRanges (rangesFrom (boundAt bounds) k before xs) (joined qs)
+  unfolding rangesPieces putRanges rangesFrom
+  ranges-put k before [] qs = refl
+  ranges-put k before (x ∷ xs) qs = go (eqb x before) refl (ranges-put (k + 1) x xs qs)
+    where
+      go : (t : Bool) → eqb x before ≡ t
+          → joined (rangesPieces bounds (k + 1) x xs ++ qs) ≡ putRanges (rangesFrom (boundAt bounds) (k + 1) x xs) (joined qs)
+          → joined (rangesPieces bounds k before (x ∷ xs) ++ qs) ≡ putRanges (rangesFrom (boundAt bounds) k before (x ∷ xs)) (joined qs)
+      go true e ih = unfold rangesPieces putRanges rangesFrom in rw (e, rangesPieces, rangesFrom) ih
+      go false e ih =
+          unfold rangesPieces putRanges rangesFrom in
+          rw (e, rangesPieces, rangesFrom)
+          (ap joined (append-assoc (rangePieces bounds k x) (rangesPieces bounds (k + 1) x xs) qs)
+          ∙ range-put k x (rangesPieces bounds (k + 1) x xs ++ qs)
+          ∙ ap (λ (t : List ℕ). put 24 (boundAt bounds k) (put 4 x t)) ih)
+
+-- ---- the counts
+
+ids-count : (P : ℕ → ℕ) (cs : List ℕ) → length (idsOf P cs) ≡ length cs
+unfolding idsOf
+ids-count P [] = refl
+ids-count P (c ∷ cs) = ap suc (ids-count P cs)
+
+vectors-count : (T : ℕ → ℕ → ℕ) (cols ks : List ℕ) → length (vectorsIn T cols ks) ≡ length ks
+unfolding vectorsIn
+vectors-count T cols [] = refl
+vectors-count T cols (k ∷ ks) = ap suc (vectors-count T cols ks)
+
+elements-count : (T : ℕ → ℕ → ℕ) (cols ks : List ℕ) → elements (vectorsIn T cols ks) ≡ elementCount T cols ks
+unfolding vectorsIn elements elementCount
+elements-count T cols [] = refl
+elements-count T cols (k ∷ ks) = ap (λ (n : ℕ). length (elementsFrom (T k) 0 cols) + n) (elements-count T cols ks)
+
+ranges-count : (B : ℕ → ℕ) (k before : ℕ) (xs : List ℕ) → length (rangesFrom B k before xs) ≡ rangeCount before xs
+unfolding rangesFrom rangeCount
+ranges-count B k before [] = refl
+ranges-count B k before (x ∷ xs) = go (eqb x before) refl (ranges-count B (k + 1) x xs)
+  where
+    go : (t : Bool) → eqb x before ≡ t → length (rangesFrom B (k + 1) x xs) ≡ rangeCount x xs
+        → length (rangesFrom B k before (x ∷ xs)) ≡ rangeCount before (x ∷ xs)
+    go true e ih = unfold rangesFrom rangeCount in rw (e, rangesFrom, rangeCount) ih
+    go false e ih = unfold rangesFrom rangeCount in rw (e, rangesFrom, rangeCount) (ap suc ih)
+
+pub pieces-length : (P B : ℕ → ℕ) (T : ℕ → ℕ → ℕ) (cs fs xs : List ℕ)
+    → length (encode (pageOf P B T cs fs xs)) ≡ lengthOf (sizesOf T cs fs xs)
+unfolding pageOf sizesOf lengthOf rangesIn
+pieces-length P B T cs fs xs =
+    encode-length (pageOf P B T cs fs xs)
+    ∙ omega (arith, ids-count P cs, vectors-count T cs fs, elements-count T cs fs, ranges-count B 1 (length xs + 1) xs)
+
+-- ---- all of it
+
+page-put : (z : Sizes) (ids bounds t : List ℕ) (n : ℕ) (cols firsts numbers : List ℕ) → Words ids → Words bounds
+    → joined (pagePieces z ids bounds t n cols firsts numbers)
+    ≡ putFields opening (put 4 (z .replicas) (putIds (idsOf (idAt ids) (numbersAt cols 0 (z .replicas)))
+    (putFields beforeVectors (put 4 (z .vectors)
+    (putVectors (vectorsIn (cell t) (numbersAt cols 0 (z .replicas)) (numbersAt firsts 0 (z .vectors)))
+    (putFields beforeRanges (put 4 (z .ranges) (putRanges (rangesFrom (boundAt bounds) 1 (n + 1) (numbersAt numbers 0 n))
+    (putFields closing [])))))))))
+unfolding pagePieces joined
+page-put z ids bounds t n cols firsts numbers wi wb =
+    let cs = numbersAt cols 0 (z .replicas) in
+    let fs = numbersAt firsts 0 (z .vectors) in
+    let xs = numbersAt numbers 0 n in
+    let end : List (List ℕ) = putFields closing [] ∷ [] in
+    let spans = rangesPieces bounds 1 (n + 1) xs ++ end in
+    let clocks = vectorsPieces (cell t) cs fs ++ (putFields beforeRanges [] ∷ bytes 4 (z .ranges) ∷ spans) in
+    let map = idPieces ids cs ++ (putFields beforeVectors [] ∷ bytes 4 (z .vectors) ∷ clocks) in
+    piece-fields opening (bytes 4 (z .replicas) ∷ map)
+    ∙ ap (putFields opening)
+    (piece-put 4 (z .replicas) map
+    ∙ ap (put 4 (z .replicas))
+    (ids-put ids wi cs (putFields beforeVectors [] ∷ bytes 4 (z .vectors) ∷ clocks)
+    ∙ ap (putIds (idsOf (idAt ids) cs))
+    (piece-fields beforeVectors (bytes 4 (z .vectors) ∷ clocks)
+    ∙ ap (putFields beforeVectors)
+    (piece-put 4 (z .vectors) clocks
+    ∙ ap (put 4 (z .vectors))
+    (vectors-put (cell t) cs fs (putFields beforeRanges [] ∷ bytes 4 (z .ranges) ∷ spans)
+    ∙ ap (putVectors (vectorsIn (cell t) cs fs))
+    (piece-fields beforeRanges (bytes 4 (z .ranges) ∷ spans)
+    ∙ ap (putFields beforeRanges)
+    (piece-put 4 (z .ranges) spans
+    ∙ ap (put 4 (z .ranges))
+    (ranges-put bounds wb 1 (n + 1) xs end
+    ∙ ap (putRanges (rangesFrom (boundAt bounds) 1 (n + 1) xs)) (piece-fields closing [])))))))))
+
+encode-page : (P B : ℕ → ℕ) (T : ℕ → ℕ → ℕ) (cs fs xs : List ℕ) (r v g n : ℕ)
+    → r ≡ length cs → v ≡ length fs → g ≡ rangeCount (length xs + 1) xs → n ≡ length xs
+    → putFields opening (put 4 r (putIds (idsOf P cs)
+    (putFields beforeVectors (put 4 v (putVectors (vectorsIn T cs fs)
+    (putFields beforeRanges (put 4 g (putRanges (rangesFrom B 1 (n + 1) xs)
+    (putFields closing [])))))))))
+    ≡ encode (pageOf P B T cs fs xs)
+unfolding encode pageOf rangesIn
+encode-page P B T cs fs xs r v g n er ev eg en =
+    rw (er, ev, eg, en, ids-count P cs, vectors-count T cs fs, ranges-count B 1 (length xs + 1) xs)
+
+-- with the sizes of what stands in the lists, the pieces are the bytes of that knowledge
+pub pieces-encode : (z : Sizes) (ids bounds t : List ℕ) (n : ℕ) (cols firsts numbers cs fs xs : List ℕ)
+    → Words ids → Words bounds
+    → z ≡ sizesOf (cell t) cs fs xs
+    → cs ≡ numbersAt cols 0 (z .replicas) → fs ≡ numbersAt firsts 0 (z .vectors) → xs ≡ numbersAt numbers 0 n → n ≡ length xs
+    → joined (pagePieces z ids bounds t n cols firsts numbers) ≡ encode (pageOf (idAt ids) (boundAt bounds) (cell t) cs fs xs)
+unfolding sizesOf
+pieces-encode z ids bounds t n cols firsts numbers cs fs xs wi wb ez ec ef ex en =
+    page-put z ids bounds t n cols firsts numbers wi wb
+    ∙ rw (← ec, ← ef, ← ex)
+    (encode-page (idAt ids) (boundAt bounds) (cell t) cs fs xs (z .replicas) (z .vectors) (z .ranges) n
+    (ap (λ (y : Sizes). y .replicas) ez) (ap (λ (y : Sizes). y .vectors) ez) (ap (λ (y : Sizes). y .ranges) ez) en)
+
+-- ---- what a plan leaves in the lists
+
+numbers-shift : (y : ℕ) (l : List ℕ) (i n : ℕ) → numbersAt (y ∷ l) (i + 1) n ≡ numbersAt l i n
+unfolding numbersAt
+numbers-shift y l i zero = refl
+numbers-shift y l i (suc n) = ap₂ {C = List ℕ} (λ x r. x ∷ r) (ap (λ (k : ℕ). getD (y ∷ l) k 0) (add-one i)) (numbers-shift y l (i + 1) n)
+
+numbers-front : (vs w : List ℕ) → numbersAt (vs ++ w) 0 (length vs) ≡ vs
+unfolding numbersAt
+numbers-front [] w = refl
+numbers-front (v ∷ vs) w = ap (λ (r : List ℕ). v ∷ r) (numbers-shift v (vs ++ w) 0 (length vs) ∙ numbers-front vs w)
+
+numbers-over : (vs d u : List ℕ) (n : ℕ) → n ≡ length vs → Over vs d u → vs ≡ numbersAt u 0 n
+numbers-over vs d u n en e = sym (rw (e, en) (numbers-front vs (drop (length vs) d)))
+
+rows-count : (k n : ℕ) → length (rowsFrom k n) ≡ n
+unfolding rowsFrom
+rows-count k zero = refl
+rows-count k (suc n) = ap suc (rows-count (k + 1) n)
+
+numbers-from-count : (eq : ℕ → ℕ → Bool) (seen ks : List ℕ) → length (numbersFrom eq seen ks) ≡ length ks
+unfolding numbersFrom
+numbers-from-count eq seen [] = refl
+numbers-from-count eq seen (k ∷ ks) = ap suc (numbers-from-count eq _ ks)
+
+pub numbers-count : (T : ℕ → ℕ → ℕ) (r n : ℕ) → length (numbersOf T r n) ≡ n
+unfolding numbersOf
+numbers-count T r n = numbers-from-count _ (0 ∷ []) (rowsFrom 1 n) ∙ rows-count 1 n
+
+module _ (r n : ℕ) (ids bounds t c f x c' f' x' : List ℕ) (z : Sizes) (plans : Plans (idAt ids) (cell t) r n c f x c' f' x' z) where
+  -- the planned knowledge is as long as its sizes say
+  pub planned-length : length (encode (page (idAt ids) (boundAt bounds) (cell t) r n)) ≡ lengthOf z
+  unfolding page
+  planned-length =
+      let fs = firstsOf (cell t) r n in
+      pieces-length (idAt ids) (boundAt bounds) (cell t) (columnsOf (idAt ids) (cell t) r fs) fs (numbersOf (cell t) r n)
+      ∙ ap lengthOf (sym (plans .sizes))
+
+  planned-joined : Words ids → Words bounds
+      → joined (pagePieces z ids bounds t n c' f' x') ≡ encode (page (idAt ids) (boundAt bounds) (cell t) r n)
+  unfolding page sizesOf
+  planned-joined wi wb =
+      let fs = firstsOf (cell t) r n in
+      let cs = columnsOf (idAt ids) (cell t) r fs in
+      let xs = numbersOf (cell t) r n in
+      pieces-encode z ids bounds t n c' f' x' cs fs xs wi wb (plans .sizes)
+      (numbers-over cs c c' (z .replicas) (ap (λ (y : Sizes). y .replicas) (plans .sizes)) (plans .columns))
+      (numbers-over fs f f' (z .vectors) (ap (λ (y : Sizes). y .vectors) (plans .sizes)) (plans .firsts))
+      (numbers-over xs x x' n (sym (numbers-count (cell t) r n)) (plans .numbers))
+      (sym (numbers-count (cell t) r n))
+
+  -- with room for it, what is written is the planned knowledge
+  pub planned-written : (d : List ℕ) (at : ℕ) → Words ids → Words bounds → at + lengthOf z ≤ length d
+      → laid d at (pagePieces z ids bounds t n c' f' x') ≡ placed d at (encode (page (idAt ids) (boundAt bounds) (cell t) r n))
+  planned-written d at wi wb h =
+      let e = planned-joined wi wb in
+      laid-room d at (pagePieces z ids bounds t n c' f' x') (rw (e, planned-length) h) ∙ ap (placed d at) e
