@@ -6,3 +6,4 @@ pub mod Replies
 pub mod Total
 pub mod Words
 pub mod Writing
+pub mod Calls
