@@ -1,1 +1,2 @@
 -- The laws of tables of words.
+pub mod Clauses
