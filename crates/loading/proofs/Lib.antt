@@ -1,2 +1,3 @@
 -- The laws of filled tables.
 pub mod Sampling
+pub mod Closing
