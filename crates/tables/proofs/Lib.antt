@@ -2,3 +2,8 @@
 pub mod Clauses
 pub mod Alike
 pub mod PageSizes
+pub mod Columns
+pub mod Distinct
+pub mod RowVectors
+pub mod Kept
+pub mod Numbered
