@@ -49,6 +49,15 @@ module _ (B : ℕ → ℕ) (W : ℕ → List Element) where
   pub kept-suc : (v : List Element) (k n : ℕ) → (W k ≡ v → ⊥) → keptFrom B W v (rowsFrom k (suc n)) ≡ (B k, W k) ∷ keptFrom B W (W k) (rowsFrom (k + 1) n)
   kept-suc v k n e = ap (keptFrom B W v) (rows-suc k n) ∙ kept-cons v k (rowsFrom (k + 1) n) e
 
+  -- what holds for the vector of every row holds for those of the steps
+  pub kept-all : (Q : List Element → Type 0) (v : List Element) (ks : List ℕ) → ((k : ℕ) → Q (W k)) → All (λ e. Q (e .1)) (keptFrom B W v ks)
+  kept-all Q v [] f = rw kept-nil tt
+  kept-all Q v (k ∷ ks) f =
+      elim (exact? eqVector eqVector-exact (W k) v) [
+        | inl e ↦ rw (kept-joined v k ks e) (kept-all Q v ks f)
+        | inr e ↦ rw (kept-cons v k ks e) (f k, kept-all Q (W k) ks f)
+      ]
+
   -- bounds of n rows from k on, rising, and items
   pub record Climbs (k n : ℕ) : Type 0 where
     pub rising : (j : ℕ) → k ≤ j → j + 1 < k + n → B j < B (j + 1)

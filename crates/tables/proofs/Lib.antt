@@ -7,3 +7,4 @@ pub mod Distinct
 pub mod RowVectors
 pub mod Kept
 pub mod Numbered
+pub mod Link
