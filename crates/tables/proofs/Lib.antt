@@ -7,4 +7,5 @@ pub mod Distinct
 pub mod RowVectors
 pub mod Kept
 pub mod Numbered
+pub mod LinkSteps
 pub mod Link

@@ -1,33 +1,32 @@
--- The plan of a table that samples ticks f is their normal form. Two rows are alike exactly where their vectors over the columns in use
--- are equal, since every other column is 0 in all rows; so the plan is what numbering gives for the rows that are kept, and these are
--- steps that change. The vector at an item is that of the last row not above it, and f does not change from there up to the item.
+-- The plan of a table that samples ticks f is in normal form, and its known ticks are f: the steps that are kept change, each column in
+-- use has its id once, by rising id; the vector at an item is that of the last row whose bound is not above it, and f does not change
+-- from that bound up to the item. Normal forms with equal ticks are equal, so the plan is the result of the operation with these ticks.
 use Prim.Native.Nat.{ℕ, zero, suc, _+_, _≤_, _<_}
 use mathlib.Core.Path.{_≡_, refl, sym, _∙_, ap, ap₂, subst}
 use mathlib.Core.Logic.{_⊎_, inl, inr, ⊎-elim}
-use mathlib.Core.Bool.{Bool, true, false}
+use mathlib.Core.Bool.{true}
 use mathlib.Core.List.{List, [], _∷_}
 use native.Mathlib.Omega.{arith}
 use lib.Dec.{eqb}
 use lib.ListN.{length, getD}
-use Rattle.layout.specs.Knowledge.{Element, Knowledge, All, Rising, keys}
-use Rattle.ticks.specs.Meaning.{highest, placeBy, place, tickAt, vectorAt, known, Formed, Unused, Normal}
+use Rattle.layout.specs.Knowledge.{Element, Knowledge, Rising, keys}
+use Rattle.ticks.specs.Meaning.{highest, place, tickAt, vectorAt, known, Formed, Unused, Normal}
 use Rattle.ticks.specs.Table.{at}
-use Rattle.ticks.specs.Written.{eqVector, vectorsOf, rangesOf, indexed}
+use Rattle.ticks.specs.Operations.{normalise, larger, merge, knownInside, project, knownRaised, raise}
 use Rattle.ticks.proofs.Lists.{Among, among?, rising-distinct}
-use Rattle.ticks.proofs.Equality.{eqb-exact, exact?, exact-no, exact-yes, eqVector-exact, clash, place-found}
+use Rattle.ticks.proofs.Equality.{eqb-exact, exact?, clash, place-found}
 use Rattle.ticks.proofs.Steps.{Changing, at-ge}
 use Rattle.ticks.proofs.Vectors.{keys-length, key-tick}
-use Rattle.ticks.proofs.Numbering.{Apart}
 use Rattle.ticks.proofs.Written.{among-place, among-get, known-in, known-out, vectorAt-indexed, VectorOver, formed-indexed}
-use Rattle.tables.specs.MethodPlan.{same, rowsFrom, grownBy, firstsOf, numbersOf, usedIn, columnsOf, idsOf, elementsFrom, vectorsIn, rangesFrom, rangesIn, pageOf, page, Sampled}
-use Rattle.tables.proofs.Clauses.{rows-suc, place-by-nil, place-by-here, place-by-later, firsts-of, numbers-of, used-nil, used-here, used-later, ids-nil, ids-cons, vectors-in-nil, vectors-in-cons, ranges-in}
-use Rattle.tables.proofs.Alike.{same-agree, agree-same}
-use Rattle.tables.proofs.PageSizes.{ids-length, numbers-of-length}
-use Rattle.tables.proofs.Columns.{Used, ids-among, columns-of-only, columns-of-rising}
-use Rattle.tables.proofs.Distinct.{out-zero}
-use Rattle.tables.proofs.RowVectors.{elements-over, elements-tick, elements-cong, elements-agree, elements-empty}
-use Rattle.tables.proofs.Kept.{keptFrom, kept-all, Climbs, kept-changing, RowAt, kept-at}
-use Rattle.tables.proofs.Numbered.{vectors-all-linked, ranges-all-linked}
+use Rattle.ticks.proofs.Unique.{normal-unique}
+use Rattle.ticks.proofs.Operations.{known-normalise, normal-normalise, known-merge, normal-merge, known-project, normal-project, known-raise, normal-raise}
+use Rattle.tables.specs.MethodPlan.{rowsFrom, firstsOf, usedIn, idsOf, elementsFrom, vectorsIn, pageOf, page, Sampled}
+use Rattle.tables.proofs.Clauses.{used-nil, used-later, vectors-in-cons}
+use Rattle.tables.proofs.PageSizes.{ids-length}
+use Rattle.tables.proofs.Columns.{ids-among, columns-of-rising}
+use Rattle.tables.proofs.RowVectors.{elements-over, elements-tick}
+use Rattle.tables.proofs.Kept.{kept-all, Climbs, kept-changing, RowAt, kept-at}
+use Rattle.tables.proofs.LinkSteps.{planned, planned-below, planned-used, planned-out, rowVector, laterSteps, page-steps}
 
 -- the id of a column that has a key
 pub ids-get : (P : ℕ → ℕ) (cols : List ℕ) (n : ℕ) → n < length cols → getD (idsOf P cols) n 0 ≡ P (getD cols n 0)
@@ -35,62 +34,6 @@ unfolding idsOf
 ids-get P [] n h = absurd (omega arith)
 ids-get P (c ∷ cs) zero h = refl
 ids-get P (c ∷ cs) (suc n) h = ids-get P cs n (omega arith)
-
--- the columns of a plan, the vector of a row over them
-unfoldable pub planned : (ℕ → ℕ) → (ℕ → ℕ → ℕ) → ℕ → ℕ → List ℕ
-planned P T r n = columnsOf P T r (firstsOf T r n)
-
-planned-is : (P : ℕ → ℕ) (T : ℕ → ℕ → ℕ) (r n : ℕ) → planned P T r n ≡ columnsOf P T r (firstsOf T r n)
-unfolding planned
-planned-is P T r n = refl
-
-module _ (P : ℕ → ℕ) (T : ℕ → ℕ → ℕ) (r n : ℕ) where
-  planned-below : (c : ℕ) → Among c (planned P T r n) → c < r
-  unfolding planned
-  planned-below c m = columns-of-only P T (firstsOf T r n) r c m .below
-
-  planned-used : (c : ℕ) → Among c (planned P T r n) → usedIn T (firstsOf T r n) c ≡ true
-  unfolding planned
-  planned-used c m = columns-of-only P T (firstsOf T r n) r c m .used
-
-  planned-out : (k c : ℕ) → k ≤ n → c < r → (Among c (planned P T r n) → ⊥) → T k c ≡ 0
-  unfolding planned
-  planned-out k c h l out = out-zero T r n P k c h l out
-
-  -- rows are alike exactly where their vectors are equal
-  agree-vectors : (j k : ℕ) → j ≤ n → k ≤ n → elementsFrom (T j) 0 (planned P T r n) ≡ elementsFrom (T k) 0 (planned P T r n) → (c : ℕ) → c < r → T j c ≡ T k c
-  agree-vectors j k h l e c m =
-      elim (among? c (planned P T r n)) [
-        | inl a ↦ elements-agree (T j) (T k) (planned P T r n) c e a
-        | inr a ↦ planned-out j c h m a ∙ sym (planned-out k c l m a)
-      ]
-
-  pub same-vectors : (j k : ℕ) → j ≤ n → k ≤ n → same T r j k ≡ eqVector (elementsFrom (T j) 0 (planned P T r n)) (elementsFrom (T k) 0 (planned P T r n))
-  same-vectors j k h l =
-      elim (exact? eqVector eqVector-exact (elementsFrom (T j) 0 (planned P T r n)) (elementsFrom (T k) 0 (planned P T r n))) [
-        | inl e ↦
-            agree-same T j k r (agree-vectors j k h l e)
-            ∙ sym (exact-yes eqVector eqVector-exact (elementsFrom (T j) 0 (planned P T r n)) (elementsFrom (T k) 0 (planned P T r n)) e)
-        | inr d ↦
-            unlike d (same T r j k) refl
-            ∙ sym (exact-no eqVector eqVector-exact (elementsFrom (T j) 0 (planned P T r n)) (elementsFrom (T k) 0 (planned P T r n)) d)
-      ]
-    where
-      unlike : (elementsFrom (T j) 0 (planned P T r n) ≡ elementsFrom (T k) 0 (planned P T r n) → ⊥) → (t : Bool) → same T r j k ≡ t → same T r j k ≡ false
-      unlike d true e =
-          absurd (d (elements-cong (T j) (T k) (planned P T r n) (λ c m. same-agree T j k r c e (planned-below c m))))
-      unlike d false e = e
-
-one-apart : (v : List Element) → Apart (v ∷ [])
-one-apart v = record { apart = λ y z h k e. omega arith }
-
-place-by-le : (eq : ℕ → ℕ → Bool) (k : ℕ) (seen : List ℕ) → placeBy eq k seen ≤ length seen
-place-by-le eq k [] = omega (arith, place-by-nil eq k)
-place-by-le eq k (j ∷ seen) = go (eq j k) refl (place-by-le eq k seen)
-  where
-    go : (t : Bool) → eq j k ≡ t → placeBy eq k seen ≤ length seen → placeBy eq k (j ∷ seen) ≤ suc (length seen)
-    go true e ih = omega (arith, place-by-here eq k j seen e)
-    go false e ih = omega (arith, place-by-later eq k j seen e)
 
 -- is there a column with the id p
 column? : (P : ℕ → ℕ) (p r : ℕ) → ((c : ℕ) × ((c < r) × (P c ≡ p))) ⊎ ((c : ℕ) → c < r → P c ≡ p → ⊥)
@@ -122,134 +65,128 @@ unfolding page pageOf planned
 page-map P B T r n = refl
 
 module _ (P B : ℕ → ℕ) (T : ℕ → ℕ → ℕ) (r m : ℕ) (f : ℕ → ℕ → ℕ) (s : Sampled P B T r (suc m) f) where
-  -- the vector of a row over the plan's columns
-  abbrev rowVector : ℕ → List Element
-  rowVector k = elementsFrom (T k) 0 (planned P T r (suc m))
+  abbrev cols : List ℕ
+  cols = planned P T r (suc m)
 
-  -- the rows after the first that are kept
-  abbrev laterSteps : List (ℕ × List Element)
-  laterSteps = keptFrom B rowVector (rowVector 1) (rowsFrom 2 m)
+  abbrev ids : List ℕ
+  ids = idsOf P cols
 
-  first-met : vectorsIn T (planned P T r (suc m)) (0 ∷ []) ≡ [] ∷ []
-  first-met =
-      vectors-in-cons T (planned P T r (suc m)) 0 []
-      ∙ ap₂ (λ v vs. v ∷ vs)
-      (elements-empty (T 0) 0 (planned P T r (suc m)) (λ c a. s .empty c (planned-below P T r (suc m) c a)))
-      (vectors-in-nil T (planned P T r (suc m)))
+  abbrev vector : ℕ → List Element
+  vector k = rowVector P T r (suc m) k
 
-  start-below : (j : ℕ) → Among j (0 ∷ []) → j ≤ suc m
-  start-below j a = ⊎-elim (λ e. omega arith) (λ o. absurd o) a
+  abbrev later : List (ℕ × List Element)
+  later = laterSteps P B T r m
 
-  page-vectors-are : vectorsIn T (planned P T r (suc m)) (firstsOf T r (suc m)) ≡ vectorsOf ([] ∷ []) ((0, rowVector 1) ∷ laterSteps)
-  page-vectors-are =
-      ap (vectorsIn T (planned P T r (suc m))) (firsts-of T r (suc m))
-      ∙ vectors-all-linked T (planned P T r (suc m)) B (same T r) (suc m) (same-vectors P T r (suc m)) 1 m (0 ∷ []) (omega arith) start-below
-      (rw first-met (one-apart []))
-      ∙ ap₂ (λ vs b. vectorsOf vs ((b, rowVector 1) ∷ laterSteps)) first-met (s .firstBound)
-
-  page-ranges-are : rangesIn B (numbersOf T r (suc m)) ≡ rangesOf ([] ∷ []) ((0, rowVector 1) ∷ laterSteps)
-  page-ranges-are =
-      ranges-in B (numbersOf T r (suc m))
-      ∙ ap (rangesFrom B 1 (length (numbersOf T r (suc m)) + 1)) (numbers-of T r (suc m))
-      ∙ ranges-all-linked T (planned P T r (suc m)) B (same T r) (suc m) (same-vectors P T r (suc m)) 1 m (0 ∷ []) (omega arith) start-below
-      (rw first-met (one-apart [])) (length (numbersOf T r (suc m)) + 1)
-      (λ e. omega (arith, place-by-le (same T r) 1 (0 ∷ []), numbers-of-length T r (suc m)))
-      ∙ ap₂ (λ vs b. rangesOf vs ((b, rowVector 1) ∷ laterSteps)) first-met (s .firstBound)
-
-  -- the plan is what numbering gives for the rows that are kept
-  pub page-steps : page P B T r (suc m) ≡ indexed (idsOf P (planned P T r (suc m))) ((0, rowVector 1) ∷ laterSteps)
-  unfolding page pageOf indexed planned
-  page-steps = λ i. record { replicas = idsOf P (planned P T r (suc m)); vectors = page-vectors-are i; ranges = page-ranges-are i }
+  abbrev plan : Knowledge
+  plan = page P B T r (suc m)
 
   -- Normal form
 
-  later-climb : Climbs B rowVector 2 m
+  later-climb : Climbs B vector 2 m
   later-climb = record {
     rising = λ j h l. let e : suc j ≡ j + 1 = omega arith in subst (λ n. B j < B n) e (s .rising j (omega arith) (omega arith));
     items = λ j h l. s .items j (omega arith) (omega arith);
   }
 
-  later-changing : Changing highest 1 (rowVector 1) laterSteps
-  later-changing = kept-changing B rowVector m 2 1 (rowVector 1) later-climb (λ h. omega (arith, s .rising 1 (omega arith) (omega arith)))
+  later-changing : Changing highest 1 (vector 1) later
+  later-changing = kept-changing B vector m 2 1 (vector 1) later-climb (λ h. omega (arith, s .rising 1 (omega arith) (omega arith)))
 
-  map-rising : Rising 0 (idsOf P (planned P T r (suc m)))
+  map-rising : Rising 0 ids
   unfolding planned
   map-rising = columns-of-rising P T (firstsOf T r (suc m)) r (s .distinct)
 
-  row-over : (k : ℕ) → VectorOver (length (idsOf P (planned P T r (suc m)))) (rowVector k)
-  row-over k = rw (ids-length P (planned P T r (suc m))) (elements-over (T k) (planned P T r (suc m)))
+  row-over : (k : ℕ) → VectorOver (length ids) (vector k)
+  row-over k = rw (ids-length P cols) (elements-over (T k) cols)
 
-  page-formed : Formed (page P B T r (suc m))
+  page-formed : Formed plan
   page-formed =
-      subst Formed (sym page-steps)
-      (formed-indexed (idsOf P (planned P T r (suc m))) (rising-distinct 0 (idsOf P (planned P T r (suc m))) map-rising) (rowVector 1) laterSteps
-      (row-over 1) (kept-all B rowVector (VectorOver (length (idsOf P (planned P T r (suc m))))) (rowVector 1) (rowsFrom 2 m) row-over) later-changing)
+      subst Formed (sym (page-steps P B T r m f s))
+      (formed-indexed ids (rising-distinct 0 ids map-rising) (vector 1) later
+      (row-over 1) (kept-all B vector (VectorOver (length ids)) (vector 1) (rowsFrom 2 m) row-over) later-changing)
 
-  key-used : (key : ℕ) → key < length (idsOf P (planned P T r (suc m))) → Unused key (vectorsIn T (planned P T r (suc m)) (firstsOf T r (suc m))) → ⊥
+  key-used : (key : ℕ) → key < length ids → Unused key (vectorsIn T cols (firstsOf T r (suc m))) → ⊥
   key-used key h =
-      let l : key < length (planned P T r (suc m)) = omega (arith, ids-length P (planned P T r (suc m))) in
-      vectors-used T (planned P T r (suc m)) key (firstsOf T r (suc m)) l
-      (planned-used P T r (suc m) (getD (planned P T r (suc m)) key 0) (among-get (planned P T r (suc m)) key l))
+      let l : key < length cols = omega (arith, ids-length P cols) in
+      vectors-used T cols key (firstsOf T r (suc m)) l
+      (planned-used P T r (suc m) (getD cols key 0) (among-get cols key l))
 
-  normal-suc : Normal (page P B T r (suc m))
+  normal-suc : Normal plan
   unfolding page pageOf planned
   normal-suc = record { formed = page-formed; rising = map-rising; used = key-used }
 
   -- Known ticks
 
-  row-at : (i : ℕ) → RowAt B rowVector 1 m i (vectorAt (page P B T r (suc m)) i)
+  row-at : (i : ℕ) → RowAt B vector 1 m i (vectorAt plan i)
   row-at i =
-      let e : vectorAt (page P B T r (suc m)) i ≡ at (rowVector 1) laterSteps i =
-      ap (λ k. vectorAt k i) page-steps ∙ vectorAt-indexed (idsOf P (planned P T r (suc m))) ((0, rowVector 1) ∷ laterSteps) i
-      ∙ at-ge [] (0, rowVector 1) laterSteps i (omega arith) in
-      subst (RowAt B rowVector 1 m i) (sym e) (kept-at B rowVector m 1 i (rowVector 1) later-climb refl (omega (arith, s .firstBound)))
+      let e : vectorAt plan i ≡ at (vector 1) later i =
+      ap (λ k. vectorAt k i) (page-steps P B T r m f s) ∙ vectorAt-indexed ids ((0, vector 1) ∷ later) i
+      ∙ at-ge [] (0, vector 1) later i (omega arith) in
+      subst (RowAt B vector 1 m i) (sym e) (kept-at B vector m 1 i (vector 1) later-climb refl (omega (arith, s .firstBound)))
 
   module _ (i : ℕ) (h : i ≤ highest) (k : ℕ) (from : 1 ≤ k) (upto : k ≤ suc m) (above : B k ≤ i) (below : k < suc m → i < B (suc k)) where
     -- the tick in the row that the item is in
     cell-known : (c : ℕ) → c < r → T k c ≡ f i (P c)
     cell-known c l = s .cells k c from upto l ∙ sym (s .steady k i (P c) from upto above h below)
 
-    known-mapped : (p : ℕ) → vectorAt (page P B T r (suc m)) i ≡ rowVector k → Among p (idsOf P (planned P T r (suc m)))
-        → known (page P B T r (suc m)) i p ≡ f i p
+    known-mapped : (p : ℕ) → vectorAt plan i ≡ vector k → Among p ids
+        → known plan i p ≡ f i p
     known-mapped p e a =
-        let ids = idsOf P (planned P T r (suc m)) in
         let l : place p ids < length ids = among-place p ids a in
-        let n : place p ids < length (planned P T r (suc m)) = omega (arith, ids-length P (planned P T r (suc m))) in
-        let c = getD (planned P T r (suc m)) (place p ids) 0 in
-        known-in (page P B T r (suc m)) i p (rw (page-map P B T r (suc m)) a)
+        let n : place p ids < length cols = omega (arith, ids-length P cols) in
+        let c = getD cols (place p ids) 0 in
+        known-in plan i p (rw (page-map P B T r (suc m)) a)
         ∙ ap₂ (λ v ns. tickAt v (place p ns)) e (page-map P B T r (suc m))
-        ∙ elements-tick (T k) (planned P T r (suc m)) (place p ids) n
-        ∙ cell-known c (planned-below P T r (suc m) c (among-get (planned P T r (suc m)) (place p ids) n))
-        ∙ ap (f i) (sym (ids-get P (planned P T r (suc m)) (place p ids) n) ∙ place-found eqb eqb-exact p 0 ids l)
+        ∙ elements-tick (T k) cols (place p ids) n
+        ∙ cell-known c (planned-below P T r (suc m) c (among-get cols (place p ids) n))
+        ∙ ap (f i) (sym (ids-get P cols (place p ids) n) ∙ place-found eqb eqb-exact p 0 ids l)
 
-    unmapped-zero : (p : ℕ) → (Among p (idsOf P (planned P T r (suc m))) → ⊥) → f i p ≡ 0
+    unmapped-zero : (p : ℕ) → (Among p ids → ⊥) → f i p ≡ 0
     unmapped-zero p out =
         ⊎-elim
         (λ w.
         ap (f i) (sym (w .1 .1)) ∙ sym (cell-known (w .0) (w .1 .0))
         ∙ planned-out P T r (suc m) k (w .0) upto (w .1 .0)
-        (λ a. out (subst (λ q. Among q (idsOf P (planned P T r (suc m)))) (w .1 .1) (ids-among P (w .0) (planned P T r (suc m)) a))))
+        (λ a. out (subst (λ q. Among q ids) (w .1 .1) (ids-among P (w .0) cols a))))
         (λ none. s .others i p none) (column? P p r)
 
-    known-row : (p : ℕ) → vectorAt (page P B T r (suc m)) i ≡ rowVector k → known (page P B T r (suc m)) i p ≡ f i p
+    known-row : (p : ℕ) → vectorAt plan i ≡ vector k → known plan i p ≡ f i p
     known-row p e =
-        elim (among? p (idsOf P (planned P T r (suc m)))) [
+        elim (among? p ids) [
           | inl a ↦ known-mapped p e a
-          | inr out ↦ known-out (page P B T r (suc m)) i p (λ a. out (rw (page-map P B T r (suc m)) at a)) ∙ sym (unmapped-zero p out)
+          | inr out ↦ known-out plan i p (λ a. out (rw (page-map P B T r (suc m)) at a)) ∙ sym (unmapped-zero p out)
         ]
 
-  known-suc : (i p : ℕ) → i ≤ highest → known (page P B T r (suc m)) i p ≡ f i p
+  known-suc : (i p : ℕ) → i ≤ highest → known plan i p ≡ f i p
   known-suc i p h =
-      let a : RowAt B rowVector 1 m i (vectorAt (page P B T r (suc m)) i) = row-at i in
+      let a : RowAt B vector 1 m i (vectorAt plan i) = row-at i in
       let e : a .row + 1 ≡ suc (a .row) = omega arith in
       known-row i h (a .row) (a .from) (omega (arith, a .upto)) (a .above) (λ l. subst (λ n. i < B n) e (a .below (omega arith))) p (a .is)
 
-module _ (P B : ℕ → ℕ) (T : ℕ → ℕ → ℕ) (r : ℕ) (f : ℕ → ℕ → ℕ) where
-  -- a table that samples ticks has their normal form
-  pub page-normal : (n : ℕ) → Sampled P B T r n f → Normal (page P B T r n)
-  page-normal zero s = absurd (omega (arith, s .someRow))
-  page-normal (suc m) s = normal-suc P B T r m f s
+module _ (P B : ℕ → ℕ) (T : ℕ → ℕ → ℕ) (r : ℕ) where
+  -- a table that samples ticks has a plan in normal form, with these ticks
+  pub page-normal : (n : ℕ) (f : ℕ → ℕ → ℕ) → Sampled P B T r n f → Normal (page P B T r n)
+  page-normal zero f s = absurd (omega (arith, s .someRow))
+  page-normal (suc m) f s = normal-suc P B T r m f s
 
-  pub page-known : (n : ℕ) → Sampled P B T r n f → (i p : ℕ) → i ≤ highest → known (page P B T r n) i p ≡ f i p
-  page-known zero s = absurd (omega (arith, s .someRow))
-  page-known (suc m) s = known-suc P B T r m f s
+  pub page-known : (n : ℕ) (f : ℕ → ℕ → ℕ) → Sampled P B T r n f → (i p : ℕ) → i ≤ highest → known (page P B T r n) i p ≡ f i p
+  page-known zero f s = absurd (omega (arith, s .someRow))
+  page-known (suc m) f s = known-suc P B T r m f s
+
+  module _ (n : ℕ) where
+    -- what an operation owes is that its table samples its ticks
+    page-is : (f : ℕ → ℕ → ℕ) (k : Knowledge) → Sampled P B T r n f → Normal k → ((i p : ℕ) → i ≤ highest → known k i p ≡ f i p) → page P B T r n ≡ k
+    page-is f k s o e = normal-unique (page P B T r n) k (page-normal n f s) o (λ i p h. page-known n f s i p h ∙ sym (e i p h))
+
+    pub page-normalise : (k : Knowledge) → Sampled P B T r n (known k) → page P B T r n ≡ normalise k
+    page-normalise k s = page-is (known k) (normalise k) s (normal-normalise k) (known-normalise k)
+
+    pub page-merge : (a b : Knowledge) → Sampled P B T r n (larger a b) → page P B T r n ≡ merge a b
+    unfolding larger
+    page-merge a b s = page-is (larger a b) (merge a b) s (normal-merge a b) (known-merge a b)
+
+    pub page-project : (first last : ℕ) (k : Knowledge) → Sampled P B T r n (knownInside first last k) → page P B T r n ≡ project first last k
+    page-project first last k s =
+        page-is (knownInside first last k) (project first last k) s (normal-project first last k) (known-project first last k)
+
+    pub page-raise : (p t : ℕ) (k : Knowledge) → Sampled P B T r n (knownRaised p t k) → page P B T r n ≡ raise p t k
+    page-raise p t k s = page-is (knownRaised p t k) (raise p t k) s (normal-raise p t k) (known-raise p t k)
