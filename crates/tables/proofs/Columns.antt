@@ -7,13 +7,12 @@ use mathlib.Core.Bool.{Bool, true, false}
 use mathlib.Core.List.{List, [], _∷_}
 use native.Mathlib.Omega.{arith}
 use lib.Dec.{eqb}
-use lib.ListN.{length, getD}
 use Rattle.layout.specs.Knowledge.{Rising}
 use Rattle.ticks.proofs.Lists.{Among, less, same as equal, more, order, rising-weaken, rising-above}
 use Rattle.ticks.proofs.Equality.{eqb-exact, exact?, clash}
 use Rattle.tables.specs.MethodPlan.{usedIn, insertColumn, withColumn, columnsFrom, columnsOf, idsOf}
-use Rattle.tables.proofs.Clauses.{used-nil, used-here, used-later, insert-column-nil, insert-column-before, insert-column-after}
-use Rattle.tables.proofs.Clauses.{with-column-used, with-column-unused, columns-zero, columns-suc, columns-of, ids-nil, ids-cons}
+use Rattle.tables.proofs.Clauses.{used-here, used-later, insert-column-nil, insert-column-before, insert-column-after}
+use Rattle.tables.proofs.Clauses.{with-column-used, with-column-unused, columns-zero, columns-suc, columns-of, ids-nil}
 
 -- Columns that rows use
 

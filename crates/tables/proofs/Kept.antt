@@ -1,25 +1,20 @@
--- The rows of a plan that are kept, as steps: a row whose vector is that of the row before is left out. Where a test of rows says just
--- whether their vectors are equal, the plan's distinct rows and ranges are what numbering gives for these steps; and the value of the
--- steps at an item is the vector of the last row whose bound is not above it.
+-- The rows of a plan that are kept, as steps: a row whose vector is that of the row before is left out, so the steps change. The value
+-- of the steps at an item is the vector of the last row whose bound is not above it.
 use Prim.Native.Nat.{ℕ, zero, suc, _+_, _≤_, _<_}
-use mathlib.Core.Path.{_≡_, refl, sym, _∙_, ap, ap₂}
-use mathlib.Core.Logic.{inl, inr, ⊎-elim}
-use mathlib.Core.Bool.{Bool, true, false}
-use mathlib.Core.List.{List, [], _∷_, _++_}
+use mathlib.Core.Path.{_≡_, refl, sym, _∙_, ap}
+use mathlib.Core.Logic.{inl, inr}
+use mathlib.Core.Bool.{true, false}
+use mathlib.Core.List.{List, [], _∷_}
 use native.Mathlib.Omega.{arith}
-use lib.ListN.{length, getD}
-use Rattle.layout.specs.Knowledge.{Element, Range, All}
-use Rattle.ticks.specs.Meaning.{highest, placeBy}
+use Rattle.layout.specs.Knowledge.{Element, All}
+use Rattle.ticks.specs.Meaning.{highest}
 use Rattle.ticks.specs.Table.{at}
-use Rattle.ticks.specs.Written.{rangeWith, eqVector, vectorNumber, grown, vectorsOf, rangesOf}
-use Rattle.ticks.proofs.Lists.{Among, less, same as equal, more, order}
-use Rattle.ticks.proofs.Equality.{eqVector-exact, exact?, exact-yes, exact-no, place-found, place-first}
+use Rattle.ticks.specs.Written.{eqVector}
+use Rattle.ticks.proofs.Lists.{less, same as equal, more, order}
+use Rattle.ticks.proofs.Equality.{eqVector-exact, exact?, exact-yes, exact-no}
 use Rattle.ticks.proofs.Steps.{Changing, at-nil, at-ge, before-steps}
-use Rattle.ticks.proofs.Numbering.{Apart, number-le, grown-old, grown-new, grown-length, grown-number, grown-apart, vectors-nil, vectors-cons, ranges-nil, ranges-cons}
-use Rattle.tables.specs.MethodPlan.{rowsFrom, grownBy, firstsFrom, numbersFrom, elementsFrom, vectorsIn, rangesFrom}
-use Rattle.tables.proofs.Clauses.{rows-zero, rows-suc, place-by-nil, place-by-here, place-by-later, grown-by-old, grown-by-new}
-use Rattle.tables.proofs.Clauses.{firsts-nil, firsts-cons, numbers-nil, numbers-cons, vectors-in-nil, vectors-in-cons, ranges-from-nil, ranges-from-joined, ranges-from-kept}
-use Rattle.tables.proofs.Distinct.{grown-by-only}
+use Rattle.tables.specs.MethodPlan.{rowsFrom}
+use Rattle.tables.proofs.Clauses.{rows-zero, rows-suc}
 
 -- the steps of the rows, after one with vector v
 unfoldable pub keptFrom : (ℕ → ℕ) → (ℕ → List Element) → List Element → List ℕ → List (ℕ × List Element)
@@ -46,7 +41,8 @@ module _ (B : ℕ → ℕ) (W : ℕ → List Element) where
   pub kept-suc-joined : (v : List Element) (k n : ℕ) → W k ≡ v → keptFrom B W v (rowsFrom k (suc n)) ≡ keptFrom B W v (rowsFrom (k + 1) n)
   kept-suc-joined v k n e = ap (keptFrom B W v) (rows-suc k n) ∙ kept-joined v k (rowsFrom (k + 1) n) e
 
-  pub kept-suc : (v : List Element) (k n : ℕ) → (W k ≡ v → ⊥) → keptFrom B W v (rowsFrom k (suc n)) ≡ (B k, W k) ∷ keptFrom B W (W k) (rowsFrom (k + 1) n)
+  pub kept-suc : (v : List Element) (k n : ℕ) → (W k ≡ v → ⊥)
+      → keptFrom B W v (rowsFrom k (suc n)) ≡ (B k, W k) ∷ keptFrom B W (W k) (rowsFrom (k + 1) n)
   kept-suc v k n e = ap (keptFrom B W v) (rows-suc k n) ∙ kept-cons v k (rowsFrom (k + 1) n) e
 
   -- what holds for the vector of every row holds for those of the steps
@@ -136,7 +132,8 @@ module _ (B : ℕ → ℕ) (W : ℕ → List Element) where
       ]
     where
       onward : B (j + 1) ≤ i
-          → ((w : List Element) → Climbs (j + 1 + 1) n → W (j + 1) ≡ w → B (j + 1) ≤ i → RowAt (j + 1) n i (at w (keptFrom B W w (rowsFrom (j + 1 + 1) n)) i))
+          → ((w : List Element) → Climbs (j + 1 + 1) n → W (j + 1) ≡ w → B (j + 1) ≤ i
+          → RowAt (j + 1) n i (at w (keptFrom B W w (rowsFrom (j + 1 + 1) n)) i))
           → RowAt j (suc n) i (at v (keptFrom B W v (rowsFrom (j + 1) (suc n))) i)
       onward l ih =
           elim (exact? eqVector eqVector-exact (W (j + 1)) v) [
@@ -144,7 +141,8 @@ module _ (B : ℕ → ℕ) (W : ℕ → List Element) where
                 row-later j n i (at v (keptFrom B W v (rowsFrom (j + 1) (suc n))) i) (at v (keptFrom B W v (rowsFrom (j + 1 + 1) n)) i)
                 (ap (λ s. at v s i) (kept-suc-joined v (j + 1) n q)) (ih v (climbs-on (j + 1) n c) q l)
             | inr q ↦
-                row-later j n i (at v (keptFrom B W v (rowsFrom (j + 1) (suc n))) i) (at (W (j + 1)) (keptFrom B W (W (j + 1)) (rowsFrom (j + 1 + 1) n)) i)
+                row-later j n i (at v (keptFrom B W v (rowsFrom (j + 1) (suc n))) i)
+                (at (W (j + 1)) (keptFrom B W (W (j + 1)) (rowsFrom (j + 1 + 1) n)) i)
                 (ap (λ s. at v s i) (kept-suc v (j + 1) n q)
                 ∙ at-ge v (B (j + 1), W (j + 1)) (keptFrom B W (W (j + 1)) (rowsFrom (j + 1 + 1) n)) i l)
                 (ih (W (j + 1)) (climbs-on (j + 1) n c) refl l)

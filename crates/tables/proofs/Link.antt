@@ -19,7 +19,8 @@ use Rattle.ticks.proofs.Steps.{Changing, at-ge}
 use Rattle.ticks.proofs.Vectors.{keys-length, key-tick}
 use Rattle.ticks.proofs.Written.{among-place, among-get, known-in, known-out, vectorAt-indexed, VectorOver, formed-indexed}
 use Rattle.ticks.proofs.Unique.{normal-unique}
-use Rattle.ticks.proofs.Operations.{known-normalise, normal-normalise, known-merge, normal-merge, known-project, normal-project, known-raise, normal-raise}
+use Rattle.ticks.proofs.Operations.{known-normalise, normal-normalise, known-merge, normal-merge, known-project, normal-project}
+use Rattle.ticks.proofs.Operations.{known-raise, normal-raise}
 use Rattle.tables.specs.MethodPlan.{rowsFrom, firstsOf, usedIn, idsOf, elementsFrom, vectorsIn, pageOf, page, Sampled}
 use Rattle.tables.proofs.Clauses.{used-nil, used-later, vectors-in-cons}
 use Rattle.tables.proofs.PageSizes.{ids-length}

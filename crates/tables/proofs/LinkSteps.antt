@@ -1,7 +1,7 @@
 -- The plan of a table is what numbering gives for the rows that are kept. Two rows are alike exactly where their vectors over the
 -- columns in use are equal, since every other column is 0 in all rows; so the distinct rows have the distinct vectors, and a row has
 -- the number of its vector.
-use Prim.Native.Nat.{ℕ, zero, suc, _+_, _≤_, _<_}
+use Prim.Native.Nat.{ℕ, suc, _+_, _≤_, _<_}
 use mathlib.Core.Path.{_≡_, refl, sym, _∙_, ap, ap₂}
 use mathlib.Core.Logic.{inl, inr, ⊎-elim}
 use mathlib.Core.Bool.{Bool, true, false}
@@ -9,16 +9,16 @@ use mathlib.Core.List.{List, [], _∷_}
 use native.Mathlib.Omega.{arith}
 use lib.ListN.{length}
 use Rattle.layout.specs.Knowledge.{Element}
-use Rattle.ticks.specs.Meaning.{placeBy}
 use Rattle.ticks.specs.Written.{eqVector, vectorsOf, rangesOf, indexed}
 use Rattle.ticks.proofs.Lists.{Among, among?}
 use Rattle.ticks.proofs.Equality.{exact?, exact-no, exact-yes, eqVector-exact}
 use Rattle.ticks.proofs.Numbering.{Apart}
-use Rattle.tables.specs.MethodPlan.{same, rowsFrom, firstsOf, numbersOf, usedIn, columnsOf, idsOf, elementsFrom, vectorsIn, rangesFrom, rangesIn}
+use Rattle.tables.specs.MethodPlan.{same, rowsFrom, firstsOf, numbersOf, usedIn, columnsOf, idsOf, elementsFrom, vectorsIn}
+use Rattle.tables.specs.MethodPlan.{rangesFrom, rangesIn}
 use Rattle.tables.specs.MethodPlan.{pageOf, page, Sampled}
-use Rattle.tables.proofs.Clauses.{place-by-nil, place-by-here, place-by-later, firsts-of, numbers-of, vectors-in-nil, vectors-in-cons, ranges-in}
+use Rattle.tables.proofs.Clauses.{firsts-of, numbers-of, vectors-in-nil, vectors-in-cons, ranges-in}
 use Rattle.tables.proofs.Alike.{same-agree, agree-same}
-use Rattle.tables.proofs.PageSizes.{numbers-of-length}
+use Rattle.tables.proofs.PageSizes.{place-by-le, numbers-of-length}
 use Rattle.tables.proofs.Columns.{columns-of-only}
 use Rattle.tables.proofs.Distinct.{out-zero}
 use Rattle.tables.proofs.RowVectors.{elements-cong, elements-agree, elements-empty}
@@ -68,14 +68,6 @@ module _ (P : ℕ → ℕ) (T : ℕ → ℕ → ℕ) (r n : ℕ) where
 
 one-apart : (v : List Element) → Apart (v ∷ [])
 one-apart v = record { apart = λ y z h k e. omega arith }
-
-place-by-le : (eq : ℕ → ℕ → Bool) (k : ℕ) (seen : List ℕ) → placeBy eq k seen ≤ length seen
-place-by-le eq k [] = omega (arith, place-by-nil eq k)
-place-by-le eq k (j ∷ seen) = go (eq j k) refl (place-by-le eq k seen)
-  where
-    go : (t : Bool) → eq j k ≡ t → placeBy eq k seen ≤ length seen → placeBy eq k (j ∷ seen) ≤ suc (length seen)
-    go true e ih = omega (arith, place-by-here eq k j seen e)
-    go false e ih = omega (arith, place-by-later eq k j seen e)
 
 -- the rows after the first that are kept
 abbrev pub laterSteps : (ℕ → ℕ) → (ℕ → ℕ) → (ℕ → ℕ → ℕ) → ℕ → ℕ → List (ℕ × List Element)

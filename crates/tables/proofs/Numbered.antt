@@ -7,15 +7,17 @@ use mathlib.Core.Bool.{Bool, true, false}
 use mathlib.Core.List.{List, [], _∷_, _++_}
 use native.Mathlib.Omega.{arith}
 use lib.ListN.{length, getD}
-use Rattle.layout.specs.Knowledge.{Element, Range}
+use Rattle.layout.specs.Knowledge.{Element}
 use Rattle.ticks.specs.Meaning.{placeBy}
 use Rattle.ticks.specs.Written.{rangeWith, eqVector, vectorNumber, grown, vectorsOf, rangesOf}
 use Rattle.ticks.proofs.Lists.{Among, less, same as equal, more, order}
 use Rattle.ticks.proofs.Equality.{eqVector-exact, exact?, place-found, place-first}
-use Rattle.ticks.proofs.Numbering.{Apart, number-le, grown-old, grown-new, grown-length, grown-number, grown-apart, vectors-nil, vectors-cons, ranges-nil, ranges-cons}
+use Rattle.ticks.proofs.Numbering.{Apart, number-le, grown-old, grown-new, grown-length, grown-number, grown-apart, vectors-nil}
+use Rattle.ticks.proofs.Numbering.{vectors-cons, ranges-nil, ranges-cons}
 use Rattle.tables.specs.MethodPlan.{rowsFrom, grownBy, firstsFrom, numbersFrom, elementsFrom, vectorsIn, rangesFrom}
 use Rattle.tables.proofs.Clauses.{rows-zero, rows-suc, place-by-nil, place-by-here, place-by-later, grown-by-old, grown-by-new}
-use Rattle.tables.proofs.Clauses.{firsts-nil, firsts-cons, numbers-nil, numbers-cons, vectors-in-nil, vectors-in-cons, ranges-from-nil, ranges-from-joined, ranges-from-kept}
+use Rattle.tables.proofs.Clauses.{firsts-nil, firsts-cons, numbers-nil, numbers-cons, vectors-in-nil, vectors-in-cons}
+use Rattle.tables.proofs.Clauses.{ranges-from-nil, ranges-from-joined, ranges-from-kept}
 use Rattle.tables.proofs.PageSizes.{vectors-in-length}
 use Rattle.tables.proofs.Distinct.{grown-by-only}
 use Rattle.tables.proofs.Kept.{keptFrom, kept-zero, kept-suc-joined, kept-suc}
@@ -113,7 +115,8 @@ module _ (T : ℕ → ℕ → ℕ) (cols : List ℕ) where
         ∙ sym (vectors-cons (vectorsIn T cols seen) (B k, vectorOn k) s)
 
     ranges-step : (k n x : ℕ) (seen : List ℕ) (s : List (ℕ × List Element)) → k ≤ most → Below seen → (placeBy eq k seen ≡ x → ⊥)
-        → rangesFrom B (k + 1) (placeBy eq k seen) (numbersFrom eq (grownBy eq seen k) (rowsFrom (k + 1) n)) ≡ rangesOf (vectorsIn T cols (grownBy eq seen k)) s
+        → rangesFrom B (k + 1) (placeBy eq k seen) (numbersFrom eq (grownBy eq seen k) (rowsFrom (k + 1) n))
+        ≡ rangesOf (vectorsIn T cols (grownBy eq seen k)) s
         → rangesFrom B k x (numbersFrom eq seen (rowsFrom k (suc n))) ≡ rangesOf (vectorsIn T cols seen) ((B k, vectorOn k) ∷ s)
     ranges-step k n x seen s h f d ih =
         ap (λ ks. rangesFrom B k x (numbersFrom eq seen ks)) (rows-suc k n)

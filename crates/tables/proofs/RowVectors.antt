@@ -1,22 +1,21 @@
 -- A row as a clock vector over the columns of a plan: its elements are by rising key with ticks of 1 or more, under each key stands the
 -- tick of its column, and two rows have the same vector exactly where they agree in all those columns.
-use Prim.Native.Nat.{ℕ, zero, suc, _+_, _≤_, _<_}
+use Prim.Native.Nat.{ℕ, suc, _+_, _<_}
 use mathlib.Core.Path.{_≡_, refl, sym, _∙_, ap, ap₂}
 use mathlib.Core.Logic.{inl, inr, ⊎-elim}
-use mathlib.Core.Bool.{true, false}
 use mathlib.Core.List.{List, [], _∷_}
 use native.Mathlib.Omega.{arith}
 use lib.Dec.{eqb}
 use lib.ListN.{length, getD}
 use borrow.Author.Tests.{eq-eqb, ne-eqb}
-use Rattle.layout.specs.Knowledge.{Element, All, keys}
+use Rattle.layout.specs.Knowledge.{keys}
 use Rattle.ticks.specs.Meaning.{place, tickAt}
 use Rattle.ticks.specs.Table.{Row, get}
 use Rattle.ticks.specs.Written.{elementWith, vectorFrom}
 use Rattle.ticks.proofs.Lists.{Among}
 use Rattle.ticks.proofs.Equality.{eqb-exact, exact?, place-found}
 use Rattle.ticks.proofs.Rows.{get-same, get-other}
-use Rattle.ticks.proofs.Vectors.{ElementsInOrder, vector-in-order, vector-keys, vector-tick}
+use Rattle.ticks.proofs.Vectors.{vector-in-order, vector-keys, vector-tick}
 use Rattle.ticks.proofs.Written.{VectorOver, among-place, among-get}
 use Rattle.tables.specs.MethodPlan.{elementsFrom}
 use Rattle.tables.proofs.Clauses.{elements-nil, elements-none, elements-some}
