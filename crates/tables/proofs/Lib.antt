@@ -3,3 +3,10 @@ pub mod Clauses
 pub mod Alike
 pub mod PageSizes
 pub mod Pieces
+pub mod Columns
+pub mod Distinct
+pub mod RowVectors
+pub mod Kept
+pub mod Numbered
+pub mod LinkSteps
+pub mod Link

@@ -1,27 +1,30 @@
 -- The sizes of a plan are those of the knowledge that is planned, so they give the length of its bytes; and they are small: at most as
 -- many replicas and elements of a vector as columns, ranges as rows, vectors as rows and row 0. Nothing is asked of the table.
 use Prim.Native.Nat.{ℕ, zero, suc, _+_, _*_, _≤_, _<_}
-use mathlib.Core.Path.{_≡_, refl, sym, _∙_, ap, ap₂}
+use mathlib.Core.Path.{_≡_, refl, sym, _∙_, ap}
 use mathlib.Core.Logic.{inl, inr}
 use mathlib.Core.Bool.{Bool, true, false}
-use mathlib.Core.List.{List, [], _∷_, _++_}
+use mathlib.Core.List.{List, [], _∷_}
 use native.Mathlib.Nat.{suc-mul, mul-le-mul}
 use native.Mathlib.Omega.{arith}
-use lib.Dec.{eqb, ltb}
+use lib.Dec.{eqb}
 use lib.ListN.{length, length-append}
-use borrow.Author.Tests.{ltb-true, ltb-false}
-use Rattle.layout.specs.Knowledge.{Element, Range, Knowledge, All, encode}
+use Rattle.layout.specs.Knowledge.{Element, Knowledge, All, encode}
 use Rattle.layout.specs.Answer.{elements}
 use Rattle.layout.proofs.Forward.{encode-length}
 use Rattle.ticks.specs.Meaning.{placeBy}
 use Rattle.ticks.proofs.Lists.{less, same as equal, more, order}
 use Rattle.ticks.proofs.Equality.{eqb-exact, exact?}
-use Rattle.tables.specs.MethodPlan.{same, rowsFrom, grownBy, firstsFrom, numbersFrom, firstsOf, numbersOf, usedIn, insertColumn, withColumn, columnsFrom, columnsOf}
-use Rattle.tables.specs.MethodPlan.{idsOf, elementsFrom, vectorsIn, rangesFrom, rangesIn, pageOf, page, elementCount, rangeCount, sizesOf, lengthOf}
-use Rattle.tables.proofs.Clauses.{rows-zero, rows-suc, grown-by-old, grown-by-new, firsts-nil, firsts-cons, numbers-nil, numbers-cons, firsts-of, numbers-of}
-use Rattle.tables.proofs.Clauses.{insert-column-nil, insert-column-before, insert-column-after, with-column-used, with-column-unused, columns-zero, columns-suc, columns-of}
+use Rattle.tables.specs.MethodPlan.{same, rowsFrom, grownBy, firstsFrom, numbersFrom, firstsOf, numbersOf, usedIn, insertColumn}
+use Rattle.tables.specs.MethodPlan.{withColumn, columnsFrom, columnsOf}
+use Rattle.tables.specs.MethodPlan.{idsOf, elementsFrom, vectorsIn, rangesFrom, pageOf, page, elementCount, rangeCount, sizesOf, lengthOf}
+use Rattle.tables.proofs.Clauses.{rows-zero, rows-suc, place-by-nil, place-by-here, place-by-later, grown-by-old, grown-by-new}
+use Rattle.tables.proofs.Clauses.{firsts-nil, firsts-cons, numbers-nil, numbers-cons, firsts-of, numbers-of}
+use Rattle.tables.proofs.Clauses.{insert-column-nil, insert-column-before, insert-column-after, with-column-used, with-column-unused}
+use Rattle.tables.proofs.Clauses.{columns-zero, columns-suc, columns-of}
 use Rattle.tables.proofs.Clauses.{ids-nil, ids-cons, elements-nil, elements-none, elements-some, vectors-in-nil, vectors-in-cons}
-use Rattle.tables.proofs.Clauses.{ranges-from-nil, ranges-from-joined, ranges-from-kept, ranges-in, element-count-nil, element-count-cons, range-count-nil, range-count-joined, range-count-kept}
+use Rattle.tables.proofs.Clauses.{ranges-from-nil, ranges-from-joined, ranges-from-kept, ranges-in, element-count-nil}
+use Rattle.tables.proofs.Clauses.{element-count-cons, range-count-nil, range-count-joined, range-count-kept}
 
 -- Rows
 
@@ -30,6 +33,14 @@ rows-length k zero = ap length (rows-zero k)
 rows-length k (suc n) = ap length (rows-suc k n) ∙ ap suc (rows-length (k + 1) n)
 
 module _ (eq : ℕ → ℕ → Bool) where
+  pub place-by-le : (k : ℕ) (seen : List ℕ) → placeBy eq k seen ≤ length seen
+  place-by-le k [] = omega (arith, place-by-nil eq k)
+  place-by-le k (j ∷ seen) = go (eq j k) refl (place-by-le k seen)
+    where
+      go : (t : Bool) → eq j k ≡ t → placeBy eq k seen ≤ length seen → placeBy eq k (j ∷ seen) ≤ suc (length seen)
+      go true e ih = omega (arith, place-by-here eq k j seen e)
+      go false e ih = omega (arith, place-by-later eq k j seen e)
+
   pub grown-by-least : (seen : List ℕ) (k : ℕ) → length seen ≤ length (grownBy eq seen k)
   grown-by-least seen k =
       elim (order (placeBy eq k seen) (length seen)) [
@@ -54,6 +65,21 @@ module _ (eq : ℕ → ℕ → Bool) where
   firsts-most seen [] = omega (arith, ap length (firsts-nil eq seen))
   firsts-most seen (k ∷ ks) = omega (arith, ap length (firsts-cons eq seen k ks), grown-by-most seen k, firsts-most (grownBy eq seen k) ks)
 
+  -- the number of a row is a place among the distinct rows
+  pub grown-by-above : (seen : List ℕ) (k : ℕ) → placeBy eq k seen < length (grownBy eq seen k)
+  grown-by-above seen k =
+      elim (order (placeBy eq k seen) (length seen)) [
+        | less h ↦ omega (arith, ap length (grown-by-old eq seen k h))
+        | equal h ↦ omega (arith, ap length (grown-by-new eq seen k (omega arith)), length-append seen (k ∷ []))
+        | more h ↦ absurd (omega (arith, place-by-le k seen))
+      ]
+
+  pub numbers-below : (seen ks : List ℕ) → All (λ x. x < length (firstsFrom eq seen ks)) (numbersFrom eq seen ks)
+  numbers-below seen [] = rw numbers-nil tt
+  numbers-below seen (k ∷ ks) =
+      rw (numbers-cons, firsts-cons)
+      (omega (arith, grown-by-above seen k, firsts-least (grownBy eq seen k) ks), numbers-below (grownBy eq seen k) ks)
+
   pub numbers-length : (seen ks : List ℕ) → length (numbersFrom eq seen ks) ≡ length ks
   numbers-length seen [] = ap length (numbers-nil eq seen)
   numbers-length seen (k ∷ ks) = ap length (numbers-cons eq seen k ks) ∙ ap suc (numbers-length (grownBy eq seen k) ks)
@@ -64,6 +90,9 @@ module _ (T : ℕ → ℕ → ℕ) (r n : ℕ) where
 
   pub firsts-of-some : 1 ≤ length (firstsOf T r n)
   firsts-of-some = omega (arith, ap length (firsts-of T r n), firsts-least (same T r) (0 ∷ []) (rowsFrom 1 n))
+
+  pub numbers-of-below : All (λ x. x < length (firstsOf T r n)) (numbersOf T r n)
+  numbers-of-below = rw (numbers-of, firsts-of) (numbers-below (same T r) (0 ∷ []) (rowsFrom 1 n))
 
   pub numbers-of-length : length (numbersOf T r n) ≡ n
   numbers-of-length = ap length (numbers-of T r n) ∙ numbers-length (same T r) (0 ∷ []) (rowsFrom 1 n) ∙ rows-length 1 n
