@@ -10,7 +10,7 @@ use ticks::Cover;
 ghost use mathlib.Core.Path.{_≡_};
 ghost use mathlib.Core.Bool.{true};
 ghost use mathlib.Core.Option.{none};
-ghost use Prim.Native.Nat.{max, _+_, _*_, _^_, _≤_, _<_};
+ghost use Prim.Native.Nat.{_+_, _*_, _^_, _≤_, _<_};
 ghost use lib.Dec.{eqb, ltb};
 ghost use lib.ListN.{length, getD};
 ghost use Rattle.codec.specs.Number.{beAt};
@@ -425,15 +425,6 @@ pub fn cover(knowledge: &[u8], other: &[u8], first: &[u8], last: &[u8]) -> Cover
 
 // ---- range by range
 
-fn larger(a: u64, b: u64) -> u64
-    ensures { λ r. ⌜ r ≡ max a b ⌝ }
-{
-    if a < b {
-        return b;
-    }
-    a
-}
-
 // The largest tick of the elements of the vector at a place, and of what was met before.
 fn top_of(s: &[u8], vector: usize, before: u64) -> u64
     ensures { λ t. ⌜ t ≡ topTick before (elementsHere (now (s .entry)) vector) ⌝ }
@@ -446,7 +437,7 @@ fn top_of(s: &[u8], vector: usize, before: u64) -> u64
     let mut i: usize = 0;
     let mut at = vector + 8;
     while i < n {
-        top = larger(top, eight(s, at + 4));
+        top = codec::larger(top, eight(s, at + 4));
         at += 12;
         i += 1;
     }
