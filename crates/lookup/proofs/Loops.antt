@@ -21,7 +21,7 @@ use Rattle.layout.specs.MethodPlaces.{idsPlace, vectorsPlace, countAt}
 use Rattle.ticks.specs.Meaning.{place, placeBy, tickAt}
 use Rattle.ticks.specs.MethodLookup.{keyOf}
 use Rattle.lookup.specs.declared.Cursor.{Cursor}
-use Rattle.lookup.specs.Method.{keyAt, stepped, vectorFrom, past, passed, settled, advanced, elementsThere, There, tickOf, tickFrom}
+use Rattle.lookup.specs.Method.{keyAt, stepped, vectorFrom, past, passed, settled, advanced, elementsThere, There, elementsHere, tickOf, tickFrom}
 
 -- Words
 
@@ -253,7 +253,7 @@ module _ (s : List ℕ) (whole n i at key : ℕ) (inv : whole ≡ tickAt (elemen
 -- where the elements that are there were searched, the tick is found
 pub tick-is : (s : List ℕ) (at n : ℕ) (key : ReplicaKey) (t : ℕ) → There s at n
     → t ≡ tickAt (elementsAt s n (at + 8)) (key .0) → t ≡ tickOf s at key
-unfolding tickOf
+unfolding tickOf elementsHere
 tick-is s at n key t h e = e ∙ ap (λ m. tickAt (elementsAt s m (at + 8)) (key .0)) (h .is)
 
 pub tick-nothing : (s : List ℕ) (at n : ℕ) (key : ReplicaKey) → There s at n → n ≡ 0 → 0 ≡ tickOf s at key

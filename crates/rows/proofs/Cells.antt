@@ -31,8 +31,8 @@ use Rattle.rows.specs.declared.Least.{Least}
 use Rattle.rows.specs.declared.Least.the-variants as M
 use Rattle.rows.specs.declared.Stop.{Stop}
 use Rattle.rows.specs.declared.Stop.the-variants as N
-use Rattle.lookup.specs.Method.{keyAt, startAt, elementsThere, There}
-use Rattle.rows.specs.Method.{Keyed, stopAt, boundOf, nearerOf, elementsHere, elementAt, Zeros, Blank, RowOf, Filled, idFrom, levelOf, leastId}
+use Rattle.lookup.specs.Method.{keyAt, There, elementsHere}
+use Rattle.rows.specs.Method.{Keyed, stopAt, boundOf, nearerOf, elementAt, Zeros, Blank, RowOf, Filled, idFrom, levelOf, leastId}
 use Rattle.lookup.proofs.Loops.{cursor}
 
 -- past the end of a list of numbers there is 0

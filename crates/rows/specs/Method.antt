@@ -7,17 +7,13 @@ use Rattle.codec.specs.Total.{readAt}
 use Rattle.codec.specs.Words.{words2, words3}
 use Rattle.layout.specs.declared.ReplicaKey.{ReplicaKey}
 use Rattle.layout.specs.declared.VectorIndex.{VectorIndex}
-use Rattle.layout.specs.declared.Checked.the-variants.{Accepted}
-use Rattle.layout.specs.Knowledge.{basic, Element}
-use Rattle.layout.specs.Decode.{idsAt, elementsAt}
-use Rattle.layout.specs.Parse.{checkedBy}
-use Rattle.layout.specs.MethodPlaces.{idsPlace, vectorsPlace, rangesPlace, countAt}
+use Rattle.layout.specs.Knowledge.{Element}
+use Rattle.layout.specs.MethodPlaces.{idsPlace}
 use Rattle.ticks.specs.Meaning.{tickAt}
 use Rattle.ticks.specs.MethodRows.{topTick}
-use Rattle.ticks.specs.MethodLookup.{keyOf, firstIndex}
 use Rattle.ticks.specs.Operations.{Lack, nowhere, here}
 use Rattle.lookup.specs.declared.Cursor.{Cursor}
-use Rattle.lookup.specs.Method.{keyAt, vectorFrom, startAt, advanced, elementsThere, tickOf}
+use Rattle.lookup.specs.Method.{keyAt, vectorFrom, startAt, advanced, elementsHere, tickOf}
 use Rattle.rows.specs.declared.Least.{Least}
 use Rattle.rows.specs.declared.Least.the-variants as M
 use Rattle.rows.specs.declared.Stop.{Stop}
@@ -31,14 +27,6 @@ use Rattle.rows.specs.declared.Place.the-variants as O
 pub record Keyed (s : List ℕ) (r : ℕ) (t : List ℕ) (m : ℕ) (keys : List ℕ) : Type 0 where
   pub is : (k : ℕ) → k < m → getD keys k 0 ≡ keyAt s r (beAt t 16 (idsPlace + 16 * k)) .0
   pub size : m ≤ length keys
-
--- accepted bytes of r replicas, and the cursor before any of their ranges
-pub record Starts (s : List ℕ) (r : ℕ) (c : Cursor) : Type 0 where
-  pub v : ℕ
-  pub e : ℕ
-  pub g : ℕ
-  pub accepts : checkedBy basic s ≡ Accepted r v e g
-  pub start : c ≡ startAt r v e g
 
 -- The next stop
 
@@ -60,9 +48,6 @@ nearerOf (some a) none = some a
 nearerOf (some a) (some b) = elim (ltb b a) [ true ↦ some b | false ↦ some a ]
 
 -- The row of a vector
-
-unfoldable pub elementsHere : List ℕ → ℕ → List Element
-elementsHere s at = elementsAt s (elementsThere s at) (at + 8)
 
 abbrev pub elementAt : List ℕ → ℕ → Element
 elementAt s at = record { key = record { 0 = beAt s 4 at }; tick = beAt s 8 (at + 4) }

@@ -6,7 +6,8 @@ use mathlib.Core.Option.{none}
 use lib.ListN.{length}
 use Rattle.layout.specs.Decode.{elementsAt}
 use Rattle.ticks.specs.MethodRows.{leastOf}
-use Rattle.rows.specs.Method.{elementsHere, idFrom, levelOf}
+use Rattle.lookup.specs.Method.{elementsHere}
+use Rattle.rows.specs.Method.{idFrom, levelOf}
 use Rattle.rows.proofs.Cells.{fine-none, fine-begins, fine-next, fine-all}
 use native.Mathlib.Omega.{arith}
 use Rattle.rows.proofs.fine.Statement.{statement}

@@ -6,7 +6,8 @@ use mathlib.Core.Option.{none}
 use lib.ListN.{length}
 use Rattle.layout.specs.Decode.{elementsAt}
 use Rattle.ticks.specs.MethodRows.{leastOf}
-use Rattle.rows.specs.Method.{elementsHere, idFrom, levelOf, leastId}
+use Rattle.lookup.specs.Method.{elementsHere}
+use Rattle.rows.specs.Method.{idFrom, levelOf, leastId}
 use Rattle.rows.proofs.Cells.{least-fine, least-nothing, least-begins, least-next, least-end}
 use native.Mathlib.Omega.{arith}
 use Rattle.rows.proofs.least_lacking.Statement.{statement}

@@ -5,7 +5,7 @@ use mathlib.Core.Path.{_≡_}
 use lib.ListN.{length}
 use Rattle.layout.specs.Decode.{elementsAt}
 use Rattle.ticks.specs.MethodRows.{topTick}
-use Rattle.rows.specs.Method.{elementsHere}
+use Rattle.lookup.specs.Method.{elementsHere}
 use Rattle.rows.proofs.Ranges.{top-nothing, top-begins, top-next, top-end}
 use native.Mathlib.Omega.{arith}
 use Rattle.rows.proofs.top_of.Statement.{statement}

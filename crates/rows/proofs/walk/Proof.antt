@@ -26,7 +26,12 @@ fill-requires : tie.Need-fill-requires Inv-loop μ-loop
 fill-requires c κs = tt
 
 loop-holds : tie.Need-loop-holds Inv-loop μ-loop
-loop-holds c = (walk-starts _ _ _ _ _ _ _ _ _ _ _ _ _ (record { below = λ i. omega (arith, c .before .before .before .before .before .before .before .before .before .shared-slice-known .given i) }) (record { below = λ i. omega (arith, c .before .before .before .before .before .before .before .before .shared-slice-known2 .given i) }) (c .before .before .before .before .before .before .before .before .before .before .pre .0) (c .before .before .before .before .before .before .before .before .before .before .pre .1) (c .before .before .before .before .before .before .before .before .before .before .pre .2) (c .before .before .before .before .before .before .before .before .before .before .pre .3) (c .before .before .before .before .before .before .before .before .before .before .pre .4) (c .before .before .before .before .before .before .before .before .before .before .pre .5) (c .before .before .before .before .before .advance .ensures) (c .before .before .before .before .advance2 .ensures) (c .before .before .fill .ensures), refl)
+loop-holds c =
+    let p = c .before .before .before .before .before .before .before .before .before .before .pre in (
+      walk-starts _ _ _ _ _ _ _ _ _ _ _ _ _ (p .0) (p .1) (p .2) (p .3) (p .4) (p .5) (c .before .before .before .before .before .advance .ensures)
+          (c .before .before .before .before .advance2 .ensures) (c .before .before .fill .ensures),
+      refl,
+    )
 
 least-lacking-requires : tie.Need-least-lacking-requires Inv-loop μ-loop
 least-lacking-requires c κs = tt
@@ -44,10 +49,10 @@ enum-told : tie.Need-enum-told Inv-loop μ-loop
 enum-told c = omega arith
 
 bound-of-requires : tie.Need-bound-of-requires Inv-loop μ-loop
-bound-of-requires c κs = c .before .before .before .before .loop .inv .0 .first .coming .room
+bound-of-requires c κs = c .before .before .before .before .loop .inv .0 .first .room
 
 bound-of-requires-2 : tie.Need-bound-of-requires-2 Inv-loop μ-loop
-bound-of-requires-2 c κs = c .before .before .before .before .before .loop .inv .0 .second .coming .room
+bound-of-requires-2 c κs = c .before .before .before .before .before .loop .inv .0 .second .room
 
 nearer-requires : tie.Need-nearer-requires Inv-loop μ-loop
 nearer-requires c κs = tt
