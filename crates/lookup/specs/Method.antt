@@ -78,7 +78,11 @@ pub record There (s : List ℕ) (at n : ℕ) : Type 0 where
   pub is : n ≡ elementsThere s at
   pub room : 1 ≤ n → at + 8 + 12 * n ≤ length s
 
--- these elements
+-- the element at a place
+abbrev pub elementAt : List ℕ → ℕ → Element
+elementAt s at = record { key = record { 0 = beAt s 4 at }; tick = beAt s 8 (at + 4) }
+
+-- those of the vector at a place
 unfoldable pub elementsHere : List ℕ → ℕ → List Element
 elementsHere s at = elementsAt s (elementsThere s at) (at + 8)
 

@@ -2,4 +2,3 @@
 pub mod Cells
 pub mod Walking
 pub mod Calls
-pub mod Ranges

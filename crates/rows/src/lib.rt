@@ -1,9 +1,8 @@
-// Rows of ticks in the bytes of a knowledge: cover, the largest tick, and whether a replica's tick is alike in all ranges.
+// Rows of ticks in the bytes of a knowledge, and cover.
 //
 // Every public function is total. An item id is three words and a replica id two, the highest first. The keys of two
 // knowledges meet through their ids only.
 use layout::ReplicaKey;
-use layout::VectorIndex;
 use lookup::Cursor;
 use lookup::Opened;
 use ticks::Cover;
@@ -17,12 +16,11 @@ ghost use Rattle.codec.specs.Words.{words2, words3};
 ghost use Rattle.layout.specs.Knowledge.{Rules, basic};
 ghost use Rattle.layout.specs.Permitted.{rulesWithin};
 ghost use Rattle.layout.specs.Decode.{decode};
-ghost use Rattle.ticks.specs.MethodRows.{lesser, weigh, leastOf, topTick};
+ghost use Rattle.ticks.specs.MethodRows.{lesser, weigh, leastOf};
 ghost use Rattle.ticks.specs.Operations.{lacking};
 ghost use Rattle.ticks.specs.Calls.{coverAnswer};
-ghost use Rattle.lookup.specs.Method.{elementsHere, Opens, Open};
-ghost use Rattle.rows.specs.Method.{elementAt, idFrom, levelOf, leastId, Blank, Filled, Keyed, stopAt, boundOf, nearerOf, lackOf};
-ghost use Rattle.rows.specs.Method.{Zeros, topOf, largestIn, alikeOf, alikeIn};
+ghost use Rattle.lookup.specs.Method.{elementAt, elementsHere, Opens, Open};
+ghost use Rattle.rows.specs.Method.{idFrom, levelOf, leastId, Blank, Zeros, Filled, Keyed, stopAt, boundOf, nearerOf, lackOf};
 
 // the place of the replica ids
 const IDS: usize = 27;
@@ -442,98 +440,4 @@ pub fn cover(knowledge: &[u8], other: &[u8], first: &[u8], last: &[u8]) -> Cover
         layout::REPLICAS,
         layout::RANGES,
     )
-}
-
-// ---- range by range
-
-// The largest tick of the elements of the vector at a place, and of what was met before.
-fn top_of(s: &[u8], vector: usize, before: u64) -> u64
-    ensures { λ t. ⌜ t ≡ topTick before (elementsHere (now (s .entry)) vector) ⌝ }
-{
-    let n = lookup::elements_at(s, vector);
-    if n == 0 {
-        return before;
-    }
-    let mut top = before;
-    let mut i: usize = 0;
-    let mut at = vector + 8;
-    while i < n {
-        top = codec::larger(top, eight(s, at + 4));
-        at += 12;
-        i += 1;
-    }
-    top
-}
-
-// The largest tick of the ranges that a cursor has not passed.
-fn top_from(s: &[u8], r: u32, c: Cursor) -> u64
-    ensures { λ t. ⌜ t ≡ topOf (now (s .entry)) r c ⌝ }
-{
-    let mut left = c.left;
-    let mut next = c.next;
-    let mut index = c.index;
-    let mut vector = c.vector;
-    if s.len() < next {
-        return 0;
-    }
-    if s.len() - next < 28 * (left as usize) {
-        return 0;
-    }
-    let mut top: u64 = 0;
-    while 0 < left {
-        let n = four(s, next + 24) as u32;
-        let to = VectorIndex(n);
-        vector = lookup::vector_place(s, r, index, vector, to);
-        top = top_of(s, vector, top);
-        index = to;
-        next += 28;
-        left -= 1;
-    }
-    top
-}
-
-// The largest tick of a knowledge that was checked, with its sizes.
-pub fn largest_tick(s: &[u8], r: u32, v: u32, e: u32, g: u32) -> u64
-    ensures { λ t. ⌜ t ≡ largestIn (now (s .entry)) r v e g ⌝ }
-{
-    top_from(s, r, lookup::start(r, v, e, g))
-}
-
-// Is the tick of a key the given one in every range that a cursor has not passed.
-fn alike(s: &[u8], r: u32, key: ReplicaKey, own: u64, c: Cursor) -> bool
-    ensures { λ b. ⌜ b ≡ alikeOf (now (s .entry)) r key own c ⌝ }
-{
-    let mut left = c.left;
-    let mut next = c.next;
-    let mut index = c.index;
-    let mut vector = c.vector;
-    if s.len() < next {
-        return true;
-    }
-    if s.len() - next < 28 * (left as usize) {
-        return true;
-    }
-    while 0 < left {
-        let n = four(s, next + 24) as u32;
-        let to = VectorIndex(n);
-        vector = lookup::vector_place(s, r, index, vector, to);
-        if lookup::tick_at(s, vector, key) != own {
-            return false;
-        }
-        index = to;
-        next += 28;
-        left -= 1;
-    }
-    true
-}
-
-// Is the tick of the replica of two words alike in all ranges of a knowledge that was checked, with its sizes.
-pub fn own_alike(s: &[u8], r: u32, v: u32, e: u32, g: u32, p0: u64, p1: u64) -> bool
-    ensures { λ b. ⌜ b ≡ alikeIn (now (s .entry)) r v e g (words2 p0 p1) ⌝ }
-{
-    let from = lookup::start(r, v, e, g);
-    let key = lookup::key_of(s, r, p0, p1);
-    let first = lookup::advance(s, r, from, 0, 0, 0);
-    let own = lookup::tick_at(s, first.vector, key);
-    alike(s, r, key, own, from)
 }

@@ -76,10 +76,14 @@ loop-again c =
     let n = c .before .before .before .before .before .elements-at .result in
     let f = c .before .four .ensures .0 in
     let after = c .if3 .row in
-    let w : Put s n (l .left) (l .at) (l .at - 12) (l .row) (c .before .four .result) (l .inv .0) (omega arith) (omega arith) (omega arith) f after =
-    ⊎-elim
-    (λ x. put-set s n (l .left) (l .at) (l .at - 12) (l .row) (c .before .four .result) (l .inv .0) (omega arith) (omega arith) (omega arith) f after (x .1 .result) (x .1 .ensures .0) (x .0 .taken) (x .2))
-    (λ x. put-skip s n (l .left) (l .at) (l .at - 12) (l .row) (c .before .four .result) (l .inv .0) (omega arith) (omega arith) (omega arith) f after (x .0 .left) (x .1)) (c .if3 .came) in
+    let w : Put s n (l .left) (l .at - 12) (l .row) after =
+    ⊎-elim {C = Put s n (l .left) (l .at - 12) (l .row) after}
+    (λ x.
+    put-set s n (l .left) (l .at) (l .at - 12) (l .row) (c .before .four .result) (l .inv .0) (omega arith) (omega arith)
+    (omega arith) f after (x .1 .result) (x .1 .ensures .0) (x .0 .taken) (x .2))
+    (λ x.
+    put-skip s n (l .left) (l .at) (l .at - 12) (l .row) (c .before .four .result) (l .inv .0) (omega arith) (omega arith)
+    (omega arith) f after (x .0 .left) (x .1)) (c .if3 .came) in
     (w .cells, omega arith, omega arith, omega (arith, w .size), omega arith, l .inv .5)
 
 same-length-2 : tie.Need-same-length-2 Inv-loop μ-loop

@@ -23,22 +23,22 @@ use Rattle.ticks.specs.MethodRows.{topTick, topFrom, alikeRows}
 use Rattle.ticks.specs.Operations.{largest, ownAlike}
 use Rattle.ticks.proofs.ForRows.{largest-rows, alike-rows}
 use Rattle.lookup.specs.declared.Cursor.{Cursor}
-use Rattle.lookup.specs.Method.{keyAt, vectorFrom, startAt, advanced, There, elementsHere, tickOf, tickFrom, Opens}
+use Rattle.lookup.specs.Method.{keyAt, vectorFrom, startAt, advanced, There, elementAt, elementsHere, tickOf, tickFrom, Opens}
+use Rattle.lookup.proofs.Loops.{elements-cons, elements-zero, here-is}
 use Rattle.lookup.proofs.Leaf.{read-lawful, read-ranges, read-key, first-place, next-place, vector-elements, indices-below, leaf-known}
-use Rattle.rows.specs.Method.{elementAt, indexThere, topBy, topOf, largestIn, alikeBy, alikeOf, alikeIn}
-use Rattle.rows.proofs.Cells.{elements-cons, elements-zero, here-is}
+use Rattle.ranges.specs.Method.{indexThere, topBy, topOf, largestIn, alikeBy, alikeOf, alikeIn}
 
 -- The largest tick
 
 module _ (s : List ℕ) (vector n before : ℕ) (t : There s vector n) where
   pub top-nothing : n ≡ 0 → before ≡ topTick before (elementsHere s vector)
   unfolding topTick
-  top-nothing e = sym (ap (topTick before) (here-is s 0 vector n [] [] t ∙ elements-zero s n (vector + 8) e))
+  top-nothing e = sym (ap (topTick before) (here-is s vector n t ∙ elements-zero s n (vector + 8) e))
 
   pub top-begins : topTick before (elementsHere s vector) ≡ topTick before (elementsAt s (n - 0) (vector + 8))
   top-begins =
       let e : n ≡ n - 0 = omega arith in
-      ap (topTick before) (here-is s 0 vector n [] [] t ∙ ap (λ m. elementsAt s m (vector + 8)) e)
+      ap (topTick before) (here-is s vector n t ∙ ap (λ m. elementsAt s m (vector + 8)) e)
 
 module _ (s : List ℕ) (whole n i at top : ℕ) (inv : whole ≡ topTick top (elementsAt s (n - i) at)) where
   pub top-next : (x y : ℕ) → x ≡ beAt s 8 (at + 4) → y ≡ max top x → i < n

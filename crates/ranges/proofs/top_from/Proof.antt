@@ -1,13 +1,13 @@
--- `rows::top_from` meets its contract. The loop's invariant: the largest tick of all ranges is that of the largest so far
+-- `ranges::top_from` meets its contract. The loop's invariant: the largest tick of all ranges is that of the largest so far
 -- and those that are left.
 use Prim.Native.Nat.{_+_, _*_, _≤_}
 use mathlib.Core.Path.{_≡_, refl}
 use lib.ListN.{length}
-use Rattle.rows.specs.Method.{topBy}
-use Rattle.rows.proofs.Ranges.{tops-short, tops-there, tops-next, tops-end}
+use Rattle.ranges.specs.Method.{topBy}
+use Rattle.ranges.proofs.Ranges.{tops-short, tops-there, tops-next, tops-end}
 use native.Mathlib.Omega.{arith}
-use Rattle.rows.proofs.top_from.Statement.{statement}
-use Rattle.rows.proofs.top_from.Tie as tie
+use Rattle.ranges.proofs.top_from.Statement.{statement}
+use Rattle.ranges.proofs.top_from.Tie as tie
 
 abbrev Inv-loop : tie.InvT-loop
 Inv-loop s r left₀ next₀ index₀ vector₀ top₀ left next index vector top =

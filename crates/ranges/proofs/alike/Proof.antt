@@ -1,12 +1,12 @@
--- `rows::alike` meets its contract. The loop's invariant: the whole answer is the answer for the ranges that are left.
+-- `ranges::alike` meets its contract. The loop's invariant: the whole answer is the answer for the ranges that are left.
 use Prim.Native.Nat.{_+_, _*_, _≤_}
 use mathlib.Core.Path.{_≡_, refl}
 use lib.ListN.{length}
-use Rattle.rows.specs.Method.{alikeBy}
-use Rattle.rows.proofs.Ranges.{alike-short, alike-there, alike-next, alike-stop, alike-end}
+use Rattle.ranges.specs.Method.{alikeBy}
+use Rattle.ranges.proofs.Ranges.{alike-short, alike-there, alike-next, alike-stop, alike-end}
 use native.Mathlib.Omega.{arith}
-use Rattle.rows.proofs.alike.Statement.{statement}
-use Rattle.rows.proofs.alike.Tie as tie
+use Rattle.ranges.proofs.alike.Statement.{statement}
+use Rattle.ranges.proofs.alike.Tie as tie
 
 abbrev Inv-loop : tie.InvT-loop
 Inv-loop s r key own left₀ next₀ index₀ vector₀ left next index vector =

@@ -1,4 +1,4 @@
--- `rows::top_of` meets its contract. The loop's invariant: the largest tick of all elements is that of the largest so far
+-- `ranges::top_of` meets its contract. The loop's invariant: the largest tick of all elements is that of the largest so far
 -- and those that are left.
 use Prim.Native.Nat.{_+_, _-_, _*_, _≤_}
 use mathlib.Core.Path.{_≡_}
@@ -6,10 +6,10 @@ use lib.ListN.{length}
 use Rattle.layout.specs.Decode.{elementsAt}
 use Rattle.ticks.specs.MethodRows.{topTick}
 use Rattle.lookup.specs.Method.{elementsHere}
-use Rattle.rows.proofs.Ranges.{top-nothing, top-begins, top-next, top-end}
+use Rattle.ranges.proofs.Ranges.{top-nothing, top-begins, top-next, top-end}
 use native.Mathlib.Omega.{arith}
-use Rattle.rows.proofs.top_of.Statement.{statement}
-use Rattle.rows.proofs.top_of.Tie as tie
+use Rattle.ranges.proofs.top_of.Statement.{statement}
+use Rattle.ranges.proofs.top_of.Tie as tie
 
 abbrev Inv-loop : tie.InvT-loop
 Inv-loop s vector before n top₀ i₀ at₀ top i at =

@@ -1,8 +1,8 @@
--- `rows::own_alike` meets its contract: the tick at item 0 is that of every range.
-use Rattle.rows.proofs.Ranges.{alike-is}
+-- `ranges::own_alike` meets its contract: the tick at item 0 is that of every range.
+use Rattle.ranges.proofs.Ranges.{alike-is}
 use native.Mathlib.Omega.{arith}
-use Rattle.rows.proofs.own_alike.Statement.{statement}
-use Rattle.rows.proofs.own_alike.Tie as tie
+use Rattle.ranges.proofs.own_alike.Statement.{statement}
+use Rattle.ranges.proofs.own_alike.Tie as tie
 
 start-requires : tie.Need-start-requires
 start-requires c κs = tt
