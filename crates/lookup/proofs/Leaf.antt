@@ -24,7 +24,8 @@ use Rattle.ticks.proofs.Lists.{less, same, more, order}
 use Rattle.ticks.proofs.LawfulResults.{lawful-ticks}
 use Rattle.ticks.proofs.ForCode.{indexAt-nil, indexAt-lt, indexAt-ge, vector-indexed, known-place}
 use Rattle.lookup.specs.declared.Cursor.{Cursor}
-use Rattle.lookup.specs.Method.{keyAt, stepped, vectorFrom, startAt, past, passed, settled, advanced, elementsThere, elementsHere, tickOf, tickFrom, Opens}
+use Rattle.lookup.specs.Method.{keyAt, stepped, vectorFrom, startAt, past, passed, settled, advanced}
+use Rattle.lookup.specs.Method.{elementsHere, tickOf, tickFrom, Opens}
 use Rattle.lookup.proofs.Loops.{key-there, stepped-zero, stepped-on, from-here, from-first, cursor, there-all}
 
 -- Vectors

@@ -21,7 +21,8 @@ use Rattle.layout.specs.MethodPlaces.{idsPlace, vectorsPlace, countAt}
 use Rattle.ticks.specs.Meaning.{place, placeBy, tickAt}
 use Rattle.ticks.specs.MethodLookup.{keyOf}
 use Rattle.lookup.specs.declared.Cursor.{Cursor}
-use Rattle.lookup.specs.Method.{keyAt, stepped, vectorFrom, past, passed, settled, advanced, elementsThere, There, elementAt, elementsHere, tickOf, tickFrom}
+use Rattle.lookup.specs.Method.{keyAt, stepped, vectorFrom, past, passed, settled, advanced}
+use Rattle.lookup.specs.Method.{elementsThere, There, elementAt, elementsHere, tickOf, tickFrom}
 
 -- Words
 

@@ -28,7 +28,8 @@ use Rattle.ticks.proofs.ForCode.{keys-below, known-place}
 use Rattle.ticks.proofs.ForRows.{Fine, Still, LeastLacking, idIn, least-none, least-some, lacking-on, lacking-past, lacking-here}
 use Rattle.lookup.specs.declared.Cursor.{Cursor}
 use Rattle.lookup.specs.Method.{advanced, elementsHere, Open}
-use Rattle.lookup.proofs.Leaf.{read-lawful, read-ids, ids-room, read-key, Stands, stands-start, stands-advanced, stands-elements, stands-still, advanced-fewer, advanced-passes, start-elements}
+use Rattle.lookup.proofs.Leaf.{read-lawful, read-ids, ids-room, read-key, start-elements}
+use Rattle.lookup.proofs.Leaf.{Stands, stands-start, stands-advanced, stands-elements, stands-still, advanced-fewer, advanced-passes}
 use Rattle.rows.specs.declared.Least.{Least}
 use Rattle.rows.specs.declared.Least.the-variants as M
 use Rattle.rows.specs.declared.Stop.{Stop}

@@ -16,7 +16,8 @@ enum-known-r c = search needs
 contain-in-requires : tie.Need-contain-in-requires
 contain-in-requires c κs =
     let a = c .before .before .before .before .before .before .before .args in
-    let b : Bytes (a .knowledge .now) = record { below = λ i. omega (arith, c .before .before .before .before .before .before .shared-slice-known .given i) } in
+    let b : Bytes (a .knowledge .now) =
+    record { below = λ i. omega (arith, c .before .before .before .before .before .before .shared-slice-known .given i) } in
     opens-open (a .replicas) (a .ranges) _ _ _
     (opens-within (a .replicas) (a .ranges) _ _ (c .before .before .before .open-within .ensures) b _ _ (c .before .r .given .1))
 
@@ -26,7 +27,8 @@ enum-known-n c = search needs
 returns : tie.Need-returns
 returns c =
     let a = c .before .before .before .before .before .before .before .before .args in
-    let b : Bytes (a .knowledge .now) = record { below = λ i. omega (arith, c .before .before .before .before .before .before .before .shared-slice-known .given i) } in
+    let b : Bytes (a .knowledge .now) =
+    record { below = λ i. omega (arith, c .before .before .before .before .before .before .before .shared-slice-known .given i) } in
     c .contain-in .ensures (rulesWithin (a .replicas) (a .ranges))
     (opens-within (a .replicas) (a .ranges) _ _ (c .before .before .before .before .open-within .ensures) b _ _ (c .before .before .r .given .1))
 

@@ -16,7 +16,8 @@ enum-known-m c = search needs
 lead-in-requires : tie.Need-lead-in-requires
 lead-in-requires c κs =
     let a = c .before .before .before .before .before .before .before .before .args in
-    let b : Bytes (a .t .now) = record { below = λ i. omega (arith, c .before .before .before .before .before .before .shared-slice-known2 .given i) } in (
+    let b : Bytes (a .t .now) =
+    record { below = λ i. omega (arith, c .before .before .before .before .before .before .shared-slice-known2 .given i) } in (
       opens-open (a .replicas) (a .ranges) _ _ _ (c .before .before .before .before .before .before .before .before .pre),
       opens-open (a .replicas) (a .ranges) _ _ _
           (opens-within (a .replicas) (a .ranges) _ _ (c .before .before .before .open-within .ensures) b _ _ (c .before .m .given .1)),
@@ -28,7 +29,8 @@ enum-known-n c = search needs
 returns : tie.Need-returns
 returns c =
     let a = c .before .before .before .before .before .before .before .before .before .args in
-    let b : Bytes (a .t .now) = record { below = λ i. omega (arith, c .before .before .before .before .before .before .before .shared-slice-known2 .given i) } in
+    let b : Bytes (a .t .now) =
+    record { below = λ i. omega (arith, c .before .before .before .before .before .before .before .shared-slice-known2 .given i) } in
     c .lead-in .ensures (rulesWithin (a .replicas) (a .ranges)) (c .before .before .before .before .before .before .before .before .before .pre)
     (opens-within (a .replicas) (a .ranges) _ _ (c .before .before .before .before .open-within .ensures) b _ _ (c .before .before .m .given .1))
 

@@ -16,7 +16,8 @@ enum-known-r c = search needs
 lead-second-requires : tie.Need-lead-second-requires
 lead-second-requires c κs =
     let a = c .before .before .before .before .before .before .before .before .args in
-    let b : Bytes (a .first .now) = record { below = λ i. omega (arith, c .before .before .before .before .before .before .before .shared-slice-known .given i) } in
+    let b : Bytes (a .first .now) =
+    record { below = λ i. omega (arith, c .before .before .before .before .before .before .before .shared-slice-known .given i) } in
     opens-within (a .replicas) (a .ranges) _ _ (c .before .before .before .open-within .ensures) b _ _ (c .before .r .given .1)
 
 enum-known-n : tie.Need-enum-known-n

@@ -23,8 +23,9 @@ known-tick-requires c κs = tt
 
 returns : tie.Need-returns
 returns c =
-    tick-known _ _ _ (c .before .before .before .before .before .before .before .before .before .pre .0) _ _ (c .before .before .before .before .before .before .before .before .before .pre .1) (c .before .before .before .before .before .before .before .before .before .pre .2) _ _ _ _ _ _
-    (c .before .before .before .before .before .read8 .ensures .0) (c .before .before .before .before .read82 .ensures .0) (c .before .before .before .read83 .ensures .0)
+    let p = c .before .before .before .before .before .before .before .before .before .pre in
+    tick-known _ _ _ (p .0) _ _ (p .1) (p .2) _ _ _ _ _ _ (c .before .before .before .before .before .read8 .ensures .0)
+    (c .before .before .before .before .read82 .ensures .0) (c .before .before .before .read83 .ensures .0)
     (c .before .before .read84 .ensures .0) (c .before .read85 .ensures .0) (c .known-tick .ensures)
 
 pub tick-of-spec : {M : Type 1} → statement M

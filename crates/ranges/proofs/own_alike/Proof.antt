@@ -20,7 +20,10 @@ alike-requires : tie.Need-alike-requires
 alike-requires c κs = tt
 
 returns : tie.Need-returns
-returns c = alike-is _ _ _ _ _ _ _ _ _ _ _ (c .before .before .before .before .start .ensures) (c .before .before .before .key-of .ensures) (c .before .before .advance .ensures) (c .before .tick-at .ensures) (c .alike .ensures)
+returns c =
+    alike-is _ _ _ _ _ _ _ _ _ _ _ (c .before .before .before .before .start .ensures)
+    (c .before .before .before .key-of .ensures) (c .before .before .advance .ensures) (c .before .tick-at .ensures)
+    (c .alike .ensures)
 
 pub own-alike-spec : {M : Type 1} → statement M
 own-alike-spec =

@@ -49,7 +49,12 @@ loop-less : tie.Need-loop-less Inv-loop μ-loop
 loop-less c = omega arith
 
 loop-again : tie.Need-loop-again Inv-loop μ-loop
-loop-again c = (top-next _ _ _ _ _ _ (c .before .before .before .loop .inv .0) _ _ (c .before .eight .ensures .0) (c .larger .ensures) (c .before .before .loop-test .taken), omega arith, omega arith)
+loop-again c = (
+  top-next _ _ _ _ _ _ (c .before .before .before .loop .inv .0) _ _ (c .before .eight .ensures .0) (c .larger .ensures)
+      (c .before .before .loop-test .taken),
+  omega arith,
+  omega arith,
+)
 
 returns-2 : tie.Need-returns-2 Inv-loop μ-loop
 returns-2 c = top-end _ _ _ _ _ _ (c .before .loop .inv .0) (omega arith)

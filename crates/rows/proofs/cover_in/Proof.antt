@@ -34,9 +34,12 @@ less3-requires c κs = tt
 returns-3 : tie.Need-returns-3
 returns-3 c =
     λ R o q.
-    cover-above R _ _ _ _ _ _ o _ _ q (c .before .before .before .before .before .before .before .before .before .if1 .left) (c .before .before .before .before .before .before .before .before .if2 .left) _ _ _ _ _ _
-    (record { high = c .before .before .before .before .before .before .before .read8 .ensures .0; middle = c .before .before .before .before .before .before .read82 .ensures .0; low = c .before .before .before .before .before .read83 .ensures .0 })
-    (record { high = c .before .before .before .before .read84 .ensures .0; middle = c .before .before .before .read85 .ensures .0; low = c .before .before .read86 .ensures .0 })
+    let l = c .before .before in
+    let f = l .before .before .before in
+    cover-above R _ _ _ _ _ _ o _ _ q (f .before .before .before .before .if1 .left) (f .before .before .before .if2 .left)
+    _ _ _ _ _ _
+    (record { high = f .before .before .read8 .ensures .0; middle = f .before .read82 .ensures .0; low = f .read83 .ensures .0 })
+    (record { high = l .before .before .read84 .ensures .0; middle = l .before .read85 .ensures .0; low = l .read86 .ensures .0 })
     _ (c .before .less3 .ensures) (c .if3 .taken)
 
 lacking-requires : tie.Need-lacking-requires
@@ -53,18 +56,26 @@ enum-told-2 c = omega arith
 returns-4 : tie.Need-returns-4
 returns-4 c =
     λ R o q.
-    cover-yes R _ _ _ _ _ _ o _ _ q (c .before .before .before .before .before .before .before .before .before .before .before .before .if1 .left) (c .before .before .before .before .before .before .before .before .before .before .before .if2 .left) _ _ _ _ _ _
-    (record { high = c .before .before .before .before .before .before .before .before .before .before .read8 .ensures .0; middle = c .before .before .before .before .before .before .before .before .before .read82 .ensures .0; low = c .before .before .before .before .before .before .before .before .read83 .ensures .0 })
-    (record { high = c .before .before .before .before .before .before .before .read84 .ensures .0; middle = c .before .before .before .before .before .before .read85 .ensures .0; low = c .before .before .before .before .before .read86 .ensures .0 })
-    _ (c .before .before .before .before .less3 .ensures) (c .before .before .before .if3 .left) _ (c .before .before .lacking .ensures) (c .enum-told .given .1)
+    let l = c .before .before .before .before .before in
+    let f = l .before .before .before in
+    cover-yes R _ _ _ _ _ _ o _ _ q (f .before .before .before .before .if1 .left) (f .before .before .before .if2 .left)
+    _ _ _ _ _ _
+    (record { high = f .before .before .read8 .ensures .0; middle = f .before .read82 .ensures .0; low = f .read83 .ensures .0 })
+    (record { high = l .before .before .read84 .ensures .0; middle = l .before .read85 .ensures .0; low = l .read86 .ensures .0 })
+    _ (c .before .before .before .before .less3 .ensures) (c .before .before .before .if3 .left) _
+    (c .before .before .lacking .ensures) (c .enum-told .given .1)
 
 returns-5 : tie.Need-returns-5
 returns-5 c =
     λ R o q.
-    cover-no R _ _ _ _ _ _ o _ _ q (c .before .before .before .before .before .before .before .before .before .before .before .before .if1 .left) (c .before .before .before .before .before .before .before .before .before .before .before .if2 .left) _ _ _ _ _ _
-    (record { high = c .before .before .before .before .before .before .before .before .before .before .read8 .ensures .0; middle = c .before .before .before .before .before .before .before .before .before .read82 .ensures .0; low = c .before .before .before .before .before .before .before .before .read83 .ensures .0 })
-    (record { high = c .before .before .before .before .before .before .before .read84 .ensures .0; middle = c .before .before .before .before .before .before .read85 .ensures .0; low = c .before .before .before .before .before .read86 .ensures .0 })
-    _ (c .before .before .before .before .less3 .ensures) (c .before .before .before .if3 .left) _ (c .before .before .lacking .ensures) _ _ _ _ _ (c .enum-told2 .given .1)
+    let l = c .before .before .before .before .before in
+    let f = l .before .before .before in
+    cover-no R _ _ _ _ _ _ o _ _ q (f .before .before .before .before .if1 .left) (f .before .before .before .if2 .left)
+    _ _ _ _ _ _
+    (record { high = f .before .before .read8 .ensures .0; middle = f .before .read82 .ensures .0; low = f .read83 .ensures .0 })
+    (record { high = l .before .before .read84 .ensures .0; middle = l .before .read85 .ensures .0; low = l .read86 .ensures .0 })
+    _ (c .before .before .before .before .less3 .ensures) (c .before .before .before .if3 .left) _
+    (c .before .before .lacking .ensures) _ _ _ _ _ (c .enum-told2 .given .1)
 
 pub cover-in-spec : {M : Type 1} → statement M
 cover-in-spec =

@@ -17,7 +17,8 @@ enum-known-m c = search needs
 cover-in-requires : tie.Need-cover-in-requires
 cover-in-requires c κs =
     let a = c .before .before .before .before .before .before .before .before .args in
-    let b : Bytes (a .t .now) = record { below = λ i. omega (arith, c .before .before .before .before .before .before .shared-slice-known2 .given i) } in (
+    let b : Bytes (a .t .now) =
+    record { below = λ i. omega (arith, c .before .before .before .before .before .before .shared-slice-known2 .given i) } in (
       opens-open (a .replicas) (a .ranges) _ _ _ (c .before .before .before .before .before .before .before .before .pre),
       opens-open (a .replicas) (a .ranges) _ _ _
           (opens-within (a .replicas) (a .ranges) _ _ (c .before .before .before .open-within .ensures) b _ _ (c .before .m .given .1)),
@@ -29,7 +30,8 @@ enum-known-n c = search needs
 returns : tie.Need-returns
 returns c =
     let a = c .before .before .before .before .before .before .before .before .before .args in
-    let b : Bytes (a .t .now) = record { below = λ i. omega (arith, c .before .before .before .before .before .before .before .shared-slice-known2 .given i) } in
+    let b : Bytes (a .t .now) =
+    record { below = λ i. omega (arith, c .before .before .before .before .before .before .before .shared-slice-known2 .given i) } in
     c .cover-in .ensures (rulesWithin (a .replicas) (a .ranges)) (c .before .before .before .before .before .before .before .before .before .pre)
     (opens-within (a .replicas) (a .ranges) _ _ (c .before .before .before .before .open-within .ensures) b _ _ (c .before .before .m .given .1))
 

@@ -52,8 +52,10 @@ loop-less c = omega arith
 
 loop-again : tie.Need-loop-again Inv-loop μ-loop
 loop-again c = (
-  keyed-more _ _ _ _ _ _ _ _ _ (c .before .before .before .before .before .before .before .loop .inv .0) (omega arith) (c .before .before .before .before .before .before .before .loop .inv .1) (c .before .before .before .before .eight .ensures .0)
-      (c .before .before .before .eight2 .ensures .0) (c .before .before .key-of .ensures),
+  keyed-more _ _ _ _ _ _ _ _ _ (c .before .before .before .before .before .before .before .loop .inv .0) (omega arith)
+      (c .before .before .before .before .before .before .before .loop .inv .1)
+      (c .before .before .before .before .eight .ensures .0) (c .before .before .before .eight2 .ensures .0)
+      (c .before .before .key-of .ensures),
   omega arith,
   omega arith,
   simp length-set (omega arith),
