@@ -6,7 +6,7 @@ use native.Mathlib.Nat.{mul-le-mul}
 use native.Mathlib.Omega.{arith}
 use Rattle.codec.specs.Total.{brought}
 use Rattle.codec.proofs.Total.{brought-within, brought-inside}
-use Rattle.layout.specs.Knowledge.{Rules, anyId, basic}
+use Rattle.layout.specs.Knowledge.{anyId, basic}
 use Rattle.layout.specs.Permitted.{base, longest, Permitted, largestReplicas, largestRanges, largestRecords, within, rulesWithin}
 
 pub within-permitted : (replicas ranges records : ℕ) → Permitted (within replicas ranges records)

@@ -6,7 +6,7 @@
 -- (`stands-advanced`), where j is at or after the item that the cursor stood at; and there the elements at the cursor's
 -- vector are the item's (`stands-elements`). Up to the next bound it need not be moved (`stands-vector`).
 use Prim.Native.Nat.{ℕ, zero, suc, _+_, _-_, _*_, _≤_, _<_}
-use mathlib.Core.Path.{_≡_, refl, sym, ap, ap₂, _∙_, subst}
+use mathlib.Core.Path.{_≡_, refl, sym, ap, _∙_, subst}
 use mathlib.Core.List.{List, []}
 use native.Mathlib.Omega.{arith}
 use lib.ListN.{length}

@@ -1,7 +1,7 @@
 -- Rows of ticks, and what lacks at an item. A row is cleared and then filled from the last element to the first, so that
 -- the first element of a key stays. The elements of the other knowledge's vector are weighed one after the other: the whole
 -- answer is the answer from here on. Beside these, what the functions with no loop return.
-use Prim.Native.Nat.{ℕ, zero, suc, _+_, _-_, _*_, _≤_, _<_}
+use Prim.Native.Nat.{ℕ, _+_, _-_, _*_, _≤_, _<_}
 use mathlib.Core.Path.{_≡_, refl, sym, ap, ap₂, _∙_}
 use mathlib.Core.Logic.{inl, inr}
 use mathlib.Core.Bool.{Bool, true, false}
@@ -17,7 +17,6 @@ use Rattle.codec.specs.Total.{readAt}
 use Rattle.codec.specs.Words.{words2, words3}
 use Rattle.codec.proofs.Order.{words2-be, words3-be}
 use Rattle.layout.specs.declared.ReplicaKey.{ReplicaKey}
-use Rattle.layout.specs.Knowledge.{Element}
 use Rattle.layout.specs.Decode.{elementsAt}
 use Rattle.layout.specs.MethodPlaces.{idsPlace}
 use Rattle.ticks.specs.Meaning.{tickAt}

@@ -2,7 +2,7 @@
 -- second's replicas, so the least lacking id among the elements there is the least replica that lacks. The next stop is the
 -- nearer of the two next bounds: up to it nothing changes, and one cursor at least passes a range there. So the first
 -- lacking place of the span is the one from the stop on (`Walks`).
-use Prim.Native.Nat.{ℕ, zero, suc, _+_, _*_, _≤_, _<_}
+use Prim.Native.Nat.{ℕ, suc, _+_, _*_, _≤_, _<_}
 use mathlib.Core.Path.{_≡_, refl, sym, ap, ap₂, _∙_}
 use mathlib.Core.Logic.{_⊎_, inl, inr, ⊎-elim}
 use mathlib.Core.Option.{Option, none, some}
@@ -21,7 +21,7 @@ use Rattle.layout.proofs.Places.{counts, id-at}
 use Rattle.ticks.specs.Meaning.{known, place, tickAt, vectorAt}
 use Rattle.ticks.specs.MethodLookup.{keyOf}
 use Rattle.ticks.specs.MethodRows.{leastOf}
-use Rattle.ticks.specs.Operations.{nowhere, here, lacking}
+use Rattle.ticks.specs.Operations.{here, lacking}
 use Rattle.ticks.proofs.Lists.{less, same, more, order}
 use Rattle.ticks.proofs.Vectors.{tick-nil, tick-none}
 use Rattle.ticks.proofs.ForCode.{keys-below, known-place}

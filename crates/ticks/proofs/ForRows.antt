@@ -12,19 +12,18 @@
 -- The largest tick and a tick alike in all ranges are found range by range: the range of a bound is its own.
 --
 -- The answers of cover are equations, one for each way that the call goes, from what the check of the bytes answered.
-use Prim.Native.Nat.{ℕ, zero, suc, _+_, _≤_, _<_, max}
+use Prim.Native.Nat.{ℕ, suc, _≤_, _<_, max}
 use mathlib.Core.Path.{_≡_, refl, sym, ap, ap₂, subst, _∙_}
-use mathlib.Core.Logic.{_↔_, inl, inr, _⊎_, ⊎-elim}
+use mathlib.Core.Logic.{inl, inr, _⊎_, ⊎-elim}
 use mathlib.Core.Bool.{Bool, true, false}
 use mathlib.Core.Option.{Option, none, some}
 use mathlib.Core.List.{List, [], _∷_}
 use native.Mathlib.Omega.{arith}
-use lib.Dec.{eqb, ltb, leb}
+use lib.Dec.{eqb, ltb}
 use lib.ListN.{length, getD}
-use borrow.Author.Tests.{lt-ltb, le-ltb, le-leb, lt-leb, eq-eqb, ne-eqb}
-use Rattle.layout.specs.declared.ReplicaKey.{ReplicaKey}
+use borrow.Author.Tests.{lt-ltb, le-ltb, le-leb, lt-leb}
 use Rattle.layout.specs.declared.VectorIndex.{VectorIndex}
-use Rattle.layout.specs.Knowledge.{Rules, Element, Range, Knowledge, All, Distinct, Rising, keys, bounds, Lawful}
+use Rattle.layout.specs.Knowledge.{Rules, Element, Range, Knowledge, All, Rising, bounds, Lawful}
 use Rattle.ticks.specs.Meaning.{known, tickAt, vectorAt, vectorOf}
 use Rattle.ticks.specs.MethodLookup.{keyOf, indexAt, firstIndex}
 use Rattle.ticks.specs.MethodRows.{lesser, weigh, leastOf, topTick, topFrom, alikeRows}

@@ -1,6 +1,5 @@
 -- `ranges::largest_tick` meets its contract: from the cursor before any range.
 use Rattle.ranges.proofs.Ranges.{largest-is}
-use native.Mathlib.Omega.{arith}
 use Rattle.ranges.proofs.largest_tick.Statement.{statement}
 use Rattle.ranges.proofs.largest_tick.Tie as tie
 

@@ -1,6 +1,5 @@
 -- `ranges::own_alike` meets its contract: the tick at item 0 is that of every range.
 use Rattle.ranges.proofs.Ranges.{alike-is}
-use native.Mathlib.Omega.{arith}
 use Rattle.ranges.proofs.own_alike.Statement.{statement}
 use Rattle.ranges.proofs.own_alike.Tie as tie
 
