@@ -3,7 +3,7 @@
 // Every public function is total: a number of which a byte is missing is read as 0, and what has no room is not written at all.
 ghost use mathlib.Core.Path.{_≡_};
 ghost use mathlib.Core.Bool.{true, false};
-ghost use Prim.Native.Nat.{_+_, _≤_, _<_, _^_};
+ghost use Prim.Native.Nat.{max, _+_, _≤_, _<_, _^_};
 ghost use lib.Dec.{eqb, ltb};
 ghost use lib.ListN.{length, getD};
 ghost use lib.Seq.{sets};
@@ -178,6 +178,16 @@ pub fn same3(a0: u64, a1: u64, a2: u64, b0: u64, b1: u64, b2: u64) -> bool
         return same2(a1, a2, b1, b2);
     }
     false
+}
+
+// The larger of two ticks.
+pub fn larger(a: u64, b: u64) -> u64
+    ensures { λ r. ⌜ r ≡ max a b ⌝ }
+{
+    if a < b {
+        return b;
+    }
+    a
 }
 
 // A limit brought into 1 to a largest.

@@ -1,12 +1,13 @@
--- Limits given as numbers: each is brought into 1 to its largest, so they are permitted whatever the numbers are, since the longest
--- knowledge at the largest limits has room in its fields. Document 01's limits are themselves such, and numbers that lie in there stay.
+-- Limits and rules given as numbers: each is brought into 1 to its largest, so they are permitted whatever the numbers are, since the longest
+-- knowledge at the largest limits has room in its fields. Document 01's are themselves such, and numbers that lie in there stay.
 use Prim.Native.Nat.{ℕ, _*_, _≤_}
-use mathlib.Core.Path.{_≡_, refl}
+use mathlib.Core.Path.{_≡_, refl, ap}
 use native.Mathlib.Nat.{mul-le-mul}
 use native.Mathlib.Omega.{arith}
 use Rattle.codec.specs.Total.{brought}
 use Rattle.codec.proofs.Total.{brought-within, brought-inside}
-use Rattle.layout.specs.Permitted.{base, longest, Permitted, largestReplicas, largestRanges, largestRecords, within}
+use Rattle.layout.specs.Knowledge.{anyId, basic}
+use Rattle.layout.specs.Permitted.{base, longest, Permitted, largestReplicas, largestRanges, largestRecords, within, rulesWithin}
 
 pub within-permitted : (replicas ranges records : ℕ) → Permitted (within replicas ranges records)
 unfolding longest
@@ -28,6 +29,10 @@ pub base-within : within (base .replicas) (base .ranges) (base .records) ≡ bas
 unfolding brought
 base-within = refl
 
+-- document 01's rules are those of its two numbers
+pub basic-within : rulesWithin (base .replicas) (base .ranges) ≡ basic
+basic-within = ap anyId base-within
+
 -- numbers inside 1 to the largest are the limits themselves
 module _ (replicas ranges records : ℕ) where
   pub within-replicas : 1 ≤ replicas → replicas ≤ largestReplicas → within replicas ranges records .replicas ≡ replicas
@@ -38,3 +43,10 @@ module _ (replicas ranges records : ℕ) where
 
   pub within-records : 1 ≤ records → records ≤ largestRecords → within replicas ranges records .records ≡ records
   within-records a b = omega (arith, brought-inside records largestRecords a b)
+
+-- what rules of two numbers allow has room in scratch of the largest size
+pub few-replicas : (replicas ranges : ℕ) → rulesWithin replicas ranges .limits .replicas ≤ largestReplicas
+few-replicas replicas ranges = brought-within replicas largestReplicas (omega arith) .1
+
+pub few-ranges : (replicas ranges : ℕ) → rulesWithin replicas ranges .limits .ranges ≤ largestRanges
+few-ranges replicas ranges = brought-within ranges largestRanges (omega arith) .1

@@ -1,9 +1,9 @@
--- The limits that the laws hold for, and limits given as numbers. There is nothing to believe here: document 01's limits
--- are permitted (`base-permitted`), so are all limits given as numbers (`within-permitted`), and document 01's are such
--- (`base-within`).
+-- The limits that the laws hold for, and limits and rules given as numbers. There is nothing to believe here: document 01's
+-- limits are permitted (`base-permitted`), so are all limits given as numbers (`within-permitted`), and document 01's limits
+-- and rules are such (`base-within`, `basic-within`).
 use Rattle.codec.specs.Prelude.{ℕ, _+_, _*_, _≤_}
 use Rattle.codec.specs.Total.{brought}
-use Rattle.layout.specs.Knowledge.{Limits, basic}
+use Rattle.layout.specs.Knowledge.{Limits, Rules, anyId, basic}
 
 abbrev pub base : Limits
 base = basic .limits
@@ -47,3 +47,8 @@ within replicas ranges records = record {
   ranges = brought ranges largestRanges;
   records = brought records largestRecords;
 }
+
+-- rules given as numbers: the most replicas and the most ranges. How many records there may be is nothing that reading a
+-- knowledge goes by
+abbrev pub rulesWithin : ℕ → ℕ → Rules
+rulesWithin replicas ranges = anyId (within replicas ranges (base .records))

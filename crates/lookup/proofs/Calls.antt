@@ -1,6 +1,7 @@
 -- What contain and lead return, one law for each way that a call goes. Accepted bytes are opened with their own sizes, which
--- are far below 2^32 (`opens`); the tick that lookup finds from there is the known one (`tick-known`), and so the answer is
--- the definition's. Known ticks are below 2^63, so their difference is exact.
+-- are far below 2^32 (`opens`; for limits given as numbers `opens-within`); the tick that lookup finds from there is the known
+-- one (`tick-known`), and so the answer is the definition's. Known ticks are below 2^63, so their difference is exact.
+-- Document 01's rules are those of its two numbers (`contain-basic`, `lead-basic`).
 use Prim.Native.Nat.{ℕ, _≤_, _<_, _^_}
 use mathlib.Core.Path.{_≡_, refl, sym, ap, ap₂, _∙_, subst}
 use mathlib.Core.List.{List}
@@ -12,19 +13,23 @@ use mir.Syntax.{w64}
 use mir.Val.{SFits, toZ, ofZ}
 use mir.Facts.{toZ-pos, toZ-ofZ}
 use Rattle.codec.specs.Number.{Bytes, beAt}
+use Rattle.codec.specs.Total.{readAt}
 use Rattle.codec.specs.Words.{words2, words3}
-use Rattle.codec.proofs.Order.{words2-be, words3-be}
+use Rattle.codec.proofs.Total.{read-id2, read-id3}
 use Rattle.layout.specs.declared.Checked.{Checked}
 use Rattle.layout.specs.declared.Checked.the-variants as A
-use Rattle.layout.specs.Knowledge.{Rules}
-use Rattle.layout.specs.Permitted.{Permitted}
+use Rattle.layout.specs.Knowledge.{Rules, basic}
+use Rattle.layout.specs.Permitted.{base, Permitted, rulesWithin}
 use Rattle.layout.specs.Decode.{decode}
 use Rattle.layout.specs.MethodPlaces.{vectorsPlace, rangesPlace}
 use Rattle.layout.specs.Parse.{checkedBy}
 use Rattle.layout.proofs.Places.{Reading, places}
+use Rattle.layout.proofs.Within.{within-permitted, basic-within, few-replicas}
 use Rattle.ticks.specs.Meaning.{known, contains}
 use Rattle.ticks.specs.MethodLookup.{firstIndex}
+use Rattle.ticks.specs.declared.Contain.{Contain}
 use Rattle.ticks.specs.declared.Contain.the-variants as C
+use Rattle.ticks.specs.declared.Lead.{Lead}
 use Rattle.ticks.specs.declared.Lead.the-variants as D
 use Rattle.ticks.specs.Answers.{ProperIds}
 use Rattle.ticks.specs.Calls.{containFound, containAnswer, leadAnswer}
@@ -35,9 +40,9 @@ use Rattle.ticks.proofs.ForCode.{lead-refuses-first, lead-refuses-second, lead-
 use Rattle.lookup.specs.declared.Cursor.{Cursor}
 use Rattle.lookup.specs.declared.Opened.{Opened}
 use Rattle.lookup.specs.declared.Opened.the-variants as O
-use Rattle.lookup.specs.Method.{startAt, tickFrom, inFour, openOf, Opens, Known}
+use Rattle.lookup.specs.Method.{startAt, tickFrom, inFour, openOf, Opens, Open, Known}
 use Rattle.lookup.proofs.Loops.{cursor}
-use Rattle.lookup.proofs.Leaf.{Stands, stands-start, stands-tick, known-small}
+use Rattle.lookup.proofs.Leaf.{opens-reading, leaf-known, known-small}
 
 -- Opening
 
@@ -92,32 +97,42 @@ pub checked-opens : (R : Rules) (s : List ℕ) (k : Checked) (o : Opened) → k 
     → o ≡ openOf (checkedBy R s)
 checked-opens R s k o e f = f ∙ ap openOf e
 
--- Accepted bytes
+-- limits given as numbers
+module _ (replicas ranges : ℕ) (s : List ℕ) where
+  module _ (o : Opened) (is : o ≡ openOf (checkedBy (rulesWithin replicas ranges) s)) where
+    pub opens-within : Bytes s → (r : ℕ) (c : Cursor) → o ≡ O.At r c → Opens (rulesWithin replicas ranges) s r c
+    opens-within = opens (rulesWithin replicas ranges) (within-permitted replicas ranges (base .records)) s o is
 
-module _ (R : Rules) (s : List ℕ) (r : ℕ) (c : Cursor) (o : Opens R s r c) where
-  pub opens-reading : Reading R s r (o .v) (o .e) (o .g)
-  opens-reading = record { permitted = o .permitted; bytes = o .bytes; accepts = o .accepts }
+    pub refuses-within : (n : ℕ) → o ≡ O.Refused n → Refusing (rulesWithin replicas ranges) s n
+    refuses-within = opens-refused (rulesWithin replicas ranges) (within-permitted replicas ranges (base .records)) s o is
 
-  -- the cursor stands for every item
-  pub opens-stands : Stands s r (o .v) (o .e) (o .g) c 0
-  opens-stands =
-      subst (λ d. Stands s r (o .v) (o .e) (o .g) d 0) (sym (o .start)) (stands-start R s r (o .v) (o .e) (o .g) opens-reading)
+  pub opens-open : (r : ℕ) (c : Cursor) → Opens (rulesWithin replicas ranges) s r c → Open s r c
+  opens-open r c o =
+      let R = rulesWithin replicas ranges in
+      let p = places R s r (o .v) (o .e) (o .g) (opens-reading R s r c o) in
+      record { rules = R; opens = o; small = omega (arith, p .replicas, few-replicas replicas ranges) }
 
-  -- ids as words
-  pub tick-known : (item replica : List ℕ) (i0 i1 i2 p0 p1 t : ℕ) → i0 ≡ beAt item 8 0 → i1 ≡ beAt item 8 8
-      → i2 ≡ beAt item 8 16 → p0 ≡ beAt replica 8 0 → p1 ≡ beAt replica 8 8
-      → t ≡ tickFrom s r c (words3 i0 i1 i2) (words2 p0 p1) → Known s item replica t
-  tick-known item replica i0 i1 i2 p0 p1 t e0 e1 e2 f0 f1 is =
-      let i = beAt item 24 0 in
-      let p = beAt replica 16 0 in
-      let ie : words3 i0 i1 i2 ≡ i = cc (words3-be item 0) in
-      let pe : words2 p0 p1 ≡ p = cc (words2-be replica 0) in
-      let found : t ≡ known (decode s) i p =
-      is ∙ ap₂ (λ i p. tickFrom s r c i p) ie pe
-      ∙ stands-tick R s r (o .v) (o .e) (o .g) opens-reading c 0 i p (omega arith) opens-stands in
-      record { is = found; small = omega (arith, found, known-small R s r (o .v) (o .e) (o .g) opens-reading i p) }
+-- The known tick, ids given as bytes
+
+pub tick-known : (s : List ℕ) (r : ℕ) (c : Cursor) → Open s r c → (item replica : List ℕ) → length item ≡ 24
+    → length replica ≡ 16 → (i0 i1 i2 p0 p1 t : ℕ) → i0 ≡ readAt item 8 0 → i1 ≡ readAt item 8 8 → i2 ≡ readAt item 8 16
+    → p0 ≡ readAt replica 8 0 → p1 ≡ readAt replica 8 8 → t ≡ tickFrom s r c (words3 i0 i1 i2) (words2 p0 p1)
+    → Known s item replica t
+tick-known s r c w item replica h k i0 i1 i2 p0 p1 t e0 e1 e2 f0 f1 is =
+    let R = w .rules in
+    let o = w .opens in
+    let i = beAt item 24 0 in
+    let p = beAt replica 16 0 in
+    let ie : words3 i0 i1 i2 ≡ i = cc (read-id3 item 0 (omega arith)) in
+    let pe : words2 p0 p1 ≡ p = cc (read-id2 replica 0 (omega arith)) in
+    let found : t ≡ known (decode s) i p = is ∙ ap₂ (λ i p. tickFrom s r c i p) ie pe ∙ leaf-known R s r c o i p in
+    record { is = found; small = omega (arith, found, known-small R s r (o .v) (o .e) (o .g) (opens-reading R s r c o) i p) }
 
 -- Contain
+
+pub contain-basic : (s item replica : List ℕ) (t : ℕ) (a : Contain)
+    → a ≡ containAnswer (rulesWithin (base .replicas) (base .ranges)) s item replica t → a ≡ containAnswer basic s item replica t
+contain-basic s item replica t a e = e ∙ ap (λ R. containAnswer R s item replica t) basic-within
 
 pub contain-refused : (R : Rules) (s item replica : List ℕ) (t n : ℕ) → Refusing R s n
     → C.Refused n ≡ containAnswer R s item replica t
@@ -149,6 +164,10 @@ module _ (R : Rules) (s : List ℕ) (r : ℕ) (c : Cursor) (o : Opens R s r c) (
       contain-no l = sym (answers ∙ found-later (decode s) (beAt item 24 0) (beAt replica 16 0) t (omega (arith, is .is)))
 
 -- Lead
+
+pub lead-basic : (s t item replica : List ℕ) (a : Lead)
+    → a ≡ leadAnswer (rulesWithin (base .replicas) (base .ranges)) s t item replica → a ≡ leadAnswer basic s t item replica
+lead-basic s t item replica a e = e ∙ ap (λ R. leadAnswer R s t item replica) basic-within
 
 -- ticks are below 2^63, so their difference fits 64 bits with a sign
 difference-small : (a b : ℕ) → a < 2 ^ 63 → b < 2 ^ 63 → mag (pos a -ℤ pos b) < 2 ^ 63
@@ -198,6 +217,3 @@ module _ (R : Rules) (s : List ℕ) (r : ℕ) (c : Cursor) (o : Opens R s r c) (
     lead-ahead h k x y a b z e =
         ap D.Ahead (e ∙ ap₂ (λ u w. pos u -ℤ pos w) (a .is) (b .is))
         ∙ sym (lead-answers R s t item replica r (o .v) (o .e) (o .g) one m (q .v) (q .e) (q .g) other (h, k))
-
--- 17
-pub ruleset wrong = (contain-item, contain-replica, lead-item, lead-replica)

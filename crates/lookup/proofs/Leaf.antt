@@ -1,29 +1,31 @@
--- For bytes that the check accepts, what lookup finds is the known tick: from the start (`leaf-known`), and from any cursor
--- that a pass over rising items has come to (`stands-tick`, `stands-advanced`). Everything that is read is all there, so
--- stepping over vectors leads where they stand, and a vector's elements are its own. A cursor that stands for the items from
--- i on (`Stands`) has passed only ranges with bounds at or below them, so for those items the search among all ranges finds
--- what it finds among the ranges that are left. Moved to a later item, it stands for the items from that one on; and up to
--- the next bound it need not be moved (`stands-here`, `stands-elements`).
+-- For bytes that the check accepts, what lookup finds is what the knowledge knows.
+--
+-- Everything that is read is all there, so stepping over vectors leads where they stand, and a vector's elements are its own.
+-- A cursor that has passed just the ranges with bounds below n (`Stands`) finds among those that are left what the search among
+-- all ranges finds, for every item from n - 1 on. Before any range n is 0 (`stands-start`); moved on to item j it is suc j
+-- (`stands-advanced`), where j is at or after the item that the cursor stood at; and there the elements at the cursor's
+-- vector are the item's (`stands-elements`). Up to the next bound it need not be moved (`stands-vector`).
 use Prim.Native.Nat.{ℕ, zero, suc, _+_, _-_, _*_, _≤_, _<_}
-use mathlib.Core.Path.{_≡_, refl, sym, ap, ap₂, _∙_, subst}
-use mathlib.Core.List.{List}
+use mathlib.Core.Path.{_≡_, refl, sym, ap, _∙_, subst}
+use mathlib.Core.List.{List, []}
 use native.Mathlib.Omega.{arith}
 use lib.ListN.{length}
 use borrow.Author.Tests.{lt-ltb, le-ltb, le-leb}
 use Rattle.codec.specs.Number.{beAt}
 use Rattle.layout.specs.declared.ReplicaKey.{ReplicaKey}
 use Rattle.layout.specs.declared.VectorIndex.{VectorIndex}
-use Rattle.layout.specs.Knowledge.{Rules, Range, All, largestTick}
+use Rattle.layout.specs.Knowledge.{Rules, Range, All, Lawful, largestTick}
 use Rattle.layout.specs.Decode.{idsAt, elementsAt, afterVectors, rangesAt, decode}
 use Rattle.layout.specs.MethodPlaces.{idsPlace, vectorsPlace, rangesPlace, vectorPlace, countAt, valueAt}
 use Rattle.layout.proofs.Places.{Reading, places, after-zero, after-suc, after-add, after-later, vector-ends, vector-place, vectors-length}
 use Rattle.ticks.specs.Meaning.{known, tickAt, vectorOf, vectorAt}
-use Rattle.ticks.specs.MethodLookup.{keyOf, indexAt, firstIndex, tickIn}
+use Rattle.ticks.specs.MethodLookup.{keyOf, indexAt, firstIndex}
 use Rattle.ticks.proofs.Lists.{less, same, more, order}
 use Rattle.ticks.proofs.LawfulResults.{lawful-ticks}
-use Rattle.ticks.proofs.ForCode.{indexAt-nil, indexAt-lt, indexAt-ge, vector-indexed, known-key}
+use Rattle.ticks.proofs.ForCode.{indexAt-nil, indexAt-lt, indexAt-ge, vector-indexed, known-place}
 use Rattle.lookup.specs.declared.Cursor.{Cursor}
-use Rattle.lookup.specs.Method.{keyAt, stepped, vectorFrom, startAt, past, passed, settled, advanced, elementsThere, tickOf, tickFrom}
+use Rattle.lookup.specs.Method.{keyAt, stepped, vectorFrom, startAt, past, passed, settled, advanced}
+use Rattle.lookup.specs.Method.{elementsHere, tickOf, tickFrom, Opens}
 use Rattle.lookup.proofs.Loops.{key-there, stepped-zero, stepped-on, from-here, from-first, cursor, there-all}
 
 -- Vectors
@@ -36,9 +38,9 @@ stepped-inside s (suc n) at h =
     stepped-on s n at room ∙ stepped-inside s n next (omega (arith, after-suc s n at)) ∙ sym (after-suc s n at)
 
 -- from the place of one vector to that of another
-vector-from : (s : List ℕ) (r v : ℕ) (a b : VectorIndex) (at : ℕ) → a .0 < v → b .0 < v → vectorPlace s r v ≤ length s
+vector-from : (s : List ℕ) (r v : ℕ) (a b : VectorIndex) (at : ℕ) → b .0 < v → vectorPlace s r v ≤ length s
     → at ≡ vectorPlace s r (a .0) → vectorFrom s r a at b ≡ vectorPlace s r (b .0)
-vector-from s r v a b at ha hb room is =
+vector-from s r v a b at hb room is =
     elim (order (b .0) (a .0)) [
       | less l ↦ sym (from-first s r a at b (vectorPlace s r (b .0)) l
           (sym (stepped-inside s (b .0) (vectorsPlace r) inside)))
@@ -58,10 +60,67 @@ vector-from s r v a b at ha hb room is =
         from-here s r a at b (vectorPlace s r (b .0)) l
         (whole ∙ sym (stepped-inside s (b .0 - a .0) at (omega (arith, inside, whole))))
 
+-- Accepted bytes
+
+module _ (R : Rules) (s : List ℕ) (r v e g : ℕ) (h : Reading R s r v e g) where
+  pub read-lawful : Lawful R (decode s)
+  read-lawful =
+      let p = places R s r v e g h in
+      subst (Lawful R) (sym (p .value)) (p .lawful)
+
+  pub read-ids : decode s .replicas ≡ idsAt s r idsPlace
+  unfolding valueAt
+  read-ids = ap (λ k. k .replicas) (places R s r v e g h .value)
+
+  pub read-ranges : decode s .ranges ≡ rangesAt s g (rangesPlace r v e)
+  unfolding valueAt
+  read-ranges = ap (λ k. k .ranges) (places R s r v e g h .value)
+
+  pub ids-room : idsPlace + 16 * r ≤ length s
+  ids-room = omega (arith, places R s r v e g h .whole)
+
+  -- the key of an id
+  pub read-key : (p : ℕ) → keyAt s r p ≡ keyOf (decode s .replicas) p
+  unfolding keyOf
+  read-key p =
+      sym (key-there s r p (keyOf (idsAt s r idsPlace) p) ids-room refl) ∙ ap (λ ids. keyOf ids p) (sym read-ids)
+
+  -- the first vector's place, and the next one's from any
+  pub first-place : vectorsPlace r ≡ vectorPlace s r 0
+  first-place = sym (after-zero s (vectorsPlace r))
+
+  pub next-place : (a b : VectorIndex) (at : ℕ) → b .0 < v → at ≡ vectorPlace s r (a .0)
+      → vectorFrom s r a at b ≡ vectorPlace s r (b .0)
+  next-place a b at l is =
+      let p = places R s r v e g h in
+      vector-from s r v a b at l (omega (arith, p .afterVectors, p .whole)) is
+
+  -- the elements at the place of a vector are the vector's
+  pub vector-elements : (y : ℕ) → y < v → elementsHere s (vectorPlace s r y) ≡ vectorOf (decode s) y
+  unfolding elementsHere
+  vector-elements y l =
+      let p = places R s r v e g h in
+      let at = vectorPlace s r y in
+      let end : at + 8 + 12 * countAt s at ≤ length s =
+      omega (arith, vector-ends s v y (vectorsPlace r) l, p .afterVectors, p .whole) in
+      ap (λ n. elementsAt s n (at + 8)) (sym (there-all s at (countAt s at) refl end .is))
+      ∙ sym (vector-place R s r v e g h y l) ∙ ap (λ k. vectorOf k y) (sym (p .value))
+
+  -- every range has a vector
+  pub indices-below : All (λ x. x .index .0 < v) (rangesAt s g (rangesPlace r v e))
+  unfolding valueAt
+  indices-below =
+      subst (λ n. All (λ x. x .index .0 < n) (rangesAt s g (rangesPlace r v e))) (vectors-length s v (vectorsPlace r))
+      (places R s r v e g h .lawful .indices)
+
+  -- no known tick is above the largest
+  pub known-small : (i p : ℕ) → known (decode s) i p ≤ largestTick
+  known-small i p = lawful-ticks R (decode s) i p read-lawful
+
 -- Ranges
 
--- d, which was moved on from c to item i: for the items from i on the ranges that are left say the same, and i is in the last one
--- passed
+-- d, which was moved on from c to item i: for the items from i on the ranges that are left say the same, and their bounds
+-- are above i
 record Moved (s : List ℕ) (v i : ℕ) (c d : Cursor) : Type 0 where
   room : d .next + 28 * d .left ≤ c .next + 28 * c .left
   index : c .index .0 < v → All (λ x. x .index .0 < v) (rangesAt s (c .left) (c .next)) → d .index .0 < v
@@ -69,7 +128,9 @@ record Moved (s : List ℕ) (v i : ℕ) (c d : Cursor) : Type 0 where
       → All (λ x. x .index .0 < v) (rangesAt s (d .left) (d .next))
   is : (j : ℕ) → i ≤ j
       → indexAt (c .index) (rangesAt s (c .left) (c .next)) j ≡ indexAt (d .index) (rangesAt s (d .left) (d .next)) j
-  here : indexAt (d .index) (rangesAt s (d .left) (d .next)) i ≡ d .index
+  ahead : 0 < d .left → suc i ≤ beAt s 24 (d .next)
+  fewer : d .left ≤ c .left
+  passes : 0 < c .left → beAt s 24 (c .next) ≤ i → d .left < c .left
 
 moved : (s : List ℕ) (v i n next : ℕ) (index : VectorIndex) (vector : ℕ)
     → Moved s v i (cursor n next index vector) (passed s i n (cursor n next index vector))
@@ -79,7 +140,9 @@ moved s v i zero next index vector = record {
   index = λ h a. h;
   indices = λ a. a;
   is = λ j h. refl;
-  here = indexAt-nil index i;
+  ahead = λ h. absurd (omega arith);
+  fewer = omega arith;
+  passes = λ h k. absurd (omega arith);
 }
 moved s v i (suc n) next index vector =
     let x : Range = record { bound = beAt s 24 next; index = record { 0 = beAt s 4 (next + 24) } } in
@@ -93,7 +156,9 @@ moved s v i (suc n) next index vector =
       index = λ l a. m .index (a .0) (a .1);
       indices = λ a. m .indices (a .1);
       is = λ j l. indexAt-ge index x (rangesAt s n (next + 28)) j (omega arith) ∙ m .is j l;
-      here = m .here;
+      ahead = m .ahead;
+      fewer = omega (arith, m .fewer);
+      passes = λ k l. omega (arith, m .fewer);
     }) in
     elim (order i (beAt s 24 next)) [
       | less h ↦
@@ -103,7 +168,9 @@ moved s v i (suc n) next index vector =
             index = λ l a. l;
             indices = λ a. a;
             is = λ j l. refl;
-            here = indexAt-lt index x (rangesAt s n (next + 28)) i h;
+            ahead = λ l. h;
+            fewer = omega arith;
+            passes = λ k l. absurd (omega arith);
           })
       | same h ↦ on (omega arith)
       | more h ↦ on (omega arith)
@@ -120,138 +187,138 @@ index-stays s index (suc n) next j h =
 
 -- Cursors
 
--- a cursor of a knowledge of these sizes that stands for the items from i on
-pub record Stands (s : List ℕ) (r v e g : ℕ) (c : Cursor) (i : ℕ) : Type 0 where
+-- a cursor of accepted bytes that has passed just the ranges with bounds below n: it is before any range where n is 0, and at
+-- item i where n is suc i
+pub record Stands (R : Rules) (s : List ℕ) (r : ℕ) (c : Cursor) (n : ℕ) : Type 0 where
+  pub v : ℕ
+  pub e : ℕ
+  pub g : ℕ
+  pub reading : Reading R s r v e g
   pub room : c .next + 28 * c .left ≤ length s
   pub index : c .index .0 < v
   pub indices : All (λ x. x .index .0 < v) (rangesAt s (c .left) (c .next))
   pub vector : c .vector ≡ vectorPlace s r (c .index .0)
-  pub is : (j : ℕ) → i ≤ j
-      → indexAt firstIndex (rangesAt s g (rangesPlace r v e)) j ≡ indexAt (c .index) (rangesAt s (c .left) (c .next)) j
+  pub ahead : 0 < c .left → n ≤ beAt s 24 (c .next)
+  pub is : (j : ℕ) → n ≤ suc j
+      → indexAt firstIndex (decode s .ranges) j ≡ indexAt (c .index) (rangesAt s (c .left) (c .next)) j
 
-module _ (R : Rules) (s : List ℕ) (r v e g : ℕ) (h : Reading R s r v e g) where
+module _ (R : Rules) (s : List ℕ) (r : ℕ) (c : Cursor) (o : Opens R s r c) where
+  pub opens-reading : Reading R s r (o .v) (o .e) (o .g)
+  opens-reading = record { permitted = o .permitted; bytes = o .bytes; accepts = o .accepts }
+
   -- before any range
-  pub stands-start : Stands s r v e g (startAt r v e g) 0
-  unfolding startAt valueAt
+  pub stands-start : Stands R s r c 0
+  unfolding startAt
   stands-start =
-      let p = places R s r v e g h in
-      record {
+      let p = places R s r (o .v) (o .e) (o .g) opens-reading in
+      subst (λ d. Stands R s r d 0) (sym (o .start))
+      (record {
+        v = o .v;
+        e = o .e;
+        g = o .g;
+        reading = opens-reading;
         room = omega (arith, p .whole);
         index = p .someVector;
-        indices = subst (λ n. All (λ x. x .index .0 < n) (rangesAt s g (rangesPlace r v e)))
-            (vectors-length s v (vectorsPlace r)) (p .lawful .indices);
-        vector = sym (after-zero s (vectorsPlace r));
-        is = λ j l. refl;
-      }
+        indices = indices-below R s r (o .v) (o .e) (o .g) opens-reading;
+        vector = first-place R s r (o .v) (o .e) (o .g) opens-reading;
+        ahead = λ l. omega arith;
+        is = λ j l. ap (λ xs. indexAt firstIndex xs j) (read-ranges R s r (o .v) (o .e) (o .g) opens-reading);
+      })
 
-  module _ (c : Cursor) (i j : ℕ) (l : i ≤ j) (st : Stands s r v e g c i) where
+module _ (R : Rules) (s : List ℕ) (r : ℕ) (c : Cursor) (n : ℕ) (st : Stands R s r c n) where
+  stands-lawful : Lawful R (decode s)
+  stands-lawful = read-lawful R s r (st .v) (st .e) (st .g) (st .reading)
+
+  module _ (j : ℕ) (l : n ≤ suc j) where
     abbrev d : Cursor
     d = passed s j (c .left) c
 
-    move : Moved s v j c d
-    move = moved s v j (c .left) (c .next) (c .index) (c .vector)
+    move : Moved s (st .v) j c d
+    move = moved s (st .v) j (c .left) (c .next) (c .index) (c .vector)
 
     goes : advanced s r c j ≡ settled s r c d
     unfolding advanced
     goes = rw (le-leb (c .next + 28 * c .left) (length s) (st .room), advanced)
 
-    below : d .index .0 < v
+    below : d .index .0 < st .v
     below = move .index (st .index) (st .indices)
 
-    settles : vectorFrom s r (c .index) (c .vector) (d .index) ≡ vectorPlace s r (d .index .0)
-    settles =
-        let p = places R s r v e g h in
-        vector-from s r v (c .index) (d .index) (c .vector) (st .index) below (omega (arith, p .afterVectors, p .whole))
-        (st .vector)
-
-    stands-settled : Stands s r v e g (settled s r c d) j
+    -- moved on to an item
+    pub stands-advanced : Stands R s r (advanced s r c j) (suc j)
     unfolding settled
-    stands-settled = record {
-      room = omega (arith, move .room, st .room);
-      index = below;
-      indices = move .indices (st .indices);
-      vector = settles;
-      is = λ k m. st .is k (omega arith) ∙ move .is k m;
-    }
+    stands-advanced =
+        subst (λ x. Stands R s r x (suc j)) (sym goes)
+        (record {
+          v = st .v;
+          e = st .e;
+          g = st .g;
+          reading = st .reading;
+          room = omega (arith, move .room, st .room);
+          index = below;
+          indices = move .indices (st .indices);
+          vector = next-place R s r (st .v) (st .e) (st .g) (st .reading) (c .index) (d .index) (c .vector) below (st .vector);
+          ahead = move .ahead;
+          is = λ k m. st .is k (omega arith) ∙ move .is k (omega arith);
+        })
 
-    -- moved on
-    pub stands-advanced : Stands s r v e g (advanced s r c j) j
-    stands-advanced = subst (λ x. Stands s r v e g x j) (sym goes) stands-settled
-
-    vector-there : advanced s r c j .vector ≡ vectorPlace s r (indexAt firstIndex (rangesAt s g (rangesPlace r v e)) j .0)
+    -- it passes no range more than there is, and the next one where that is at or below the item
+    pub advanced-fewer : advanced s r c j .left ≤ c .left
     unfolding settled
-    vector-there =
-        ap (λ x. x .vector) goes ∙ settles
-        ∙ ap (λ (y : VectorIndex). vectorPlace s r (y .0)) (sym (st .is j l ∙ move .is j (omega arith) ∙ move .here))
+    advanced-fewer = omega (arith, ap (λ x. x .left) goes, move .fewer)
 
-    index-there : indexAt firstIndex (rangesAt s g (rangesPlace r v e)) j .0 < v
-    index-there = subst (λ (y : VectorIndex). y .0 < v) (sym (st .is j l ∙ move .is j (omega arith) ∙ move .here)) below
+    pub advanced-passes : 0 < c .left → beAt s 24 (c .next) ≤ j → advanced s r c j .left < c .left
+    unfolding settled
+    advanced-passes m k = omega (arith, ap (λ x. x .left) goes, move .passes m k)
 
-  -- the elements of a vector, and the tick in it, by its place
-  vector-elements : (y : VectorIndex) → y .0 < v
-      → elementsAt s (elementsThere s (vectorPlace s r (y .0))) (vectorPlace s r (y .0) + 8)
-      ≡ vectorOf (valueAt s r v e g) (y .0)
-  vector-elements y l =
-      let at = vectorPlace s r (y .0) in
-      let p = places R s r v e g h in
-      let end : at + 8 + 12 * countAt s at ≤ length s =
-      omega (arith, vector-ends s v (y .0) (vectorsPlace r) l, p .afterVectors, p .whole) in
-      ap (λ n. elementsAt s n (at + 8)) (sym (there-all s at (countAt s at) refl end .is))
-      ∙ sym (vector-place R s r v e g h (y .0) l)
+    -- up to the next bound the cursor need not be moved: the elements at its vector are the item's
+    module _ (before : 0 < c .left → j < beAt s 24 (c .next)) where
+      pub stands-vector : elementsHere s (c .vector) ≡ vectorAt (decode s) j
+      stands-vector =
+          ap (elementsHere s) (st .vector)
+          ∙ vector-elements R s r (st .v) (st .e) (st .g) (st .reading) (c .index .0) (st .index)
+          ∙ ap (λ (y : VectorIndex). vectorOf (decode s) (y .0))
+          (sym (st .is j l ∙ index-stays s (c .index) (c .left) (c .next) j before))
+          ∙ vector-indexed (decode s) j (stands-lawful .first)
 
-  vector-tick : (y : VectorIndex) (key : ReplicaKey) → y .0 < v
-      → tickOf s (vectorPlace s r (y .0)) key ≡ tickIn (valueAt s r v e g) y key
-  unfolding tickOf tickIn
-  vector-tick y key l = ap (λ es. tickAt es (key .0)) (vector-elements y l)
+      -- and so are the ticks there
+      pub stands-known : (p : ℕ) → tickOf s (c .vector) (keyAt s r p) ≡ known (decode s) j p
+      unfolding tickOf keyOf
+      stands-known p =
+          ap (λ (k : ReplicaKey). tickAt (elementsHere s (c .vector)) (k .0))
+          (read-key R s r (st .v) (st .e) (st .g) (st .reading) p)
+          ∙ ap (λ es. tickAt es (keyOf (decode s .replicas) p .0)) stands-vector
+          ∙ sym (known-place R (decode s) stands-lawful j p)
 
-  -- the key of an id
-  key-is : (p : ℕ) → keyAt s r p ≡ keyOf (idsAt s r idsPlace) p
-  unfolding keyOf
-  key-is p = sym (key-there s r p (keyOf (idsAt s r idsPlace) p) (omega (arith, places R s r v e g h .whole)) refl)
+-- at an item
+module _ (R : Rules) (s : List ℕ) (r : ℕ) (c : Cursor) (i : ℕ) (st : Stands R s r c (suc i)) where
+  -- the elements there
+  pub stands-elements : elementsHere s (c .vector) ≡ vectorAt (decode s) i
+  stands-elements = stands-vector R s r c (suc i) st i (omega arith) (st .ahead)
 
-  known-there : (j p : ℕ)
-      → known (decode s) j p
-      ≡ tickIn (valueAt s r v e g) (indexAt firstIndex (rangesAt s g (rangesPlace r v e)) j) (keyOf (idsAt s r idsPlace) p)
-  unfolding valueAt
-  known-there j p =
-      let q = places R s r v e g h in
-      ap (λ k. known k j p) (q .value) ∙ known-key R (valueAt s r v e g) (q .lawful) j p
+  -- up to the next bound nothing changes
+  pub stands-still : (stop : ℕ) → (0 < c .left → stop ≤ beAt s 24 (c .next)) → (j p : ℕ) → i ≤ j → j < stop
+      → known (decode s) j p ≡ known (decode s) i p
+  stands-still stop f j p l m =
+      sym (stands-known R s r c (suc i) st j (omega arith) (λ k. omega (arith, f k)) p)
+      ∙ stands-known R s r c (suc i) st i (omega arith) (st .ahead) p
 
-  -- what is found from a cursor on is the known tick
-  pub stands-tick : (c : Cursor) (i j p : ℕ) → i ≤ j → Stands s r v e g c i → tickFrom s r c j p ≡ known (decode s) j p
+-- what is found from a cursor on is the known tick
+module _ (R : Rules) (s : List ℕ) (r : ℕ) (c : Cursor) where
+  pub stands-tick : (n j p : ℕ) → Stands R s r c n → n ≤ suc j → tickFrom s r c j p ≡ known (decode s) j p
   unfolding tickFrom
-  stands-tick c i j p l st =
-      ap₂ (λ at k. tickOf s at k) (vector-there c i j l st) (key-is p)
-      ∙ vector-tick (indexAt firstIndex (rangesAt s g (rangesPlace r v e)) j) (keyOf (idsAt s r idsPlace) p)
-      (index-there c i j l st)
-      ∙ sym (known-there j p)
+  stands-tick n j p st l =
+      let d = stands-advanced R s r c n st j l in
+      stands-known R s r (advanced s r c j) (suc j) d j (omega arith) (d .ahead) p
 
-  pub leaf-known : (i p : ℕ) → tickFrom s r (startAt r v e g) i p ≡ known (decode s) i p
-  leaf-known i p = stands-tick (startAt r v e g) 0 i p (omega arith) stands-start
+  pub leaf-known : Opens R s r c → (i p : ℕ) → tickFrom s r c i p ≡ known (decode s) i p
+  leaf-known o i p = stands-tick 0 i p (stands-start R s r c o) (omega arith)
 
-  -- up to the next bound a cursor need not be moved: its vector is the item's
-  module _ (c : Cursor) (i j : ℕ) (l : i ≤ j) (st : Stands s r v e g c i) (before : 0 < c .left → j < beAt s 24 (c .next))
-    where
-      stays : indexAt firstIndex (rangesAt s g (rangesPlace r v e)) j ≡ c .index
-      stays = st .is j l ∙ index-stays s (c .index) (c .left) (c .next) j before
-
-      pub stands-here : (p : ℕ) → tickOf s (c .vector) (keyAt s r p) ≡ known (decode s) j p
-      stands-here p =
-          ap₂ (λ at k. tickOf s at k) (st .vector) (key-is p)
-          ∙ vector-tick (c .index) (keyOf (idsAt s r idsPlace) p) (st .index)
-          ∙ ap (λ y. tickIn (valueAt s r v e g) y (keyOf (idsAt s r idsPlace) p)) (sym stays) ∙ sym (known-there j p)
-
-      -- and its elements are the item's
-      pub stands-elements : elementsAt s (elementsThere s (c .vector)) (c .vector + 8) ≡ vectorAt (decode s) j
-      unfolding valueAt
-      stands-elements =
-          let q = places R s r v e g h in
-          ap (λ at. elementsAt s (elementsThere s at) (at + 8)) (st .vector) ∙ vector-elements (c .index) (st .index)
-          ∙ ap (λ (y : VectorIndex). vectorOf (valueAt s r v e g) (y .0)) (sym stays)
-          ∙ vector-indexed (valueAt s r v e g) j (q .lawful .first) ∙ ap (λ k. vectorAt k j) (sym (q .value))
-
-  -- it is no more than a tick may be
-  pub known-small : (i p : ℕ) → known (decode s) i p ≤ largestTick
-  known-small i p =
-      let q = places R s r v e g h in
-      omega (arith, lawful-ticks R (valueAt s r v e g) i p (q .lawful), ap (λ k. known k i p) (q .value))
+  -- before any range there are no elements
+  pub start-elements : Opens R s r c → elementsHere s (c .vector) ≡ []
+  unfolding startAt
+  start-elements o =
+      let h = opens-reading R s r c o in
+      ap (λ (x : Cursor). elementsHere s (x .vector)) (o .start)
+      ∙ ap (elementsHere s) (first-place R s r (o .v) (o .e) (o .g) h)
+      ∙ vector-elements R s r (o .v) (o .e) (o .g) h 0 (places R s r (o .v) (o .e) (o .g) h .someVector)
+      ∙ read-lawful R s r (o .v) (o .e) (o .g) h .first

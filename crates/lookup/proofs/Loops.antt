@@ -4,7 +4,7 @@
 use Prim.Native.Nat.{ℕ, zero, suc, _+_, _-_, _*_, _^_, _≤_, _<_}
 use mathlib.Core.Path.{_≡_, refl, sym, ap, ap₂, _∙_}
 use mathlib.Core.Bool.{Bool, true, false}
-use mathlib.Core.List.{List}
+use mathlib.Core.List.{List, [], _∷_}
 use native.Mathlib.Omega.{arith}
 use lib.Dec.{eqb, ltb}
 use lib.ListN.{length}
@@ -21,7 +21,8 @@ use Rattle.layout.specs.MethodPlaces.{idsPlace, vectorsPlace, countAt}
 use Rattle.ticks.specs.Meaning.{place, placeBy, tickAt}
 use Rattle.ticks.specs.MethodLookup.{keyOf}
 use Rattle.lookup.specs.declared.Cursor.{Cursor}
-use Rattle.lookup.specs.Method.{keyAt, stepped, vectorFrom, past, passed, settled, advanced, elementsThere, There, tickOf, tickFrom}
+use Rattle.lookup.specs.Method.{keyAt, stepped, vectorFrom, past, passed, settled, advanced}
+use Rattle.lookup.specs.Method.{elementsThere, There, elementAt, elementsHere, tickOf, tickFrom}
 
 -- Words
 
@@ -221,6 +222,21 @@ module _ (s : List ℕ) (at : ℕ) where
         room = λ k. l;
       }
 
+  -- the elements there, which were counted
+  pub here-is : (n : ℕ) → There s at n → elementsHere s at ≡ elementsAt s n (at + 8)
+  unfolding elementsHere
+  here-is n t = ap (λ m. elementsAt s m (at + 8)) (sym (t .is))
+
+-- no elements, and the first one and the others
+pub elements-zero : (s : List ℕ) (n at : ℕ) → n ≡ 0 → elementsAt s n at ≡ []
+unfolding elementsAt
+elements-zero s n at e = ap (λ m. elementsAt s m at) e
+
+pub elements-cons : (s : List ℕ) (n at : ℕ) → 0 < n → elementsAt s n at ≡ elementAt s at ∷ elementsAt s (n - 1) (at + 12)
+unfolding elementsAt
+elements-cons s zero at h = absurd (omega arith)
+elements-cons s (suc n) at h = let e : n ≡ suc n - 1 = omega arith in ap (λ m. elementAt s at ∷ elementsAt s m (at + 12)) e
+
 elements-step : (s : List ℕ) (n at key : ℕ) → 0 < n
     → tickAt (elementsAt s n at) key ≡ elim (eqb (beAt s 4 at) key)
     [ true ↦ beAt s 8 (at + 4) | false ↦ tickAt (elementsAt s (n - 1) (at + 12)) key ]
@@ -253,7 +269,7 @@ module _ (s : List ℕ) (whole n i at key : ℕ) (inv : whole ≡ tickAt (elemen
 -- where the elements that are there were searched, the tick is found
 pub tick-is : (s : List ℕ) (at n : ℕ) (key : ReplicaKey) (t : ℕ) → There s at n
     → t ≡ tickAt (elementsAt s n (at + 8)) (key .0) → t ≡ tickOf s at key
-unfolding tickOf
+unfolding tickOf elementsHere
 tick-is s at n key t h e = e ∙ ap (λ m. tickAt (elementsAt s m (at + 8)) (key .0)) (h .is)
 
 pub tick-nothing : (s : List ℕ) (at n : ℕ) (key : ReplicaKey) → There s at n → n ≡ 0 → 0 ≡ tickOf s at key

@@ -7,8 +7,8 @@ use Rattle.layout.specs.declared.ReplicaKey.{ReplicaKey}
 use Rattle.layout.specs.declared.VectorIndex.{VectorIndex}
 use Rattle.layout.specs.declared.Checked.{Checked}
 use Rattle.layout.specs.declared.Checked.the-variants as A
-use Rattle.layout.specs.Knowledge.{Rules}
-use Rattle.layout.specs.Permitted.{Permitted}
+use Rattle.layout.specs.Knowledge.{Rules, Element}
+use Rattle.layout.specs.Permitted.{Permitted, largestReplicas}
 use Rattle.layout.specs.Decode.{idsAt, elementsAt, decode}
 use Rattle.layout.specs.Parse.{checkedBy}
 use Rattle.layout.specs.MethodPlaces.{idsPlace, vectorsPlace, rangesPlace, countAt}
@@ -78,8 +78,16 @@ pub record There (s : List ℕ) (at n : ℕ) : Type 0 where
   pub is : n ≡ elementsThere s at
   pub room : 1 ≤ n → at + 8 + 12 * n ≤ length s
 
+-- the element at a place
+abbrev pub elementAt : List ℕ → ℕ → Element
+elementAt s at = record { key = record { 0 = beAt s 4 at }; tick = beAt s 8 (at + 4) }
+
+-- those of the vector at a place
+unfoldable pub elementsHere : List ℕ → ℕ → List Element
+elementsHere s at = elementsAt s (elementsThere s at) (at + 8)
+
 unfoldable pub tickOf : List ℕ → ℕ → ReplicaKey → ℕ
-tickOf s at key = tickAt (elementsAt s (elementsThere s at) (at + 8)) (key .0)
+tickOf s at key = tickAt (elementsHere s at) (key .0)
 
 -- the tick of item i and replica p, from a cursor on
 unfoldable pub tickFrom : List ℕ → ℕ → Cursor → ℕ → ℕ → ℕ
@@ -104,6 +112,12 @@ pub record Opens (R : Rules) (s : List ℕ) (r : ℕ) (c : Cursor) : Type 0 wher
   pub bytes : Bytes s
   pub accepts : checkedBy R s ≡ A.Accepted r v e g
   pub start : c ≡ startAt r v e g
+
+-- bytes that some rules accept, with no more replicas than scratch of the largest size has room for
+pub record Open (s : List ℕ) (r : ℕ) (c : Cursor) : Type 0 where
+  pub rules : Rules
+  pub opens : Opens rules s r c
+  pub small : r ≤ largestReplicas
 
 -- the tick that such bytes know of an item and a replica, each given as bytes
 pub record Known (s item replica : List ℕ) (t : ℕ) : Type 0 where

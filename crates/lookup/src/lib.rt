@@ -15,10 +15,11 @@ ghost use lib.IntN.{pos, _-ℤ_};
 ghost use lib.ListN.{length, getD};
 ghost use Rattle.codec.specs.Number.{beAt};
 ghost use Rattle.codec.specs.Words.{words2, words3};
-ghost use Rattle.layout.specs.Knowledge.{basic};
+ghost use Rattle.layout.specs.Knowledge.{Rules, basic};
+ghost use Rattle.layout.specs.Permitted.{rulesWithin};
 ghost use Rattle.layout.specs.Parse.{checkedBy};
 ghost use Rattle.ticks.specs.Calls.{containAnswer, leadAnswer};
-ghost use Rattle.lookup.specs.Method.{keyAt, stepped, vectorFrom, passed, advanced, There, tickOf, tickFrom, startAt, openOf, Opens, Known};
+ghost use Rattle.lookup.specs.Method.{keyAt, stepped, vectorFrom, passed, advanced, There, tickOf, tickFrom, startAt, openOf, Opens, Open, Known};
 
 // the places of the replica ids, of the vectors where there is no replica, and of the ranges where there is nothing else
 const IDS: usize = 27;
@@ -292,32 +293,34 @@ pub fn from_check(c: Checked) -> Opened
     }
 }
 
-// The check takes the slice anew, so that the caller's own need not lie in memory.
-fn open_bytes(s: &[u8]) -> Opened
-    ensures { λ r. ⌜ r ≡ openOf (checkedBy basic (now (s .entry))) ⌝ }
+// Checks the bytes of a knowledge with limits of the caller's, the most replicas and the most ranges, each brought into 1 to its
+// largest: what lookup goes on from. The check takes the slice anew, so that the caller's own need not lie in memory.
+pub fn open_within(s: &[u8], replicas: u32, ranges: u32) -> Opened
+    ensures { λ r. ⌜ r ≡ openOf (checkedBy (rulesWithin replicas ranges) (now (s .entry))) ⌝ }
 {
-    from_check(reader::check(&s[..]))
+    from_check(reader::check_within(&s[..], replicas, ranges))
 }
 
 // ---- the calls
 
 // The tick that an accepted knowledge knows of an item and a replica, each given as bytes.
 fn tick_of(s: &[u8], r: u32, start: Cursor, item: &[u8], replica: &[u8]) -> u64
-    requires { ⌜ (Opens basic (now s) r start) × (length (now item) ≡ 24) × (length (now replica) ≡ 16) ⌝ }
+    requires { ⌜ (Open (now s) r start) × (length (now item) ≡ 24) × (length (now replica) ≡ 16) ⌝ }
     ensures { λ t. ⌜ Known (now (s .entry)) (now (item .entry)) (now (replica .entry)) t ⌝ }
 {
-    let i0 = eight(item, 0);
-    let i1 = eight(item, 8);
-    let i2 = eight(item, 16);
-    let p0 = eight(replica, 0);
-    let p1 = eight(replica, 8);
+    let i0 = codec::read8(item, 0);
+    let i1 = codec::read8(item, 8);
+    let i2 = codec::read8(item, 16);
+    let p0 = codec::read8(replica, 0);
+    let p1 = codec::read8(replica, 8);
     known_tick(s, r, start, i0, i1, i2, p0, p1)
 }
 
-// Contain in an accepted knowledge.
+// Contain in an accepted knowledge, by whichever rules accept it.
 fn contain_in(s: &[u8], r: u32, start: Cursor, item: &[u8], replica: &[u8], tick: u64) -> Contain
-    requires { ⌜ Opens basic (now s) r start ⌝ }
-    ensures { λ a. ⌜ a ≡ containAnswer basic (now (s .entry)) (now (item .entry)) (now (replica .entry)) tick ⌝ }
+    requires { ⌜ Open (now s) r start ⌝ }
+    ensures { λ a. ⌜ ((R : Rules) → Opens R (now (s .entry)) r start
+        → a ≡ containAnswer R (now (s .entry)) (now (item .entry)) (now (replica .entry)) tick) ⌝ }
 {
     if item.len() != 24 {
         return Contain::Refused(17);
@@ -335,14 +338,36 @@ fn contain_in(s: &[u8], r: u32, start: Cursor, item: &[u8], replica: &[u8], tick
     Contain::Lacking
 }
 
+// Contain with limits of the caller's.
+fn contain_within(
+    knowledge: &[u8],
+    item: &[u8],
+    replica: &[u8],
+    tick: u64,
+    replicas: u32,
+    ranges: u32,
+) -> Contain
+    ensures { λ a. ⌜ a ≡ containAnswer (rulesWithin replicas ranges)
+        (now (knowledge .entry)) (now (item .entry)) (now (replica .entry)) tick ⌝ }
+{
+    match open_within(knowledge, replicas, ranges) {
+        Opened::At { r, start } => contain_in(knowledge, r, start, item, replica, tick),
+        Opened::Refused(n) => Contain::Refused(n),
+    }
+}
+
 // Does a knowledge contain the version of an item, a replica and a tick. Any tick may be given.
 pub fn contain(knowledge: &[u8], item: &[u8], replica: &[u8], tick: u64) -> Contain
     ensures { λ a. ⌜ a ≡ containAnswer basic (now (knowledge .entry)) (now (item .entry)) (now (replica .entry)) tick ⌝ }
 {
-    match open_bytes(knowledge) {
-        Opened::At { r, start } => contain_in(knowledge, r, start, item, replica, tick),
-        Opened::Refused(n) => Contain::Refused(n),
-    }
+    contain_within(
+        knowledge,
+        item,
+        replica,
+        tick,
+        layout::REPLICAS,
+        layout::RANGES,
+    )
 }
 
 // The first tick minus the second. Both are at most 2^63 - 1, so it fits at both ends.
@@ -353,7 +378,7 @@ fn ahead(a: u64, b: u64) -> i64
     (a as i64) - (b as i64)
 }
 
-// Lead of two accepted knowledges.
+// Lead of two accepted knowledges, by whichever rules accept both.
 fn lead_in(
     s: &[u8],
     r: u32,
@@ -364,8 +389,9 @@ fn lead_in(
     item: &[u8],
     replica: &[u8],
 ) -> Lead
-    requires { ⌜ (Opens basic (now s) r start) × (Opens basic (now t) m begin) ⌝ }
-    ensures { λ a. ⌜ a ≡ leadAnswer basic (now (s .entry)) (now (t .entry)) (now (item .entry)) (now (replica .entry)) ⌝ }
+    requires { ⌜ (Open (now s) r start) × (Open (now t) m begin) ⌝ }
+    ensures { λ a. ⌜ ((R : Rules) → Opens R (now (s .entry)) r start → Opens R (now (t .entry)) m begin
+        → a ≡ leadAnswer R (now (s .entry)) (now (t .entry)) (now (item .entry)) (now (replica .entry))) ⌝ }
 {
     if item.len() != 24 {
         return Lead::Refused(17);
@@ -378,13 +404,43 @@ fn lead_in(
     Lead::Ahead(ahead(a, b))
 }
 
-// Lead where the first knowledge is accepted.
-fn lead_second(s: &[u8], r: u32, start: Cursor, t: &[u8], item: &[u8], replica: &[u8]) -> Lead
-    requires { ⌜ Opens basic (now s) r start ⌝ }
-    ensures { λ a. ⌜ a ≡ leadAnswer basic (now (s .entry)) (now (t .entry)) (now (item .entry)) (now (replica .entry)) ⌝ }
+// Lead with limits of the caller's, where the first knowledge is accepted.
+fn lead_second(
+    s: &[u8],
+    r: u32,
+    start: Cursor,
+    t: &[u8],
+    item: &[u8],
+    replica: &[u8],
+    replicas: u32,
+    ranges: u32,
+) -> Lead
+    requires { ⌜ Opens (rulesWithin replicas ranges) (now s) r start ⌝ }
+    ensures { λ a. ⌜ a ≡ leadAnswer (rulesWithin replicas ranges)
+        (now (s .entry)) (now (t .entry)) (now (item .entry)) (now (replica .entry)) ⌝ }
 {
-    match open_bytes(t) {
+    match open_within(t, replicas, ranges) {
         Opened::At { r: m, start: begin } => lead_in(s, r, start, t, m, begin, item, replica),
+        Opened::Refused(n) => Lead::Refused(n),
+    }
+}
+
+// Lead with limits of the caller's.
+fn lead_within(
+    first: &[u8],
+    second: &[u8],
+    item: &[u8],
+    replica: &[u8],
+    replicas: u32,
+    ranges: u32,
+) -> Lead
+    ensures { λ a. ⌜ a ≡ leadAnswer (rulesWithin replicas ranges)
+        (now (first .entry)) (now (second .entry)) (now (item .entry)) (now (replica .entry)) ⌝ }
+{
+    match open_within(first, replicas, ranges) {
+        Opened::At { r, start } => {
+            lead_second(first, r, start, second, item, replica, replicas, ranges)
+        }
         Opened::Refused(n) => Lead::Refused(n),
     }
 }
@@ -393,8 +449,12 @@ fn lead_second(s: &[u8], r: u32, start: Cursor, t: &[u8], item: &[u8], replica: 
 pub fn lead(first: &[u8], second: &[u8], item: &[u8], replica: &[u8]) -> Lead
     ensures { λ a. ⌜ a ≡ leadAnswer basic (now (first .entry)) (now (second .entry)) (now (item .entry)) (now (replica .entry)) ⌝ }
 {
-    match open_bytes(first) {
-        Opened::At { r, start } => lead_second(first, r, start, second, item, replica),
-        Opened::Refused(n) => Lead::Refused(n),
-    }
+    lead_within(
+        first,
+        second,
+        item,
+        replica,
+        layout::REPLICAS,
+        layout::RANGES,
+    )
 }

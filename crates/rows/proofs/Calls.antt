@@ -1,5 +1,5 @@
--- Cover from the check's answer on: the sizes fit the numbers that code keeps them in, the ids of a span are three words
--- each, and each way that the call goes has its equation.
+-- Cover from what was opened on, by any rules that accept both knowledges: the ids of a span are three words each, and each way
+-- that the call goes has its equation. Document 01's rules are those of its two numbers (`cover-basic`).
 use Prim.Native.Nat.{ℕ, zero, suc, _+_, _*_, _≤_, _<_}
 use mathlib.Core.Path.{_≡_, refl, sym, ap, ap₂, _∙_}
 use mathlib.Core.Bool.{Bool, true, false}
@@ -9,29 +9,28 @@ use lib.Dec.{ltb}
 use lib.ListN.{length, getD, replicate, take, length-take}
 use lib.Seq.{getD-take}
 use borrow.Author.Tests.{ltb-true, ltb-false}
-use Rattle.codec.specs.Number.{Bytes, beAt}
+use Rattle.codec.specs.Number.{beAt}
+use Rattle.codec.specs.Total.{readAt}
 use Rattle.codec.specs.Words.{words3}
-use Rattle.codec.proofs.Order.{words3-be}
-use Rattle.layout.specs.declared.Checked.{Checked}
-use Rattle.layout.specs.declared.Checked.the-variants.{Accepted, Refused}
-use Rattle.layout.specs.Knowledge.{basic}
-use Rattle.layout.specs.Permitted.{largestReplicas, mostCount}
+use Rattle.codec.proofs.Total.{read-id3}
+use Rattle.layout.specs.Knowledge.{Rules, basic}
+use Rattle.layout.specs.Permitted.{base, rulesWithin}
 use Rattle.layout.specs.Decode.{decode}
-use Rattle.layout.specs.Parse.{checkedBy}
-use Rattle.layout.specs.MethodPlaces.{idsPlace, wholeLength}
-use Rattle.layout.proofs.Exact.{base-permitted}
-use Rattle.layout.proofs.Places.{Reading, places}
-use Rattle.ticks.specs.Operations.{lacking, isNowhere, nowhere, here}
+use Rattle.layout.specs.MethodPlaces.{idsPlace}
+use Rattle.layout.proofs.Within.{basic-within}
+use Rattle.ticks.specs.Operations.{lacking, isNowhere}
+use Rattle.ticks.specs.declared.Cover.{Cover}
 use Rattle.ticks.specs.declared.Cover.the-variants as E
 use Rattle.ticks.specs.Calls.{coverFound, coverAnswer}
 use Rattle.ticks.specs.Answers.{ProperSpan}
 use Rattle.ticks.proofs.ForCode.{Refusing}
 use Rattle.ticks.proofs.ForRows.{cover-refuses-first, cover-refuses-second, cover-wrong, cover-answers}
 use Rattle.lookup.specs.declared.Cursor.{Cursor}
+use Rattle.lookup.specs.Method.{Opens, Open}
+use Rattle.lookup.proofs.Leaf.{opens-reading, ids-room}
 use Rattle.rows.specs.declared.Place.{Place}
 use Rattle.rows.specs.declared.Place.the-variants as O
-use Rattle.lookup.specs.Method.{startAt}
-use Rattle.rows.specs.Method.{Keyed, Starts, Zeros, lackOf}
+use Rattle.rows.specs.Method.{Keyed, Zeros, lackOf}
 
 -- Scratch
 
@@ -55,82 +54,75 @@ keyed-part s r t m keys h = record {
 
 -- The ids of a span
 
-pub item-words : (s : List ℕ) (x y z : ℕ) → x ≡ beAt s 8 0 → y ≡ beAt s 8 8 → z ≡ beAt s 8 16 → words3 x y z ≡ beAt s 24 0
-item-words s x y z e f g = rw (e, f, g) (sym (words3-be s 0))
+-- three words that were read of an id
+pub record IdOf (id : List ℕ) (x y z : ℕ) : Type 0 where
+  pub high : x ≡ readAt id 8 0
+  pub middle : y ≡ readAt id 8 8
+  pub low : z ≡ readAt id 8 16
 
--- What the check answered
+item-words : (id : List ℕ) (x y z : ℕ) → length id ≡ 24 → IdOf id x y z → words3 x y z ≡ beAt id 24 0
+item-words id x y z h e = rw (e .high, e .middle, e .low) (read-id3 id 0 (omega arith))
 
-reading : (s : List ℕ) (r v e g : ℕ) → Bytes s → checkedBy basic s ≡ Accepted r v e g → Reading basic s r v e g
-reading s r v e g b h = record { permitted = base-permitted; bytes = b; accepts = h }
+-- the first is not above the last
+pub proper : (f0 f1 f2 l0 l1 l2 : ℕ) (b : Bool) → b ≡ ltb (words3 l0 l1 l2) (words3 f0 f1 f2) → b ≡ false
+    → words3 f0 f1 f2 ≤ words3 l0 l1 l2
+proper f0 f1 f2 l0 l1 l2 b is f = ltb-false (words3 l0 l1 l2) (words3 f0 f1 f2) (sym is ∙ f)
 
-pub accepted-small : (s : List ℕ) (c : Checked) (r v e g : ℕ) → Bytes s → c ≡ checkedBy basic s → c ≡ Accepted r v e g
-    → wholeLength r v e g ≤ mostCount
-accepted-small s c r v e g b h k = let p = places basic s r v e g (reading s r v e g b (sym h ∙ k)) in omega (arith, p .whole, p .small)
-
-pub accepted-starts : (s : List ℕ) (c : Checked) (r v e g : ℕ) (x : Cursor) → c ≡ checkedBy basic s → c ≡ Accepted r v e g
-    → x ≡ startAt r v e g
-    → Starts s r x
-accepted-starts s c r v e g x h k l = record { v = v; e = e; g = g; accepts = sym h ∙ k; start = l }
-
-pub starts-room : (s : List ℕ) (r : ℕ) (c : Cursor) → Bytes s → Starts s r c → (idsPlace + 16 * r ≤ length s) × (r ≤ largestReplicas)
-starts-room s r c b h =
-    let p = places basic s r (h .v) (h .e) (h .g) (reading s r (h .v) (h .e) (h .g) b (h .accepts)) in
-    (omega (arith, p .whole), omega (arith, p .replicas))
+-- the ids of opened bytes are there
+pub open-room : (s : List ℕ) (r : ℕ) (c : Cursor) → Open s r c → idsPlace + 16 * r ≤ length s
+open-room s r c h =
+    let o = h .opens in
+    ids-room (h .rules) s r (o .v) (o .e) (o .g) (opens-reading (h .rules) s r c o)
 
 -- The ways that the call goes
 
-module _ (s t first last : List ℕ) where
-  pub cover-first : (c : Checked) (n : ℕ) → c ≡ checkedBy basic s → c ≡ Refused n → E.Refused n ≡ coverAnswer basic s t first last
-  cover-first c n h k =
-      sym (cover-refuses-first basic s t first last n (record { permitted = base-permitted; refuses = sym h ∙ k }))
+pub cover-basic : (s t first last : List ℕ) (a : Cover)
+    → a ≡ coverAnswer (rulesWithin (base .replicas) (base .ranges)) s t first last → a ≡ coverAnswer basic s t first last
+cover-basic s t first last a e = e ∙ ap (λ R. coverAnswer R s t first last) basic-within
 
-  pub cover-second : (c d : Checked) (r v e g n : ℕ) → Bytes s → c ≡ checkedBy basic s → c ≡ Accepted r v e g
-      → d ≡ checkedBy basic t
-      → d ≡ Refused n → E.Refused n ≡ coverAnswer basic s t first last
-  cover-second c d r v e g n b h k i j =
-      sym (cover-refuses-second basic s t first last r v e g (reading s r v e g b (sym h ∙ k)) n
-      (record { permitted = base-permitted; refuses = sym i ∙ j }))
+module _ (R : Rules) (s t first last : List ℕ) where
+  pub cover-first : (n : ℕ) → Refusing R s n → E.Refused n ≡ coverAnswer R s t first last
+  cover-first n h = sym (cover-refuses-first R s t first last n h)
 
-  module _ (r : ℕ) (x : Cursor) (m : ℕ) (y : Cursor) (bs : Bytes s) (bt : Bytes t) (hs : Starts s r x) (ht : Starts t m y) where
-    abbrev first-read : Reading basic s r (hs .v) (hs .e) (hs .g)
-    first-read = reading s r (hs .v) (hs .e) (hs .g) bs (hs .accepts)
+  module _ (r : ℕ) (x : Cursor) (o : Opens R s r x) where
+    pub cover-second : (n : ℕ) → Refusing R t n → E.Refused n ≡ coverAnswer R s t first last
+    cover-second n h =
+        sym (cover-refuses-second R s t first last r (o .v) (o .e) (o .g) (opens-reading R s r x o) n h)
 
-    abbrev second-read : Reading basic t m (ht .v) (ht .e) (ht .g)
-    second-read = reading t m (ht .v) (ht .e) (ht .g) bt (ht .accepts)
+    module _ (m : ℕ) (y : Cursor) (q : Opens R t m y) where
+      bad : (ProperSpan first last → ⊥) → E.Refused 17 ≡ coverAnswer R s t first last
+      bad f =
+          sym (cover-wrong R s t first last r (o .v) (o .e) (o .g) (opens-reading R s r x o) m (q .v) (q .e) (q .g)
+          (opens-reading R t m y q) f)
 
-    bad : (ProperSpan first last → ⊥) → E.Refused 17 ≡ coverAnswer basic s t first last
-    bad f =
-        sym (cover-wrong basic s t first last r (hs .v) (hs .e) (hs .g) first-read m (ht .v) (ht .e) (ht .g) second-read f)
+      pub cover-first-length : (length first ≡ 24 → ⊥) → E.Refused 17 ≡ coverAnswer R s t first last
+      cover-first-length f = bad (λ p. f (p .0))
 
-    pub cover-first-length : (length first ≡ 24 → ⊥) → E.Refused 17 ≡ coverAnswer basic s t first last
-    cover-first-length f = bad (λ p. f (p .0))
+      pub cover-last-length : (length last ≡ 24 → ⊥) → E.Refused 17 ≡ coverAnswer R s t first last
+      cover-last-length f = bad (λ p. f (p .1 .0))
 
-    pub cover-last-length : (length last ≡ 24 → ⊥) → E.Refused 17 ≡ coverAnswer basic s t first last
-    cover-last-length f = bad (λ p. f (p .1 .0))
+      module _ (k : length first ≡ 24) (l : length last ≡ 24) (f0 f1 f2 l0 l1 l2 : ℕ) (ef : IdOf first f0 f1 f2)
+          (el : IdOf last l0 l1 l2) (b : Bool) (is : b ≡ ltb (words3 l0 l1 l2) (words3 f0 f1 f2)) where
+        pub cover-above : b ≡ true → E.Refused 17 ≡ coverAnswer R s t first last
+        cover-above f =
+            let n : words3 l0 l1 l2 < words3 f0 f1 f2 = ltb-true (words3 l0 l1 l2) (words3 f0 f1 f2) (sym is ∙ f) in
+            bad (λ p. absurd (omega (arith, p .1 .1, item-words first f0 f1 f2 k ef, item-words last l0 l1 l2 l el)))
 
-    module _ (a b c : ℕ) (ea : a ≡ beAt last 8 0) (eb : b ≡ beAt last 8 8) (ec : c ≡ beAt last 8 16) (q : Bool)
-        (is : q ≡ ltb (words3 a b c) (beAt first 24 0)) where
-      pub cover-above : q ≡ true → E.Refused 17 ≡ coverAnswer basic s t first last
-      cover-above f =
-          let l : words3 a b c < beAt first 24 0 = ltb-true (words3 a b c) (beAt first 24 0) (sym is ∙ f) in
-          bad (λ p. absurd (omega (arith, p .1 .1, item-words last a b c ea eb ec)))
+        module _ (inside : b ≡ false) (p : Place)
+            (e : lackOf p ≡ lacking (decode s) (decode t) (words3 f0 f1 f2) (words3 l0 l1 l2)) where
+          answer : coverAnswer R s t first last ≡ coverFound (isNowhere (lackOf p))
+          answer =
+              let n = proper f0 f1 f2 l0 l1 l2 b is inside in
+              cover-answers R s t first last r (o .v) (o .e) (o .g) (opens-reading R s r x o) m (q .v) (q .e) (q .g)
+              (opens-reading R t m y q)
+              (k, (l, omega (arith, item-words first f0 f1 f2 k ef, item-words last l0 l1 l2 l el)))
+              ∙ ap (λ w. coverFound (isNowhere w))
+              (sym (e ∙ ap₂ (lacking (decode s) (decode t)) (item-words first f0 f1 f2 k ef) (item-words last l0 l1 l2 l el)))
 
-      pub cover-proper : q ≡ false → beAt first 24 0 ≤ beAt last 24 0
-      cover-proper f =
-          let l : beAt first 24 0 ≤ words3 a b c = ltb-false (words3 a b c) (beAt first 24 0) (sym is ∙ f) in
-          omega (arith, item-words last a b c ea eb ec)
+          pub cover-yes : p ≡ O.Nowhere → E.Covers ≡ coverAnswer R s t first last
+          unfolding coverFound isNowhere lackOf
+          cover-yes f = sym (answer ∙ ap (λ w. coverFound (isNowhere (lackOf w))) f)
 
-    module _ (k : length first ≡ 24) (l : length last ≡ 24) (n : beAt first 24 0 ≤ beAt last 24 0) (p : Place)
-        (e : lackOf p ≡ lacking (decode s) (decode t) (beAt first 24 0) (beAt last 24 0)) where
-      answer : coverAnswer basic s t first last ≡ coverFound (isNowhere (lackOf p))
-      answer =
-          cover-answers basic s t first last r (hs .v) (hs .e) (hs .g) first-read m (ht .v) (ht .e) (ht .g) second-read (k, (l, n))
-          ∙ ap (λ w. coverFound (isNowhere w)) (sym e)
-
-      pub cover-yes : p ≡ O.Nowhere → E.Covers ≡ coverAnswer basic s t first last
-      unfolding coverFound isNowhere lackOf
-      cover-yes f = sym (answer ∙ ap (λ w. coverFound (isNowhere (lackOf w))) f)
-
-      pub cover-no : (i0 i1 i2 p0 p1 : ℕ) → p ≡ O.Here i0 i1 i2 p0 p1 → E.Lacks ≡ coverAnswer basic s t first last
-      unfolding coverFound isNowhere lackOf
-      cover-no i0 i1 i2 p0 p1 f = sym (answer ∙ ap (λ w. coverFound (isNowhere (lackOf w))) f)
+          pub cover-no : (i0 i1 i2 p0 p1 : ℕ) → p ≡ O.Here i0 i1 i2 p0 p1 → E.Lacks ≡ coverAnswer R s t first last
+          unfolding coverFound isNowhere lackOf
+          cover-no i0 i1 i2 p0 p1 f = sym (answer ∙ ap (λ w. coverFound (isNowhere (lackOf w))) f)

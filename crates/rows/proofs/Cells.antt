@@ -1,7 +1,7 @@
 -- Rows of ticks, and what lacks at an item. A row is cleared and then filled from the last element to the first, so that
 -- the first element of a key stays. The elements of the other knowledge's vector are weighed one after the other: the whole
 -- answer is the answer from here on. Beside these, what the functions with no loop return.
-use Prim.Native.Nat.{ℕ, zero, suc, _+_, _-_, _*_, _≤_, _<_}
+use Prim.Native.Nat.{ℕ, _+_, _-_, _*_, _≤_, _<_}
 use mathlib.Core.Path.{_≡_, refl, sym, ap, ap₂, _∙_}
 use mathlib.Core.Logic.{inl, inr}
 use mathlib.Core.Bool.{Bool, true, false}
@@ -17,7 +17,6 @@ use Rattle.codec.specs.Total.{readAt}
 use Rattle.codec.specs.Words.{words2, words3}
 use Rattle.codec.proofs.Order.{words2-be, words3-be}
 use Rattle.layout.specs.declared.ReplicaKey.{ReplicaKey}
-use Rattle.layout.specs.Knowledge.{Element}
 use Rattle.layout.specs.Decode.{elementsAt}
 use Rattle.layout.specs.MethodPlaces.{idsPlace}
 use Rattle.ticks.specs.Meaning.{tickAt}
@@ -31,9 +30,9 @@ use Rattle.rows.specs.declared.Least.{Least}
 use Rattle.rows.specs.declared.Least.the-variants as M
 use Rattle.rows.specs.declared.Stop.{Stop}
 use Rattle.rows.specs.declared.Stop.the-variants as N
-use Rattle.lookup.specs.Method.{keyAt, startAt, elementsThere, There}
-use Rattle.rows.specs.Method.{Keyed, stopAt, boundOf, nearerOf, elementsHere, elementAt, Zeros, Blank, RowOf, Filled, idFrom, levelOf, leastId}
-use Rattle.lookup.proofs.Loops.{cursor}
+use Rattle.lookup.specs.Method.{keyAt, There, elementAt, elementsHere}
+use Rattle.rows.specs.Method.{Keyed, stopAt, boundOf, nearerOf, Zeros, Blank, RowOf, Filled, idFrom, levelOf, leastId}
+use Rattle.lookup.proofs.Loops.{elements-zero, elements-cons, here-is}
 
 -- past the end of a list of numbers there is 0
 pub beyond : (l : List ℕ) (c : ℕ) → length l ≤ c → getD l c 0 ≡ 0
@@ -73,23 +72,10 @@ filled-same s before vector row e = record { is = λ h. rw (← e) h; size = ref
 row-blank : (row₀ row : List ℕ) → Blank row₀ row → RowOf [] row
 row-blank row₀ row b = record { is = λ c h. b .is .is c ∙ sym (tick-nil c) }
 
-pub elements-zero : (s : List ℕ) (n at : ℕ) → n ≡ 0 → elementsAt s n at ≡ []
-unfolding elementsAt
-elements-zero s n at e = ap (λ m. elementsAt s m at) e
-
-pub elements-cons : (s : List ℕ) (n at : ℕ) → 0 < n → elementsAt s n at ≡ elementAt s at ∷ elementsAt s (n - 1) (at + 12)
-unfolding elementsAt
-elements-cons s zero at h = absurd (omega arith)
-elements-cons s (suc n) at h = let e : n ≡ suc n - 1 = omega arith in ap (λ m. elementAt s at ∷ elementsAt s m (at + 12)) e
-
 module _ (s : List ℕ) (before vector n : ℕ) (row₀ row : List ℕ) (t : There s vector n) where
-  pub here-is : elementsHere s vector ≡ elementsAt s n (vector + 8)
-  unfolding elementsHere
-  here-is = ap (λ m. elementsAt s m (vector + 8)) (sym (t .is))
-
   pub filled-nothing : Blank row₀ row → n ≡ 0 → Filled s before vector row₀ row
   filled-nothing b e = record {
-    is = λ h. rw (here-is ∙ elements-zero s n (vector + 8) e) (row-blank row₀ row b);
+    is = λ h. rw (here-is s vector n t ∙ elements-zero s n (vector + 8) e) (row-blank row₀ row b);
     size = b .size;
   }
 
@@ -99,10 +85,15 @@ module _ (s : List ℕ) (before vector n : ℕ) (row₀ row : List ℕ) (t : The
   filled-all left at r p z e =
       let m : n - left ≡ n = omega arith in
       let q : at ≡ vector + 8 = omega arith in
-      record { is = λ h. rw (here-is ∙ ap₂ (λ x y. elementsAt s x y) (sym m) (sym q)) r; size = e }
+      record { is = λ h. rw (here-is s vector n t ∙ ap₂ (λ x y. elementsAt s x y) (sym m) (sym q)) r; size = e }
 
 pub row-begins : (s : List ℕ) (n at : ℕ) (row₀ row : List ℕ) → Blank row₀ row → RowOf (elementsAt s (n - n) at) row
 row-begins s n at row₀ row b = rw (elements-zero s (n - n) at (omega arith)) (row-blank row₀ row b)
+
+-- one element more, the one at `prev`
+pub record Put (s : List ℕ) (n left prev : ℕ) (row after : List ℕ) : Type 0 where
+  pub cells : RowOf (elementsAt s (n - (left - 1)) prev) after
+  pub size : length after ≡ length row
 
 module _ (s : List ℕ) (n left at prev : ℕ) (row : List ℕ) (key : ℕ) (r : RowOf (elementsAt s (n - left) at) row)
     (l : left ≤ n) (p : 0 < left) (q : prev + 12 ≡ at) (f : key ≡ beAt s 4 prev) where
@@ -134,15 +125,11 @@ module _ (s : List ℕ) (n left at prev : ℕ) (row : List ℕ) (key : ℕ) (r :
         is = λ c h. r .is c h ∙ sym (tick-other (elementAt s prev) (elementsAt s (n - left) at) c (λ e. absurd (omega (arith, f, e))));
       })
 
-  -- one element more
-  pub record Put (after : List ℕ) : Type 0 where
-    pub cells : RowOf (elementsAt s (n - (left - 1)) prev) after
-    pub size : length after ≡ length row
-
-  pub put-set : (after : List ℕ) (tick : ℕ) → tick ≡ beAt s 8 (prev + 4) → key < length row → after ≡ set row key tick → Put after
+  pub put-set : (after : List ℕ) (tick : ℕ) → tick ≡ beAt s 8 (prev + 4) → key < length row → after ≡ set row key tick
+      → Put s n left prev row after
   put-set after tick g k e = rw e (record { cells = row-set tick g k; size = length-set row key tick })
 
-  pub put-skip : (after : List ℕ) → length row ≤ key → after ≡ row → Put after
+  pub put-skip : (after : List ℕ) → length row ≤ key → after ≡ row → Put s n left prev row after
   put-skip after k e = rw e (record { cells = row-skip k; size = refl })
 
 -- The keys of another map
@@ -214,14 +201,14 @@ module _ (t : List ℕ) (at : ℕ) (keys row : List ℕ) (best : Least) (n tick 
 module _ (level id : ℕ → ℕ) (t : List ℕ) where
   pub least-nothing : (vector n : ℕ) → There t vector n → n ≡ 0 → leastId M.Nothing ≡ leastOf level id none (elementsHere t vector)
   unfolding leastId leastOf
-  least-nothing vector n h e = sym (rw (here-is t 0 vector n [] [] h ∙ elements-zero t n (vector + 8) e) refl)
+  least-nothing vector n h e = sym (rw (here-is t vector n h ∙ elements-zero t n (vector + 8) e) refl)
 
   pub least-begins : (vector n : ℕ) → There t vector n
       → leastOf level id none (elementsHere t vector) ≡ leastOf level id (leastId M.Nothing) (elementsAt t (n - 0) (vector + 8))
   unfolding leastId
   least-begins vector n h =
       let e : n ≡ n - 0 = omega arith in
-      ap (leastOf level id none) (here-is t 0 vector n [] [] h ∙ ap (λ m. elementsAt t m (vector + 8)) e)
+      ap (leastOf level id none) (here-is t vector n h ∙ ap (λ m. elementsAt t m (vector + 8)) e)
 
   module _ (whole : Option ℕ) (n i at : ℕ) (best : Least) (inv : whole ≡ leastOf level id (leastId best) (elementsAt t (n - i) at)) where
     pub least-next : (r : Least) → leastId r ≡ weigh level id (leastId best) (elementAt t at) → i < n

@@ -1,6 +1,4 @@
 -- The laws that the rows are proved by.
 pub mod Cells
-pub mod Standing
 pub mod Walking
 pub mod Calls
-pub mod Ranges

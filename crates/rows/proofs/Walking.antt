@@ -2,150 +2,112 @@
 -- second's replicas, so the least lacking id among the elements there is the least replica that lacks. The next stop is the
 -- nearer of the two next bounds: up to it nothing changes, and one cursor at least passes a range there. So the first
 -- lacking place of the span is the one from the stop on (`Walks`).
-use Prim.Native.Nat.{ℕ, zero, suc, _+_, _*_, _≤_, _<_}
-use mathlib.Core.Path.{_≡_, refl, sym, ap, ap₂, _∙_, subst}
+use Prim.Native.Nat.{ℕ, suc, _+_, _*_, _≤_, _<_}
+use mathlib.Core.Path.{_≡_, refl, sym, ap, ap₂, _∙_}
 use mathlib.Core.Logic.{_⊎_, inl, inr, ⊎-elim}
 use mathlib.Core.Option.{Option, none, some}
-use mathlib.Core.List.{List, [], _∷_}
+use mathlib.Core.List.{List}
 use native.Mathlib.Omega.{arith}
-use lib.Dec.{ltb}
 use lib.ListN.{length, getD}
 use borrow.Author.Tests.{lt-ltb, le-ltb}
-use Rattle.codec.specs.Number.{Bytes, beAt}
+use Rattle.codec.specs.Number.{beAt}
 use Rattle.codec.specs.Words.{words2, words3}
 use Rattle.codec.proofs.Total.{read-id2}
-use Rattle.layout.specs.Knowledge.{basic, Knowledge, Lawful}
-use Rattle.layout.specs.Permitted.{largestReplicas}
-use Rattle.layout.specs.Decode.{idsAt, rangesAt, decode}
+use Rattle.layout.specs.declared.ReplicaKey.{ReplicaKey}
+use Rattle.layout.specs.Knowledge.{Rules, Lawful}
+use Rattle.layout.specs.Decode.{decode}
 use Rattle.layout.specs.MethodPlaces.{idsPlace}
-use Rattle.layout.proofs.Places.{ids-length}
-use Rattle.ticks.specs.Meaning.{known, place, tickAt, vectorAt, vectorOf}
-use Rattle.ticks.specs.MethodLookup.{keyOf, tickIn}
+use Rattle.layout.proofs.Places.{counts, id-at}
+use Rattle.ticks.specs.Meaning.{known, place, tickAt, vectorAt}
+use Rattle.ticks.specs.MethodLookup.{keyOf}
 use Rattle.ticks.specs.MethodRows.{leastOf}
-use Rattle.ticks.specs.Operations.{Lack, nowhere, here, lacking}
+use Rattle.ticks.specs.Operations.{here, lacking}
 use Rattle.ticks.proofs.Lists.{less, same, more, order}
 use Rattle.ticks.proofs.Vectors.{tick-nil, tick-none}
-use Rattle.ticks.proofs.ForCode.{keys-below}
-use Rattle.ticks.proofs.ForRows.{Fine, Still, LeastLacking, idIn, least-none, least-some, lacking-on, lacking-past, lacking-here, Clear, stands-vector, stands-known, stands-still}
+use Rattle.ticks.proofs.ForCode.{keys-below, known-place}
+use Rattle.ticks.proofs.ForRows.{Fine, Still, LeastLacking, idIn, least-none, least-some, lacking-on, lacking-past, lacking-here}
 use Rattle.lookup.specs.declared.Cursor.{Cursor}
+use Rattle.lookup.specs.Method.{advanced, elementsHere, Open}
+use Rattle.lookup.proofs.Leaf.{read-lawful, read-ids, ids-room, read-key, start-elements}
+use Rattle.lookup.proofs.Leaf.{Stands, stands-start, stands-advanced, stands-elements, stands-still, advanced-fewer, advanced-passes}
 use Rattle.rows.specs.declared.Least.{Least}
 use Rattle.rows.specs.declared.Least.the-variants as M
 use Rattle.rows.specs.declared.Stop.{Stop}
 use Rattle.rows.specs.declared.Stop.the-variants as N
-use Rattle.rows.specs.declared.Place.{Place}
 use Rattle.rows.specs.declared.Place.the-variants as O
-use Rattle.lookup.specs.Method.{keyAt, advanced}
-use Rattle.rows.specs.Method.{Keyed, Starts, stopAt, boundOf, nearerOf, elementsHere, Zeros, RowOf, Filled, idFrom, levelOf, leastId, lackOf}
-use Rattle.lookup.proofs.Loops.{key-there}
+use Rattle.rows.specs.Method.{Keyed, stopAt, boundOf, nearerOf, Zeros, RowOf, Filled, idFrom, levelOf, leastId, lackOf}
 use Rattle.rows.proofs.Cells.{beyond, level-is}
-use Rattle.rows.proofs.Standing.{Coming, Standing, coming-start, coming-replicas, standing-advanced, advanced-fewer, advanced-passes, index-clear, value, value-is, value-lawful, value-ids, ids-room, standing-stands, standing-elements, start-elements}
-
--- id j of those from a place on
-ids-get : (s : List ℕ) (n at j : ℕ) → j < n → getD (idsAt s n at) j 0 ≡ beAt s 16 (at + 16 * j)
-unfolding idsAt
-ids-get s zero at j h = absurd (omega arith)
-ids-get s (suc n) at zero h = let e : at ≡ at + 16 * 0 = omega arith in ap (beAt s 16) e
-ids-get s (suc n) at (suc j) h =
-    let e : at + 16 + 16 * j ≡ at + 16 * suc j = omega arith in
-    ids-get s n (at + 16) j (omega arith) ∙ ap (beAt s 16) e
 
 -- What lacks at an item
 
-module _ (s : List ℕ) (r : ℕ) (x : Cursor) (t : List ℕ) (m : ℕ) (y : Cursor) (i : ℕ) (keys row : List ℕ)
-    (sx : Standing s r x i) (sy : Standing t m y i) (rowIs : RowOf (elementsHere s (x .vector)) row) (cells : r ≤ length row)
-    (keyed : Keyed s r t m keys) where
-  abbrev a : Knowledge
-  a = value s r x i sx
+module _ (R Q : Rules) (s : List ℕ) (r : ℕ) (x : Cursor) (t : List ℕ) (m : ℕ) (y : Cursor) (i : ℕ) (keys row : List ℕ)
+    (sx : Stands R s r x (suc i)) (sy : Stands Q t m y (suc i)) (rowIs : RowOf (elementsHere s (x .vector)) row)
+    (cells : r ≤ length row) (keyed : Keyed s r t m keys) where
+  first-lawful : Lawful R (decode s)
+  first-lawful = read-lawful R s r (sx .v) (sx .e) (sx .g) (sx .reading)
 
-  abbrev b : Knowledge
-  b = value t m y i sy
+  second-lawful : Lawful Q (decode t)
+  second-lawful = read-lawful Q t m (sy .v) (sy .e) (sy .g) (sy .reading)
 
-  a-lawful : Lawful basic a
-  a-lawful = value-lawful s r x i sx
+  first-size : length (decode s .replicas) ≡ r
+  first-size = counts R s r (sx .v) (sx .e) (sx .g) (sx .reading) .replicas
 
-  b-lawful : Lawful basic b
-  b-lawful = value-lawful t m y i sy
+  second-size : length (decode t .replicas) ≡ m
+  second-size = counts Q t m (sy .v) (sy .e) (sy .g) (sy .reading) .replicas
 
-  a-size : length (a .replicas) ≡ r
-  a-size = ap length (value-ids s r x i sx) ∙ ids-length s r idsPlace
-
-  b-size : length (b .replicas) ≡ m
-  b-size = ap length (value-ids t m y i sy) ∙ ids-length t m idsPlace
-
-  own-id : (key : ℕ) → key < m → idIn b key ≡ beAt t 16 (idsPlace + 16 * key)
-  own-id key h = ap (λ ids. getD ids key 0) (value-ids t m y i sy) ∙ ids-get t m idsPlace key h
-
-  -- the key in the first of an id
-  key-is : (p : ℕ) → keyAt s r p .0 ≡ place p (a .replicas)
-  unfolding keyOf
-  key-is p =
-      ap (λ k. k .0) (sym (key-there s r p (keyOf (idsAt s r idsPlace) p) (ids-room s r x i sx) refl))
-      ∙ ap (place p) (sym (value-ids s r x i sx))
+  own-id : (key : ℕ) → key < m → idIn (decode t) key ≡ beAt t 16 (idsPlace + 16 * key)
+  own-id key h =
+      ap (λ ids. getD ids key 0) (read-ids Q t m (sy .v) (sy .e) (sy .g) (sy .reading)) ∙ id-at t m key idsPlace h
 
   -- a cell of the row is a tick of the first
-  cell-is : (p : ℕ) → getD row (place p (a .replicas)) 0 ≡ known a i p
-  unfolding tickIn keyOf
+  cell-is : (p : ℕ) → getD row (place p (decode s .replicas)) 0 ≡ known (decode s) i p
   cell-is p =
-      let c = place p (a .replicas) in
-      let there : tickAt (vectorOf a (x .index .0)) c ≡ known a i p =
-      sym (stands-known basic a a-lawful i (x .index) (rangesAt s (x .left) (x .next)) (standing-stands s r x i sx) p) in
-      let none-there : length row ≤ c → tickAt (vectorAt a i) c ≡ 0 =
-      λ h. tick-none (length (a .replicas)) (vectorAt a i) c (keys-below basic a a-lawful i) (omega (arith, a-size)) in
-      let out : length row ≤ c → getD row c 0 ≡ known a i p =
+      let c = place p (decode s .replicas) in
+      let is : tickAt (vectorAt (decode s) i) c ≡ known (decode s) i p = sym (known-place R (decode s) first-lawful i p) in
+      let out : length row ≤ c → getD row c 0 ≡ known (decode s) i p =
       λ h.
-      beyond row c h ∙ sym (none-there h)
-      ∙ ap (λ es. tickAt es c)
-      (stands-vector basic a a-lawful i (x .index) (rangesAt s (x .left) (x .next)) (standing-stands s r x i sx)) ∙ there in
+      beyond row c h
+      ∙ sym (tick-none (length (decode s .replicas)) (vectorAt (decode s) i) c (keys-below R (decode s) first-lawful i)
+      (omega (arith, first-size)))
+      ∙ is in
       elim (order c (length row)) [
-        | less h ↦ rowIs .is c h ∙ ap (λ es. tickAt es c) (standing-elements s r x i sx) ∙ there
+        | less h ↦ rowIs .is c h ∙ ap (λ es. tickAt es c) (stands-elements R s r x i sx) ∙ is
         | same h ↦ out (omega arith)
         | more h ↦ out (omega arith)
       ]
 
-  levels : (key : ℕ) → key < length (b .replicas) → levelOf keys row key ≡ known a i (idIn b key)
+  levels : (key : ℕ) → key < length (decode t .replicas) → levelOf keys row key ≡ known (decode s) i (idIn (decode t) key)
+  unfolding keyOf
   levels key h =
-      let k : key < m = omega (arith, b-size) in
+      let k : key < m = omega (arith, second-size) in
       let id = beAt t 16 (idsPlace + 16 * key) in
-      sym (level-is keys row key (omega (arith, keyed .size))) ∙ ap (λ c. getD row c 0) (keyed .is key k ∙ key-is id)
-      ∙ cell-is id ∙ ap (known a i) (sym (own-id key k))
+      sym (level-is keys row key (omega (arith, keyed .size)))
+      ∙ ap (λ c. getD row c 0)
+      (keyed .is key k ∙ ap (λ (z : ReplicaKey). z .0) (read-key R s r (sx .v) (sx .e) (sx .g) (sx .reading) id))
+      ∙ cell-is id ∙ ap (known (decode s) i) (sym (own-id key k))
 
-  ids : (key : ℕ) → key < length (b .replicas) → idFrom t key ≡ idIn b key
+  ids : (key : ℕ) → key < length (decode t .replicas) → idFrom t key ≡ idIn (decode t) key
   unfolding idFrom
   ids key h =
-      let k : key < m = omega (arith, b-size) in
-      read-id2 t (idsPlace + 16 * key) (omega (arith, ids-room t m y i sy)) ∙ sym (own-id key k)
-
-  elements-are : elementsHere t (y .vector) ≡ vectorAt b i
-  elements-are =
-      standing-elements t m y i sy
-      ∙ sym (stands-vector basic b b-lawful i (y .index) (rangesAt t (y .left) (y .next)) (standing-stands t m y i sy))
+      let k : key < m = omega (arith, second-size) in
+      let room = ids-room Q t m (sy .v) (sy .e) (sy .g) (sy .reading) in
+      read-id2 t (idsPlace + 16 * key) (omega arith) ∙ sym (own-id key k)
 
   found : (o : Option ℕ) → leastOf (levelOf keys row) (idFrom t) none (elementsHere t (y .vector)) ≡ o
-      → leastOf (levelOf keys row) (idFrom t) none (vectorAt b i) ≡ o
-  found o e = ap (leastOf (levelOf keys row) (idFrom t) none) (sym elements-are) ∙ e
-
-  to-bytes : (P : Knowledge → Knowledge → Type 0) → P a b → P (decode s) (decode t)
-  to-bytes P p = subst (λ k. P k (decode t)) (sym (value-is s r x i sx)) (subst (λ k. P a k) (sym (value-is t m y i sy)) p)
+      → leastOf (levelOf keys row) (idFrom t) none (vectorAt (decode t) i) ≡ o
+  found o e = ap (leastOf (levelOf keys row) (idFrom t) none) (sym (stands-elements Q t m y i sy)) ∙ e
 
   pub here-fine : leastOf (levelOf keys row) (idFrom t) none (elementsHere t (y .vector)) ≡ none → Fine (decode s) (decode t) i
-  here-fine e =
-      to-bytes (λ c d. Fine c d i) (least-none basic a b b-lawful i (levelOf keys row) (idFrom t) levels ids (found none e))
+  here-fine e = least-none Q (decode s) (decode t) second-lawful i (levelOf keys row) (idFrom t) levels ids (found none e)
 
   pub here-least : (p : ℕ) → leastOf (levelOf keys row) (idFrom t) none (elementsHere t (y .vector)) ≡ some p
       → LeastLacking (decode s) (decode t) i p
-  here-least p e =
-      to-bytes (λ c d. LeastLacking c d i p)
-      (least-some basic a b b-lawful i (levelOf keys row) (idFrom t) levels ids p (found (some p) e))
+  here-least p e = least-some Q (decode s) (decode t) second-lawful i (levelOf keys row) (idFrom t) levels ids p (found (some p) e)
 
   -- up to a stop that is at or below the next bounds both stay
-  pub here-still : (stop : ℕ) → Clear (x .index) (rangesAt s (x .left) (x .next)) stop
-      → Clear (y .index) (rangesAt t (y .left) (y .next)) stop → Still (decode s) (decode t) i stop
-  here-still stop c d =
-      to-bytes (λ e f. Still e f i stop)
-      (record {
-        first = stands-still basic a a-lawful i (x .index) (rangesAt s (x .left) (x .next)) (standing-stands s r x i sx) stop c;
-        second = stands-still basic b b-lawful i (y .index) (rangesAt t (y .left) (y .next)) (standing-stands t m y i sy) stop d;
-      })
+  pub here-still : (stop : ℕ) → (0 < x .left → stop ≤ beAt s 24 (x .next)) → (0 < y .left → stop ≤ beAt t 24 (y .next))
+      → Still (decode s) (decode t) i stop
+  here-still stop f g = record { first = stands-still R s r x i sx stop f; second = stands-still Q t m y i sy stop g }
 
 -- The next stop
 
@@ -253,29 +215,32 @@ module _ (s : List ℕ) (x : Cursor) (t : List ℕ) (y : Cursor) (hi : ℕ) wher
 pub record Walks (s : List ℕ) (r : ℕ) (t : List ℕ) (m lo hi : ℕ) (keys row : List ℕ) (x y : Cursor) (i : ℕ) : Type 0 where
   pub inside : i ≤ hi
   pub is : lacking (decode s) (decode t) lo hi ≡ lacking (decode s) (decode t) i hi
-  pub first : Standing s r x i
-  pub second : Standing t m y i
+  pub rules : Rules
+  pub first : Stands rules s r x (suc i)
+  pub others : Rules
+  pub second : Stands others t m y (suc i)
   pub cells : RowOf (elementsHere s (x .vector)) row
   pub size : r ≤ length row
   pub keyed : Keyed s r t m keys
 
 module _ (s : List ℕ) (r : ℕ) (from : Cursor) (t : List ℕ) (m : ℕ) (begin : Cursor) (lo hi : ℕ) (keys row after : List ℕ) (x y : Cursor) where
-  pub walk-starts : Bytes s → Bytes t → Starts s r from → Starts t m begin → Keyed s r t m keys → Zeros row
-      → largestReplicas ≤ length row → lo ≤ hi
+  pub walk-starts : Open s r from → Open t m begin → Keyed s r t m keys → Zeros row → r ≤ length row → lo ≤ hi
       → x ≡ advanced s r from lo → y ≡ advanced t m begin lo → Filled s (from .vector) (x .vector) row after
       → Walks s r t m lo hi keys after x y lo
-  walk-starts bs bt hs ht k z n l e f g =
-      let first = coming-start s r from bs hs in
-      let second = coming-start t m begin bt ht in
+  walk-starts a b k z n l e f g =
+      let R = a .rules in
+      let Q = b .rules in
       let blank : RowOf (elementsHere s (from .vector)) row =
-      rw (start-elements s r from bs hs) (record { is = λ c h. z .is c ∙ sym (tick-nil c) }) in
+      rw (start-elements R s r from (a .opens)) (record { is = λ c h. z .is c ∙ sym (tick-nil c) }) in
       record {
         inside = l;
         is = refl;
-        first = rw e (standing-advanced s r from 0 lo first (omega arith));
-        second = rw f (standing-advanced t m begin 0 lo second (omega arith));
+        rules = R;
+        first = rw e (stands-advanced R s r from 0 (stands-start R s r from (a .opens)) lo (omega arith));
+        others = Q;
+        second = rw f (stands-advanced Q t m begin 0 (stands-start Q t m begin (b .opens)) lo (omega arith));
         cells = g .is blank;
-        size = omega (arith, coming-replicas s r from 0 first, g .size);
+        size = omega (arith, g .size);
         keyed = k;
       }
 
@@ -285,23 +250,24 @@ module _ (s : List ℕ) (r : ℕ) (t : List ℕ) (m lo hi : ℕ) (keys row : Lis
       → lackOf (O.Here i0 i1 i2 p0 p1) ≡ lacking (decode s) (decode t) lo hi
   unfolding lackOf leastId
   walk-here i0 i1 i2 p0 p1 e f =
-      let g = here-least s r x t m y i keys row (w .first) (w .second) (w .cells) (w .size) (w .keyed) (words2 p0 p1) (sym told ∙ ap leastId f) in
+      let g = here-least (w .rules) (w .others) s r x t m y i keys row (w .first) (w .second) (w .cells) (w .size) (w .keyed)
+      (words2 p0 p1) (sym told ∙ ap leastId f) in
       ap (λ j. here j (words2 p0 p1)) e ∙ sym (w .is ∙ lacking-here (decode s) (decode t) i hi (words2 p0 p1) g (w .inside))
 
   module _ (none-here : least ≡ M.Nothing) (p q stop : Stop) (ep : stopAt p ≡ boundOf s x hi) (eq : stopAt q ≡ boundOf t y hi)
       (near : stopAt stop ≡ nearerOf (stopAt p) (stopAt q)) where
     fine : Fine (decode s) (decode t) i
     unfolding leastId
-    fine = here-fine s r x t m y i keys row (w .first) (w .second) (w .cells) (w .size) (w .keyed) (sym told ∙ ap leastId none-here)
+    fine =
+        here-fine (w .rules) (w .others) s r x t m y i keys row (w .first) (w .second) (w .cells) (w .size) (w .keyed)
+        (sym told ∙ ap leastId none-here)
 
     nearest : stopAt stop ≡ nearerOf (boundOf s x hi) (boundOf t y hi)
     nearest = near ∙ ap₂ nearerOf ep eq
 
     still : (n : ℕ) → (0 < x .left → n ≤ beAt s 24 (x .next)) → (0 < y .left → n ≤ beAt t 24 (y .next))
         → Still (decode s) (decode t) i n
-    still n f g =
-        here-still s r x t m y i keys row (w .first) (w .second) (w .cells) (w .size) (w .keyed) n
-        (index-clear s (x .index) (x .left) (x .next) n f) (index-clear t (y .index) (y .left) (y .next) n g)
+    still = here-still (w .rules) (w .others) s r x t m y i keys row (w .first) (w .second) (w .cells) (w .size) (w .keyed)
 
     pub walk-past : stop ≡ N.Past → lackOf O.Nowhere ≡ lacking (decode s) (decode t) lo hi
     unfolding lackOf stopAt
@@ -315,7 +281,7 @@ module _ (s : List ℕ) (r : ℕ) (t : List ℕ) (m lo hi : ℕ) (keys row : Lis
       unfolding stopAt
       next = next-some s x t y hi (words3 n0 n1 n2) (sym nearest ∙ ap stopAt at)
 
-      later : i ≤ words3 n0 n1 n2
+      later : suc i ≤ words3 n0 n1 n2
       later =
           ⊎-elim (λ h. omega (arith, w .first .ahead (h .0), h .1)) (λ h. omega (arith, w .second .ahead (h .0), h .1)) (next .passes)
 
@@ -324,9 +290,12 @@ module _ (s : List ℕ) (r : ℕ) (t : List ℕ) (m lo hi : ℕ) (keys row : Lis
       walk-on after f = record {
         inside = next .inside;
         is = w .is
-            ∙ lacking-on (decode s) (decode t) i (words3 n0 n1 n2) hi fine (still (words3 n0 n1 n2) (next .first) (next .second)) later;
-        first = rw eu (standing-advanced s r x i (words3 n0 n1 n2) (w .first .coming) later);
-        second = rw ev (standing-advanced t m y i (words3 n0 n1 n2) (w .second .coming) later);
+            ∙ lacking-on (decode s) (decode t) i (words3 n0 n1 n2) hi fine (still (words3 n0 n1 n2) (next .first) (next .second))
+            (omega (arith, later));
+        rules = w .rules;
+        first = rw eu (stands-advanced (w .rules) s r x (suc i) (w .first) (words3 n0 n1 n2) (omega (arith, later)));
+        others = w .others;
+        second = rw ev (stands-advanced (w .others) t m y (suc i) (w .second) (words3 n0 n1 n2) (omega (arith, later)));
         cells = f .is (w .cells);
         size = omega (arith, w .size, f .size);
         keyed = w .keyed;
@@ -334,11 +303,12 @@ module _ (s : List ℕ) (r : ℕ) (t : List ℕ) (m lo hi : ℕ) (keys row : Lis
 
       pub walk-less : u .left + v .left < x .left + y .left
       walk-less =
+          let l : suc i ≤ suc (words3 n0 n1 n2) = omega (arith, later) in
           let su = ap (λ (c : Cursor). c .left) eu in
           let sv = ap (λ (c : Cursor). c .left) ev in
-          let fu = advanced-fewer s r x i (words3 n0 n1 n2) (w .first .coming) later in
-          let fv = advanced-fewer t m y i (words3 n0 n1 n2) (w .second .coming) later in
-          ⊎-elim
-          (λ h. omega (arith, su, sv, fv, advanced-passes s r x i (words3 n0 n1 n2) (w .first .coming) later (h .0) (omega (arith, h .1))))
-          (λ h. omega (arith, su, sv, fu, advanced-passes t m y i (words3 n0 n1 n2) (w .second .coming) later (h .0) (omega (arith, h .1))))
-          (next .passes)
+          let fu = advanced-fewer (w .rules) s r x (suc i) (w .first) (words3 n0 n1 n2) l in
+          let fv = advanced-fewer (w .others) t m y (suc i) (w .second) (words3 n0 n1 n2) l in
+          let pu = advanced-passes (w .rules) s r x (suc i) (w .first) (words3 n0 n1 n2) l in
+          let pv = advanced-passes (w .others) t m y (suc i) (w .second) (words3 n0 n1 n2) l in
+          ⊎-elim (λ h. omega (arith, su, sv, fv, pu (h .0) (omega (arith, h .1))))
+          (λ h. omega (arith, su, sv, fu, pv (h .0) (omega (arith, h .1)))) (next .passes)

@@ -1,23 +1,15 @@
 -- The method of the rows, by places, for any bytes: nothing here is to be believed. The laws show that for bytes that the
 -- check accepts cover answers as defined. The cursor and the keys are lookup's.
-use Rattle.codec.specs.Prelude.{ℕ, zero, suc, _+_, _*_, _≤_, _<_, _≡_, Bool, true, false, Option, none, some, List}
-use Rattle.codec.specs.Prelude.{eqb, ltb, leb, length, getD}
+use Rattle.codec.specs.Prelude.{ℕ, _+_, _*_, _≤_, _<_, _≡_, true, false, Option, none, some, List, ltb, length, getD}
 use Rattle.codec.specs.Number.{beAt}
 use Rattle.codec.specs.Total.{readAt}
 use Rattle.codec.specs.Words.{words2, words3}
-use Rattle.layout.specs.declared.ReplicaKey.{ReplicaKey}
-use Rattle.layout.specs.declared.VectorIndex.{VectorIndex}
-use Rattle.layout.specs.declared.Checked.the-variants.{Accepted}
-use Rattle.layout.specs.Knowledge.{basic, Element}
-use Rattle.layout.specs.Decode.{idsAt, elementsAt}
-use Rattle.layout.specs.Parse.{checkedBy}
-use Rattle.layout.specs.MethodPlaces.{idsPlace, vectorsPlace, rangesPlace, countAt}
+use Rattle.layout.specs.Knowledge.{Element}
+use Rattle.layout.specs.MethodPlaces.{idsPlace}
 use Rattle.ticks.specs.Meaning.{tickAt}
-use Rattle.ticks.specs.MethodRows.{topTick}
-use Rattle.ticks.specs.MethodLookup.{keyOf, firstIndex}
 use Rattle.ticks.specs.Operations.{Lack, nowhere, here}
 use Rattle.lookup.specs.declared.Cursor.{Cursor}
-use Rattle.lookup.specs.Method.{keyAt, vectorFrom, startAt, advanced, elementsThere, tickOf}
+use Rattle.lookup.specs.Method.{keyAt, elementsHere}
 use Rattle.rows.specs.declared.Least.{Least}
 use Rattle.rows.specs.declared.Least.the-variants as M
 use Rattle.rows.specs.declared.Stop.{Stop}
@@ -31,14 +23,6 @@ use Rattle.rows.specs.declared.Place.the-variants as O
 pub record Keyed (s : List ℕ) (r : ℕ) (t : List ℕ) (m : ℕ) (keys : List ℕ) : Type 0 where
   pub is : (k : ℕ) → k < m → getD keys k 0 ≡ keyAt s r (beAt t 16 (idsPlace + 16 * k)) .0
   pub size : m ≤ length keys
-
--- accepted bytes of r replicas, and the cursor before any of their ranges
-pub record Starts (s : List ℕ) (r : ℕ) (c : Cursor) : Type 0 where
-  pub v : ℕ
-  pub e : ℕ
-  pub g : ℕ
-  pub accepts : checkedBy basic s ≡ Accepted r v e g
-  pub start : c ≡ startAt r v e g
 
 -- The next stop
 
@@ -60,12 +44,6 @@ nearerOf (some a) none = some a
 nearerOf (some a) (some b) = elim (ltb b a) [ true ↦ some b | false ↦ some a ]
 
 -- The row of a vector
-
-unfoldable pub elementsHere : List ℕ → ℕ → List Element
-elementsHere s at = elementsAt s (elementsThere s at) (at + 8)
-
-abbrev pub elementAt : List ℕ → ℕ → Element
-elementAt s at = record { key = record { 0 = beAt s 4 at }; tick = beAt s 8 (at + 4) }
 
 -- the cells of a row are 0
 pub record Zeros (row : List ℕ) : Type 0 where
@@ -102,46 +80,3 @@ leastId (M.Id x y) = some (words2 x y)
 unfoldable pub lackOf : Place → Lack
 lackOf O.Nowhere = nowhere
 lackOf (O.Here a b c x y) = here (words3 a b c) (words2 x y)
-
--- Range by range
-
-unfoldable pub indexThere : List ℕ → ℕ → VectorIndex
-indexThere s next = record { 0 = beAt s 4 (next + 24) }
-
--- the largest tick of n ranges from a place on, and of what was met before; the vector of an index stands at a place
-unfoldable pub topBy : List ℕ → ℕ → ℕ → ℕ → VectorIndex → ℕ → ℕ → ℕ
-topBy s r zero next index vector top = top
-topBy s r (suc n) next index vector top =
-    let at = vectorFrom s r index vector (indexThere s next) in
-    topBy s r n (next + 28) (indexThere s next) at (topTick top (elementsHere s at))
-
--- from a cursor on, 0 where the ranges are not all there
-unfoldable pub topOf : List ℕ → ℕ → Cursor → ℕ
-topOf s r c =
-    elim (leb (c .next + 28 * c .left) (length s)) [ true ↦ topBy s r (c .left) (c .next) (c .index) (c .vector) 0 | false ↦ 0 ]
-
--- the largest tick, from the sizes
-unfoldable pub largestIn : List ℕ → ℕ → ℕ → ℕ → ℕ → ℕ
-largestIn s r v e g = topOf s r (startAt r v e g)
-
--- is the tick of a key the given one in n ranges from a place on
-unfoldable pub alikeBy : List ℕ → ℕ → ReplicaKey → ℕ → ℕ → ℕ → VectorIndex → ℕ → Bool
-alikeBy s r key own zero next index vector = true
-alikeBy s r key own (suc n) next index vector =
-    let at = vectorFrom s r index vector (indexThere s next) in
-    elim (eqb (tickOf s at key) own) [ true ↦ alikeBy s r key own n (next + 28) (indexThere s next) at | false ↦ false ]
-
--- from a cursor on, and where the ranges are not all there
-unfoldable pub alikeOf : List ℕ → ℕ → ReplicaKey → ℕ → Cursor → Bool
-alikeOf s r key own c =
-    elim (leb (c .next + 28 * c .left) (length s)) [
-      | true ↦ alikeBy s r key own (c .left) (c .next) (c .index) (c .vector)
-      | false ↦ true
-    ]
-
--- is the tick of a replica alike in all ranges: the tick at item 0, from the sizes
-unfoldable pub alikeIn : List ℕ → ℕ → ℕ → ℕ → ℕ → ℕ → Bool
-alikeIn s r v e g p =
-    let key = keyAt s r p in
-    let own = tickOf s (advanced s r (startAt r v e g) 0 .vector) key in
-    alikeOf s r key own (startAt r v e g)

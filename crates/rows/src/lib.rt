@@ -1,30 +1,26 @@
-// Rows of ticks in the bytes of a knowledge: cover, the largest tick, and whether a replica's tick is alike in all ranges.
+// Rows of ticks in the bytes of a knowledge, and cover.
 //
 // Every public function is total. An item id is three words and a replica id two, the highest first. The keys of two
 // knowledges meet through their ids only.
-use layout::Checked;
 use layout::ReplicaKey;
-use layout::VectorIndex;
 use lookup::Cursor;
+use lookup::Opened;
 use ticks::Cover;
 ghost use mathlib.Core.Path.{_≡_};
 ghost use mathlib.Core.Bool.{true};
 ghost use mathlib.Core.Option.{none};
-ghost use Prim.Native.Nat.{max, _+_, _*_, _^_, _≤_, _<_};
-ghost use lib.Dec.{eqb, ltb};
+ghost use Prim.Native.Nat.{_+_, _*_, _^_, _≤_, _<_};
 ghost use lib.ListN.{length, getD};
 ghost use Rattle.codec.specs.Number.{beAt};
 ghost use Rattle.codec.specs.Words.{words2, words3};
-ghost use Rattle.layout.specs.Knowledge.{basic};
-ghost use Rattle.ticks.specs.MethodRows.{lesser, weigh, leastOf, topTick};
-ghost use Rattle.ticks.specs.Calls.{coverAnswer};
-ghost use Rattle.rows.specs.Method.{elementAt, elementsHere};
-ghost use Rattle.rows.specs.Method.{idFrom, levelOf, leastId, Blank, Filled, Keyed, stopAt, boundOf, nearerOf, lackOf};
-ghost use Rattle.lookup.specs.Method.{startAt, tickOf};
-ghost use Rattle.rows.specs.Method.{Starts, Zeros, topOf, largestIn, alikeOf, alikeIn};
-ghost use Rattle.layout.specs.Permitted.{largestReplicas};
+ghost use Rattle.layout.specs.Knowledge.{Rules, basic};
+ghost use Rattle.layout.specs.Permitted.{rulesWithin};
 ghost use Rattle.layout.specs.Decode.{decode};
+ghost use Rattle.ticks.specs.MethodRows.{lesser, weigh, leastOf};
 ghost use Rattle.ticks.specs.Operations.{lacking};
+ghost use Rattle.ticks.specs.Calls.{coverAnswer};
+ghost use Rattle.lookup.specs.Method.{elementAt, elementsHere, Opens, Open};
+ghost use Rattle.rows.specs.Method.{idFrom, levelOf, leastId, Blank, Zeros, Filled, Keyed, stopAt, boundOf, nearerOf, lackOf};
 
 // the place of the replica ids
 const IDS: usize = 27;
@@ -81,33 +77,18 @@ fn keys_of(s: &[u8], r: u32, t: &[u8], m: u32, keys: &mut [u32])
     requires { ⌜ (27 + 16 * m ≤ length (now t)) × (m ≤ length (now keys)) ⌝ }
     ensures { λ _. ⌜ Keyed (now (s .entry)) r (now (t .entry)) m (now (keys .exit)) ⌝ }
 {
-    let mut k: u32 = 0;
+    let mut key = ReplicaKey(0);
     let mut at = IDS;
-    while k < m {
-        let key = lookup::key_of(s, r, eight(t, at), eight(t, at + 8));
-        keys[k as usize] = key.0;
+    while key.0 < m {
+        let other = lookup::key_of(s, r, eight(t, at), eight(t, at + 8));
+        keys[key.0 as usize] = other.0;
         at += 16;
-        k += 1;
+        let n = key.0 + 1;
+        key = ReplicaKey(n);
     }
 }
 
 // ---- the range of an item
-
-// Is the item below the bound at a place.
-fn below(s: &[u8], at: usize, i0: u64, i1: u64, i2: u64) -> bool
-    requires { ⌜ at + 24 ≤ length (now s) ⌝ }
-    ensures { λ r. ⌜ r ≡ ltb (words3 i0 i1 i2) (beAt (now (s .entry)) 24 at) ⌝ }
-{
-    let b0 = eight(s, at);
-    if i0 != b0 {
-        return i0 < b0;
-    }
-    let b1 = eight(s, at + 8);
-    if i1 != b1 {
-        return i1 < b1;
-    }
-    i2 < eight(s, at + 16)
-}
 
 // The next bound, where it is not above the last item.
 fn bound_of(s: &[u8], c: Cursor, l0: u64, l1: u64, l2: u64) -> Stop
@@ -301,8 +282,8 @@ fn walk(
     keys: &[u32],
     row: &mut [u64],
 ) -> Place
-    requires { ⌜ (Starts (now s) r from) × (Starts (now t) m begin)
-        × (Keyed (now s) r (now t) m (now keys)) × (Zeros (now row)) × (largestReplicas ≤ length (now row))
+    requires { ⌜ (Open (now s) r from) × (Open (now t) m begin)
+        × (Keyed (now s) r (now t) m (now keys)) × (Zeros (now row)) × (r ≤ length (now row))
         × (words3 f0 f1 f2 ≤ words3 l0 l1 l2) ⌝ }
     ensures { λ a. ⌜ lackOf a ≡ lacking (decode (now (s .entry))) (decode (now (t .entry))) (words3 f0 f1 f2) (words3 l0 l1 l2) ⌝ }
 {
@@ -331,7 +312,7 @@ fn walk(
     }
 }
 
-// The same from the sizes of both.
+// The same, with scratch for the keys and the row.
 fn lacking(
     s: &[u8],
     r: u32,
@@ -339,13 +320,15 @@ fn lacking(
     t: &[u8],
     m: u32,
     begin: Cursor,
-    first: &[u8],
-    last: &[u8],
+    f0: u64,
+    f1: u64,
+    f2: u64,
+    l0: u64,
+    l1: u64,
+    l2: u64,
 ) -> Place
-    requires { ⌜ (Starts (now s) r from) × (Starts (now t) m begin)
-        × (length (now first) ≡ 24) × (length (now last) ≡ 24) × (beAt (now first) 24 0 ≤ beAt (now last) 24 0) ⌝ }
-    ensures { λ a. ⌜ lackOf a ≡ lacking (decode (now (s .entry))) (decode (now (t .entry)))
-        (beAt (now (first .entry)) 24 0) (beAt (now (last .entry)) 24 0) ⌝ }
+    requires { ⌜ (Open (now s) r from) × (Open (now t) m begin) × (words3 f0 f1 f2 ≤ words3 l0 l1 l2) ⌝ }
+    ensures { λ a. ⌜ lackOf a ≡ lacking (decode (now (s .entry))) (decode (now (t .entry))) (words3 f0 f1 f2) (words3 l0 l1 l2) ⌝ }
 {
     let mut keys = [0u32; CELLS];
     let mut row = [0u64; CELLS];
@@ -357,17 +340,18 @@ fn lacking(
         t,
         m,
         begin,
-        eight(first, 0),
-        eight(first, 8),
-        eight(first, 16),
-        eight(last, 0),
-        eight(last, 8),
-        eight(last, 16),
+        f0,
+        f1,
+        f2,
+        l0,
+        l1,
+        l2,
         &keys[..m as usize],
         &mut row,
     )
 }
 
+// Cover of two accepted knowledges, by whichever rules accept both.
 fn cover_in(
     s: &[u8],
     r: u32,
@@ -378,8 +362,9 @@ fn cover_in(
     first: &[u8],
     last: &[u8],
 ) -> Cover
-    requires { ⌜ (Starts (now s) r from) × (Starts (now t) m begin) ⌝ }
-    ensures { λ a. ⌜ a ≡ coverAnswer basic (now (s .entry)) (now (t .entry)) (now (first .entry)) (now (last .entry)) ⌝ }
+    requires { ⌜ (Open (now s) r from) × (Open (now t) m begin) ⌝ }
+    ensures { λ a. ⌜ ((R : Rules) → Opens R (now (s .entry)) r from → Opens R (now (t .entry)) m begin
+        → a ≡ coverAnswer R (now (s .entry)) (now (t .entry)) (now (first .entry)) (now (last .entry))) ⌝ }
 {
     if first.len() != 24 {
         return Cover::Refused(17);
@@ -387,12 +372,59 @@ fn cover_in(
     if last.len() != 24 {
         return Cover::Refused(17);
     }
-    if below(first, 0, eight(last, 0), eight(last, 8), eight(last, 16)) {
+    let f0 = codec::read8(first, 0);
+    let f1 = codec::read8(first, 8);
+    let f2 = codec::read8(first, 16);
+    let l0 = codec::read8(last, 0);
+    let l1 = codec::read8(last, 8);
+    let l2 = codec::read8(last, 16);
+    if codec::less3(l0, l1, l2, f0, f1, f2) {
         return Cover::Refused(17);
     }
-    match lacking(s, r, from, t, m, begin, first, last) {
+    match lacking(s, r, from, t, m, begin, f0, f1, f2, l0, l1, l2) {
         Place::Nowhere => Cover::Covers,
         Place::Here(_, _, _, _, _) => Cover::Lacks,
+    }
+}
+
+// Cover with limits of the caller's, where the first knowledge is accepted.
+fn cover_second(
+    s: &[u8],
+    r: u32,
+    from: Cursor,
+    t: &[u8],
+    first: &[u8],
+    last: &[u8],
+    replicas: u32,
+    ranges: u32,
+) -> Cover
+    requires { ⌜ Opens (rulesWithin replicas ranges) (now s) r from ⌝ }
+    ensures { λ a. ⌜ a ≡ coverAnswer (rulesWithin replicas ranges)
+        (now (s .entry)) (now (t .entry)) (now (first .entry)) (now (last .entry)) ⌝ }
+{
+    match lookup::open_within(t, replicas, ranges) {
+        Opened::At { r: m, start: begin } => cover_in(s, r, from, t, m, begin, first, last),
+        Opened::Refused(n) => Cover::Refused(n),
+    }
+}
+
+// Cover with limits of the caller's.
+fn cover_within(
+    knowledge: &[u8],
+    other: &[u8],
+    first: &[u8],
+    last: &[u8],
+    replicas: u32,
+    ranges: u32,
+) -> Cover
+    ensures { λ a. ⌜ a ≡ coverAnswer (rulesWithin replicas ranges)
+        (now (knowledge .entry)) (now (other .entry)) (now (first .entry)) (now (last .entry)) ⌝ }
+{
+    match lookup::open_within(knowledge, replicas, ranges) {
+        Opened::At { r, start } => {
+            cover_second(knowledge, r, start, other, first, last, replicas, ranges)
+        }
+        Opened::Refused(n) => Cover::Refused(n),
     }
 }
 
@@ -400,128 +432,12 @@ fn cover_in(
 pub fn cover(knowledge: &[u8], other: &[u8], first: &[u8], last: &[u8]) -> Cover
     ensures { λ a. ⌜ a ≡ coverAnswer basic (now (knowledge .entry)) (now (other .entry)) (now (first .entry)) (now (last .entry)) ⌝ }
 {
-    match reader::check(&knowledge[..]) {
-        Checked::Accepted { r, v, e, g } => match reader::check(&other[..]) {
-            Checked::Accepted {
-                r: m,
-                v: w,
-                e: d,
-                g: h,
-            } => cover_in(
-                knowledge,
-                r as u32,
-                lookup::start(r as u32, v as u32, e as u32, g as u32),
-                other,
-                m as u32,
-                lookup::start(m as u32, w as u32, d as u32, h as u32),
-                first,
-                last,
-            ),
-            Checked::Refused(n) => Cover::Refused(n),
-        },
-        Checked::Refused(n) => Cover::Refused(n),
-    }
-}
-
-// ---- range by range
-
-fn larger(a: u64, b: u64) -> u64
-    ensures { λ r. ⌜ r ≡ max a b ⌝ }
-{
-    if a < b {
-        return b;
-    }
-    a
-}
-
-// The largest tick of the elements of the vector at a place, and of what was met before.
-fn top_of(s: &[u8], vector: usize, before: u64) -> u64
-    ensures { λ t. ⌜ t ≡ topTick before (elementsHere (now (s .entry)) vector) ⌝ }
-{
-    let n = lookup::elements_at(s, vector);
-    if n == 0 {
-        return before;
-    }
-    let mut top = before;
-    let mut i: usize = 0;
-    let mut at = vector + 8;
-    while i < n {
-        top = larger(top, eight(s, at + 4));
-        at += 12;
-        i += 1;
-    }
-    top
-}
-
-// The largest tick of the ranges that a cursor has not passed.
-fn top_from(s: &[u8], r: u32, c: Cursor) -> u64
-    ensures { λ t. ⌜ t ≡ topOf (now (s .entry)) r c ⌝ }
-{
-    let mut left = c.left;
-    let mut next = c.next;
-    let mut index = c.index;
-    let mut vector = c.vector;
-    if s.len() < next {
-        return 0;
-    }
-    if s.len() - next < 28 * (left as usize) {
-        return 0;
-    }
-    let mut top: u64 = 0;
-    while 0 < left {
-        let n = four(s, next + 24) as u32;
-        let to = VectorIndex(n);
-        vector = lookup::vector_place(s, r, index, vector, to);
-        top = top_of(s, vector, top);
-        index = to;
-        next += 28;
-        left -= 1;
-    }
-    top
-}
-
-// The largest tick of a knowledge that was checked, with its sizes.
-pub fn largest_tick(s: &[u8], r: u32, v: u32, e: u32, g: u32) -> u64
-    ensures { λ t. ⌜ t ≡ largestIn (now (s .entry)) r v e g ⌝ }
-{
-    top_from(s, r, lookup::start(r, v, e, g))
-}
-
-// Is the tick of a key the given one in every range that a cursor has not passed.
-fn alike(s: &[u8], r: u32, key: ReplicaKey, own: u64, c: Cursor) -> bool
-    ensures { λ b. ⌜ b ≡ alikeOf (now (s .entry)) r key own c ⌝ }
-{
-    let mut left = c.left;
-    let mut next = c.next;
-    let mut index = c.index;
-    let mut vector = c.vector;
-    if s.len() < next {
-        return true;
-    }
-    if s.len() - next < 28 * (left as usize) {
-        return true;
-    }
-    while 0 < left {
-        let n = four(s, next + 24) as u32;
-        let to = VectorIndex(n);
-        vector = lookup::vector_place(s, r, index, vector, to);
-        if lookup::tick_at(s, vector, key) != own {
-            return false;
-        }
-        index = to;
-        next += 28;
-        left -= 1;
-    }
-    true
-}
-
-// Is the tick of the replica of two words alike in all ranges of a knowledge that was checked, with its sizes.
-pub fn own_alike(s: &[u8], r: u32, v: u32, e: u32, g: u32, p0: u64, p1: u64) -> bool
-    ensures { λ b. ⌜ b ≡ alikeIn (now (s .entry)) r v e g (words2 p0 p1) ⌝ }
-{
-    let from = lookup::start(r, v, e, g);
-    let key = lookup::key_of(s, r, p0, p1);
-    let first = lookup::advance(s, r, from, 0, 0, 0);
-    let own = lookup::tick_at(s, first.vector, key);
-    alike(s, r, key, own, from)
+    cover_within(
+        knowledge,
+        other,
+        first,
+        last,
+        layout::REPLICAS,
+        layout::RANGES,
+    )
 }

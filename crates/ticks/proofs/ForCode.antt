@@ -21,7 +21,7 @@ use Rattle.layout.specs.Parse.{checkedBy, parse}
 use Rattle.layout.proofs.Exact.{refused-exact}
 use Rattle.layout.proofs.Places.{Reading, places}
 use Rattle.ticks.specs.Meaning.{place, tickAt, indexFrom, vectorFound, vectorAt, vectorOf, known, contains}
-use Rattle.ticks.specs.MethodLookup.{keyOf, indexAt, firstIndex, tickIn}
+use Rattle.ticks.specs.MethodLookup.{indexAt, firstIndex}
 use Rattle.ticks.specs.declared.Contain.the-variants as C
 use Rattle.ticks.specs.declared.Lead.the-variants as D
 use Rattle.ticks.specs.Calls.{containFound, containAnswer, leadOf, leadAnswer, wrongIds}
@@ -198,11 +198,6 @@ module _ (R : Rules) (k : Knowledge) (l : Lawful R k) where
             known-out k i p n
             ∙ sym (tick-none (length (k .replicas)) (vectorAt k i) (place p (k .replicas)) (keys-below i) (place-out p (k .replicas) n))
       ]
-
-  pub known-key : (i p : ℕ) → known k i p ≡ tickIn k (indexAt firstIndex (k .ranges) i) (keyOf (k .replicas) p)
-  unfolding tickIn keyOf
-  known-key i p =
-      known-place i p ∙ ap (λ es. tickAt es (place p (k .replicas))) (sym (vector-indexed k i (l .first)))
 
   -- the known ticks at an item are at most f exactly where the elements there are
   pub known-at-most : (f : ℕ → ℕ) (i : ℕ)

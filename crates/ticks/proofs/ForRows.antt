@@ -12,21 +12,20 @@
 -- The largest tick and a tick alike in all ranges are found range by range: the range of a bound is its own.
 --
 -- The answers of cover are equations, one for each way that the call goes, from what the check of the bytes answered.
-use Prim.Native.Nat.{ℕ, zero, suc, _+_, _≤_, _<_, max}
+use Prim.Native.Nat.{ℕ, suc, _≤_, _<_, max}
 use mathlib.Core.Path.{_≡_, refl, sym, ap, ap₂, subst, _∙_}
-use mathlib.Core.Logic.{_↔_, inl, inr, _⊎_, ⊎-elim}
+use mathlib.Core.Logic.{inl, inr, _⊎_, ⊎-elim}
 use mathlib.Core.Bool.{Bool, true, false}
 use mathlib.Core.Option.{Option, none, some}
 use mathlib.Core.List.{List, [], _∷_}
 use native.Mathlib.Omega.{arith}
-use lib.Dec.{eqb, ltb, leb}
+use lib.Dec.{eqb, ltb}
 use lib.ListN.{length, getD}
-use borrow.Author.Tests.{lt-ltb, le-ltb, le-leb, lt-leb, eq-eqb, ne-eqb}
-use Rattle.layout.specs.declared.ReplicaKey.{ReplicaKey}
+use borrow.Author.Tests.{lt-ltb, le-ltb, le-leb, lt-leb}
 use Rattle.layout.specs.declared.VectorIndex.{VectorIndex}
-use Rattle.layout.specs.Knowledge.{Rules, Element, Range, Knowledge, All, Distinct, Rising, keys, bounds, Lawful}
+use Rattle.layout.specs.Knowledge.{Rules, Element, Range, Knowledge, All, Rising, bounds, Lawful}
 use Rattle.ticks.specs.Meaning.{known, tickAt, vectorAt, vectorOf}
-use Rattle.ticks.specs.MethodLookup.{keyOf, indexAt, firstIndex, tickIn}
+use Rattle.ticks.specs.MethodLookup.{keyOf, indexAt, firstIndex}
 use Rattle.ticks.specs.MethodRows.{lesser, weigh, leastOf, topTick, topFrom, alikeRows}
 use Rattle.ticks.specs.Operations.{Lack, nowhere, here, lacking, isNowhere, covers, largestAt, largestFrom, largest, ownAlike, alikeFrom}
 use Rattle.ticks.specs.declared.Cover.the-variants as E
@@ -44,7 +43,7 @@ use Rattle.ticks.proofs.Unique.{key-known}
 use Rattle.ticks.proofs.Written.{among-get}
 use Rattle.ticks.proofs.LawfulResults.{lawful-sound}
 use Rattle.ticks.proofs.Largest.{largest-at}
-use Rattle.ticks.proofs.ForCode.{known-key, each-in, in-all, keys-below, keys-once, known-place, known-at-most, indexAt-nil, indexAt-lt, indexAt-ge, vector-indexed, Refusing, refusing, reading}
+use Rattle.ticks.proofs.ForCode.{each-in, in-all, keys-below, keys-once, known-place, known-at-most, indexAt-nil, indexAt-lt, indexAt-ge, vector-indexed, Refusing, refusing, reading}
 
 -- The first lacking place by its description
 
@@ -426,37 +425,6 @@ module _ (R : Rules) (k : Knowledge) (l : Lawful R k) where
   pub largest-rows : largest k ≡ topFrom vectorBy 0 (k .ranges)
   unfolding largest
   largest-rows = omega (arith, top-from 0 (k .ranges) (λ x m. m))
-
--- A search that has gone on to an item
-
--- y is the index at item i, and from i on the ranges that are left say what all ranges say
-pub record Stands (k : Knowledge) (i : ℕ) (y : VectorIndex) (rest : List Range) : Type 0 where
-  pub is : (j : ℕ) → i ≤ j → indexAt firstIndex (k .ranges) j ≡ indexAt y rest j
-  pub at : indexAt y rest i ≡ y
-
--- no bound of the ranges that are left is below the stop
-pub record Clear (y : VectorIndex) (rest : List Range) (stop : ℕ) : Type 0 where
-  pub is : (j : ℕ) → j < stop → indexAt y rest j ≡ y
-
-pub clear-none : (y : VectorIndex) (stop : ℕ) → Clear y [] stop
-clear-none y stop = record { is = λ j h. indexAt-nil y j }
-
-pub clear-next : (y : VectorIndex) (x : Range) (xs : List Range) (stop : ℕ) → stop ≤ x .bound → Clear y (x ∷ xs) stop
-clear-next y x xs stop h = record { is = λ j l. indexAt-lt y x xs j (omega arith) }
-
-module _ (R : Rules) (k : Knowledge) (l : Lawful R k) (i : ℕ) (y : VectorIndex) (rest : List Range) (h : Stands k i y rest) where
-  pub stands-index : indexAt firstIndex (k .ranges) i ≡ y
-  stands-index = h .is i (omega arith) ∙ h .at
-
-  pub stands-vector : vectorAt k i ≡ vectorOf k (y .0)
-  stands-vector = sym (vector-indexed k i (l .first)) ∙ ap (λ (z : VectorIndex). vectorOf k (z .0)) stands-index
-
-  pub stands-known : (p : ℕ) → known k i p ≡ tickIn k y (keyOf (k .replicas) p)
-  stands-known p = known-key R k l i p ∙ ap (λ (z : VectorIndex). tickIn k z (keyOf (k .replicas) p)) stands-index
-
-  pub stands-still : (stop : ℕ) → Clear y rest stop → (j p : ℕ) → i ≤ j → j < stop → known k j p ≡ known k i p
-  stands-still stop c j p m n =
-      known-key R k l j p ∙ ap (λ (z : VectorIndex). tickIn k z (keyOf (k .replicas) p)) (h .is j m ∙ c .is j n) ∙ sym (stands-known p)
 
 -- The answers of cover
 

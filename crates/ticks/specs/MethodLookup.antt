@@ -1,10 +1,10 @@
--- The search for a known tick as code makes it, by key and index. There is nothing to believe here: the law `known-key` says
--- that it finds the known tick.
+-- The search for a known tick as code makes it, by key and index. There is nothing to believe here: the law `vector-indexed`
+-- says that the index is that of the item's vector, and `known-place` that the tick of the key there is the known one.
 use Rattle.codec.specs.Prelude.{ℕ, true, false, List, [], _∷_, ltb}
 use Rattle.layout.specs.declared.ReplicaKey.{ReplicaKey}
 use Rattle.layout.specs.declared.VectorIndex.{VectorIndex}
-use Rattle.layout.specs.Knowledge.{Range, Knowledge}
-use Rattle.ticks.specs.Meaning.{place, tickAt, vectorOf}
+use Rattle.layout.specs.Knowledge.{Range}
+use Rattle.ticks.specs.Meaning.{place}
 
 -- the key of a replica id: its place in the map, or the map's length where it is not there
 unfoldable pub keyOf : List ℕ → ℕ → ReplicaKey
@@ -18,7 +18,3 @@ indexAt found (x ∷ xs) i = elim (ltb i (x .bound)) [ true ↦ found | false �
 -- where the search begins: vector 0 is empty
 abbrev pub firstIndex : VectorIndex
 firstIndex = record { 0 = 0 }
-
--- the tick of a key in the vector of an index, 0 where either is missing
-unfoldable pub tickIn : Knowledge → VectorIndex → ReplicaKey → ℕ
-tickIn k y key = tickAt (vectorOf k (y .0)) (key .0)

@@ -1,38 +1,13 @@
--- `lookup::lead` meets its contract, in each of the answers of the first check.
-use native.Mathlib.Omega.{arith}
-use borrow.Author.Needs.{needs}
-use Rattle.codec.specs.Number.{Bytes}
-use Rattle.layout.specs.Knowledge.{basic}
-use Rattle.layout.proofs.Exact.{base-permitted}
-use Rattle.lookup.proofs.Calls.{opens, opens-refused, lead-refused-first}
+-- `lookup::lead` meets its contract: document 01's rules are those of its two numbers.
+use Rattle.lookup.proofs.Calls.{lead-basic}
 use Rattle.lookup.proofs.lead.Statement.{statement}
 use Rattle.lookup.proofs.lead.Tie as tie
 
-open-bytes-requires : tie.Need-open-bytes-requires
-open-bytes-requires c κs = search needs
-
-enum-known-r : tie.Need-enum-known-r
-enum-known-r c = search needs
-
-lead-second-requires : tie.Need-lead-second-requires
-lead-second-requires c κs =
-    let b : Bytes (c .before .before .before .before .before .before .before .before .args .first .now) =
-    record { below = λ i. omega (arith, c .before .before .before .before .before .before .before .shared-slice-known .given i) } in
-    opens basic base-permitted _ _ (c .before .before .before .open-bytes .ensures) b (c .before .r .given .0 .0)
-    (c .before .r .given .0 .1 .0) (c .before .r .given .1)
-
-enum-known-n : tie.Need-enum-known-n
-enum-known-n c = search needs
+lead-within-requires : tie.Need-lead-within-requires
+lead-within-requires c κs = tt
 
 returns : tie.Need-returns
-returns c = c .lead-second .ensures
-
-returns-2 : tie.Need-returns-2
-returns-2 c =
-    lead-refused-first basic _ _ _ _ _ (opens-refused basic base-permitted _ _ (c .before .before .before .open-bytes .ensures)
-    (c .before .n .given .0 .0) (c .before .n .given .1))
+returns c = lead-basic _ _ _ _ _ (c .lead-within .ensures)
 
 pub lead-spec : {M : Type 1} → statement M
-lead-spec =
-    tie.close
-    (tie.spec open-bytes-requires enum-known-r lead-second-requires enum-known-n returns returns-2)
+lead-spec = tie.close (tie.spec lead-within-requires returns)

@@ -2,15 +2,15 @@
 use mathlib.Core.Path.{_∙_}
 use mir.Facts.{toZ-ofZ}
 use mir.Syntax.{w64}
-use Rattle.lookup.proofs.Calls.{wrong, lead-ahead}
+use Rattle.lookup.proofs.Calls.{lead-item, lead-replica, lead-ahead}
 use Rattle.lookup.proofs.lead_in.Statement.{statement}
 use Rattle.lookup.proofs.lead_in.Tie as tie
 
 returns : tie.Need-returns
-returns c = search wrong
+returns c = λ R o q. lead-item R _ _ _ o _ _ _ _ _ q (c .if1 .taken)
 
 returns-2 : tie.Need-returns-2
-returns-2 c = search wrong
+returns-2 c = λ R o q. lead-replica R _ _ _ o _ _ _ _ _ q (c .if2 .taken)
 
 tick-of-requires : tie.Need-tick-of-requires
 tick-of-requires c κs = (c .before .before .before .before .before .before .pre .0, c .before .if1 .left, c .if2 .left)
@@ -27,8 +27,8 @@ ahead-requires c κs = (c .before .tick-of .ensures .small, c .tick-of2 .ensures
 
 returns-3 : tie.Need-returns-3
 returns-3 c =
-    let p = c .before .before .before .before .before .before .before .before .before .pre in
-    lead-ahead _ _ _ _ (p .0) _ _ _ _ _ (p .1) (c .before .before .before .before .if1 .left)
+    λ R o q.
+    lead-ahead R _ _ _ o _ _ _ _ _ q (c .before .before .before .before .if1 .left)
     (c .before .before .before .if2 .left) _ _ (c .before .before .tick-of .ensures) (c .before .tick-of2 .ensures) _
     (toZ-ofZ {w = w64} {z = c .ahead .result} (record { sfits = c .ahead .ok }) ∙ c .ahead .ensures)
 

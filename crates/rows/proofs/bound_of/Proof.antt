@@ -26,10 +26,18 @@ less3-requires : tie.Need-less3-requires
 less3-requires c κs = tt
 
 returns-2 : tie.Need-returns-2
-returns-2 c = bound-above _ _ _ _ _ _ _ (c .before .before .before .before .before .before .before .if1 .left) (c .before .before .before .before .before .before .eight .ensures .0) (c .before .before .before .before .eight2 .ensures .0) (c .before .before .eight3 .ensures .0) (c .before .less3 .ensures) (c .if2 .taken)
+returns-2 c =
+    let b5 = c .before .before .before .before .before in
+    bound-above _ _ _ _ _ _ _ (b5 .before .before .if1 .left) (b5 .before .eight .ensures .0)
+    (c .before .before .before .before .eight2 .ensures .0) (c .before .before .eight3 .ensures .0) (c .before .less3 .ensures)
+    (c .if2 .taken)
 
 returns-3 : tie.Need-returns-3
-returns-3 c = bound-inside _ _ _ _ _ _ _ (c .before .before .before .before .before .before .before .if1 .left) (c .before .before .before .before .before .before .eight .ensures .0) (c .before .before .before .before .eight2 .ensures .0) (c .before .before .eight3 .ensures .0) (c .before .less3 .ensures) (c .if2 .left)
+returns-3 c =
+    let b5 = c .before .before .before .before .before in
+    bound-inside _ _ _ _ _ _ _ (b5 .before .before .if1 .left) (b5 .before .eight .ensures .0)
+    (c .before .before .before .before .eight2 .ensures .0) (c .before .before .eight3 .ensures .0) (c .before .less3 .ensures)
+    (c .if2 .left)
 
 pub bound-of-spec : {M : Type 1} → statement M
 bound-of-spec =

@@ -1,32 +1,51 @@
 -- `rows::cover_in` meets its contract: 17 for the span, and else whether there is a lacking place.
-use Rattle.rows.proofs.Calls.{cover-first-length, cover-last-length, cover-above, cover-proper, cover-yes, cover-no}
+use Rattle.rows.proofs.Calls.{proper, cover-first-length, cover-last-length, cover-above, cover-yes, cover-no}
 use native.Mathlib.Omega.{arith}
 use Rattle.rows.proofs.cover_in.Statement.{statement}
 use Rattle.rows.proofs.cover_in.Tie as tie
 
 returns : tie.Need-returns
-returns c = cover-first-length _ _ _ _ _ _ _ _ (record { below = λ i. omega (arith, c .before .before .before .before .shared-slice-known .given i) }) (record { below = λ i. omega (arith, c .before .before .before .shared-slice-known2 .given i) }) (c .before .before .before .before .before .pre .0) (c .before .before .before .before .before .pre .1) (c .if1 .taken)
+returns c = λ R o q. cover-first-length R _ _ _ _ _ _ o _ _ q (c .if1 .taken)
 
 returns-2 : tie.Need-returns-2
-returns-2 c = cover-last-length _ _ _ _ _ _ _ _ (record { below = λ i. omega (arith, c .before .before .before .before .before .shared-slice-known .given i) }) (record { below = λ i. omega (arith, c .before .before .before .before .shared-slice-known2 .given i) }) (c .before .before .before .before .before .before .pre .0) (c .before .before .before .before .before .before .pre .1) (c .if2 .taken)
+returns-2 c = λ R o q. cover-last-length R _ _ _ _ _ _ o _ _ q (c .if2 .taken)
 
-eight-requires : tie.Need-eight-requires
-eight-requires c κs = omega arith
+read8-requires : tie.Need-read8-requires
+read8-requires c κs = tt
 
-eight-requires-2 : tie.Need-eight-requires-2
-eight-requires-2 c κs = omega arith
+read8-requires-2 : tie.Need-read8-requires-2
+read8-requires-2 c κs = tt
 
-eight-requires-3 : tie.Need-eight-requires-3
-eight-requires-3 c κs = omega arith
+read8-requires-3 : tie.Need-read8-requires-3
+read8-requires-3 c κs = tt
 
-below-requires : tie.Need-below-requires
-below-requires c κs = omega arith
+read8-requires-4 : tie.Need-read8-requires-4
+read8-requires-4 c κs = tt
+
+read8-requires-5 : tie.Need-read8-requires-5
+read8-requires-5 c κs = tt
+
+read8-requires-6 : tie.Need-read8-requires-6
+read8-requires-6 c κs = tt
+
+less3-requires : tie.Need-less3-requires
+less3-requires c κs = tt
 
 returns-3 : tie.Need-returns-3
-returns-3 c = cover-above _ _ _ _ _ _ _ _ (record { below = λ i. omega (arith, c .before .before .before .before .before .before .before .before .before .before .shared-slice-known .given i) }) (record { below = λ i. omega (arith, c .before .before .before .before .before .before .before .before .before .shared-slice-known2 .given i) }) (c .before .before .before .before .before .before .before .before .before .before .before .pre .0) (c .before .before .before .before .before .before .before .before .before .before .before .pre .1) _ _ _ (c .before .before .before .before .eight .ensures .0) (c .before .before .before .eight2 .ensures .0) (c .before .before .eight3 .ensures .0) _ (c .before .below .ensures) (c .if3 .taken)
+returns-3 c =
+    λ R o q.
+    let l = c .before .before in
+    let f = l .before .before .before in
+    cover-above R _ _ _ _ _ _ o _ _ q (f .before .before .before .before .if1 .left) (f .before .before .before .if2 .left)
+    _ _ _ _ _ _
+    (record { high = f .before .before .read8 .ensures .0; middle = f .before .read82 .ensures .0; low = f .read83 .ensures .0 })
+    (record { high = l .before .before .read84 .ensures .0; middle = l .before .read85 .ensures .0; low = l .read86 .ensures .0 })
+    _ (c .before .less3 .ensures) (c .if3 .taken)
 
 lacking-requires : tie.Need-lacking-requires
-lacking-requires c κs = (c .before .before .before .before .before .before .before .before .before .before .before .pre .0, c .before .before .before .before .before .before .before .before .before .before .before .pre .1, c .before .before .before .before .before .before .if1 .left, c .before .before .before .before .before .if2 .left, cover-proper _ _ _ _ _ _ _ _ (record { below = λ i. omega (arith, c .before .before .before .before .before .before .before .before .before .before .shared-slice-known .given i) }) (record { below = λ i. omega (arith, c .before .before .before .before .before .before .before .before .before .shared-slice-known2 .given i) }) (c .before .before .before .before .before .before .before .before .before .before .before .pre .0) (c .before .before .before .before .before .before .before .before .before .before .before .pre .1) _ _ _ (c .before .before .before .before .eight .ensures .0) (c .before .before .before .eight2 .ensures .0) (c .before .before .eight3 .ensures .0) _ (c .before .below .ensures) (c .if3 .left))
+lacking-requires c κs =
+    let p = c .before .before .before .before .before .before .before .before .before .before .before .before .before .before .pre in
+    (p .0, p .1, proper _ _ _ _ _ _ _ (c .before .less3 .ensures) (c .if3 .left))
 
 enum-told : tie.Need-enum-told
 enum-told c = omega arith
@@ -35,10 +54,28 @@ enum-told-2 : tie.Need-enum-told-2
 enum-told-2 c = omega arith
 
 returns-4 : tie.Need-returns-4
-returns-4 c = cover-yes _ _ _ _ _ _ _ _ (record { below = λ i. omega (arith, c .before .before .before .before .before .before .before .before .before .before .before .before .before .shared-slice-known .given i) }) (record { below = λ i. omega (arith, c .before .before .before .before .before .before .before .before .before .before .before .before .shared-slice-known2 .given i) }) (c .before .before .before .before .before .before .before .before .before .before .before .before .before .before .pre .0) (c .before .before .before .before .before .before .before .before .before .before .before .before .before .before .pre .1) (c .before .before .before .before .before .before .before .before .before .if1 .left) (c .before .before .before .before .before .before .before .before .if2 .left) (cover-proper _ _ _ _ _ _ _ _ (record { below = λ i. omega (arith, c .before .before .before .before .before .before .before .before .before .before .before .before .before .shared-slice-known .given i) }) (record { below = λ i. omega (arith, c .before .before .before .before .before .before .before .before .before .before .before .before .shared-slice-known2 .given i) }) (c .before .before .before .before .before .before .before .before .before .before .before .before .before .before .pre .0) (c .before .before .before .before .before .before .before .before .before .before .before .before .before .before .pre .1) _ _ _ (c .before .before .before .before .before .before .before .eight .ensures .0) (c .before .before .before .before .before .before .eight2 .ensures .0) (c .before .before .before .before .before .eight3 .ensures .0) _ (c .before .before .before .before .below .ensures) (c .before .before .before .if3 .left)) _ (c .before .before .lacking .ensures) (c .enum-told .given .1)
+returns-4 c =
+    λ R o q.
+    let l = c .before .before .before .before .before in
+    let f = l .before .before .before in
+    cover-yes R _ _ _ _ _ _ o _ _ q (f .before .before .before .before .if1 .left) (f .before .before .before .if2 .left)
+    _ _ _ _ _ _
+    (record { high = f .before .before .read8 .ensures .0; middle = f .before .read82 .ensures .0; low = f .read83 .ensures .0 })
+    (record { high = l .before .before .read84 .ensures .0; middle = l .before .read85 .ensures .0; low = l .read86 .ensures .0 })
+    _ (c .before .before .before .before .less3 .ensures) (c .before .before .before .if3 .left) _
+    (c .before .before .lacking .ensures) (c .enum-told .given .1)
 
 returns-5 : tie.Need-returns-5
-returns-5 c = cover-no _ _ _ _ _ _ _ _ (record { below = λ i. omega (arith, c .before .before .before .before .before .before .before .before .before .before .before .before .before .shared-slice-known .given i) }) (record { below = λ i. omega (arith, c .before .before .before .before .before .before .before .before .before .before .before .before .shared-slice-known2 .given i) }) (c .before .before .before .before .before .before .before .before .before .before .before .before .before .before .pre .0) (c .before .before .before .before .before .before .before .before .before .before .before .before .before .before .pre .1) (c .before .before .before .before .before .before .before .before .before .if1 .left) (c .before .before .before .before .before .before .before .before .if2 .left) (cover-proper _ _ _ _ _ _ _ _ (record { below = λ i. omega (arith, c .before .before .before .before .before .before .before .before .before .before .before .before .before .shared-slice-known .given i) }) (record { below = λ i. omega (arith, c .before .before .before .before .before .before .before .before .before .before .before .before .shared-slice-known2 .given i) }) (c .before .before .before .before .before .before .before .before .before .before .before .before .before .before .pre .0) (c .before .before .before .before .before .before .before .before .before .before .before .before .before .before .pre .1) _ _ _ (c .before .before .before .before .before .before .before .eight .ensures .0) (c .before .before .before .before .before .before .eight2 .ensures .0) (c .before .before .before .before .before .eight3 .ensures .0) _ (c .before .before .before .before .below .ensures) (c .before .before .before .if3 .left)) _ (c .before .before .lacking .ensures) _ _ _ _ _ (c .enum-told2 .given .1)
+returns-5 c =
+    λ R o q.
+    let l = c .before .before .before .before .before in
+    let f = l .before .before .before in
+    cover-no R _ _ _ _ _ _ o _ _ q (f .before .before .before .before .if1 .left) (f .before .before .before .if2 .left)
+    _ _ _ _ _ _
+    (record { high = f .before .before .read8 .ensures .0; middle = f .before .read82 .ensures .0; low = f .read83 .ensures .0 })
+    (record { high = l .before .before .read84 .ensures .0; middle = l .before .read85 .ensures .0; low = l .read86 .ensures .0 })
+    _ (c .before .before .before .before .less3 .ensures) (c .before .before .before .if3 .left) _
+    (c .before .before .lacking .ensures) _ _ _ _ _ (c .enum-told2 .given .1)
 
 pub cover-in-spec : {M : Type 1} → statement M
 cover-in-spec =
@@ -46,10 +83,13 @@ cover-in-spec =
     (tie.spec
     returns
     returns-2
-    eight-requires
-    eight-requires-2
-    eight-requires-3
-    below-requires
+    read8-requires
+    read8-requires-2
+    read8-requires-3
+    read8-requires-4
+    read8-requires-5
+    read8-requires-6
+    less3-requires
     returns-3
     lacking-requires
     enum-told

@@ -13,7 +13,8 @@ use Rattle.rows.proofs.fill.Tie as tie
 
 abbrev Inv-loop : tie.InvT-loop
 Inv-loop s before vector row₀ n left₀ at₀ row left at =
-    RowOf (elementsAt s (n - left) at) row × (at ≡ vector + 8 + 12 * left) × (left ≤ n) × (length row ≡ length row₀) × (vector + 8 + 12 * n ≤ length s) × There s vector n
+    RowOf (elementsAt s (n - left) at) row × (at ≡ vector + 8 + 12 * left) × (left ≤ n) × (length row ≡ length row₀)
+    × (vector + 8 + 12 * n ≤ length s) × There s vector n
 
 abbrev μ-loop : tie.MeasureT-loop
 μ-loop s before vector row₀ n left₀ at₀ row left at = left
@@ -43,7 +44,14 @@ add-at-2 : tie.Need-add-at-2 Inv-loop μ-loop
 add-at-2 c = omega (arith, c .before .elements-at .ensures .room (omega arith))
 
 loop-holds : tie.Need-loop-holds Inv-loop μ-loop
-loop-holds c = (row-begins _ _ _ _ _ (c .before .before .before .before .clear .ensures), omega arith, omega arith, refl, c .before .elements-at .ensures .room (omega arith), c .before .elements-at .ensures)
+loop-holds c = (
+  row-begins _ _ _ _ _ (c .before .before .before .before .clear .ensures),
+  omega arith,
+  omega arith,
+  refl,
+  c .before .elements-at .ensures .room (omega arith),
+  c .before .elements-at .ensures,
+)
 
 sub-at : tie.Need-sub-at Inv-loop μ-loop
 sub-at c = omega arith
@@ -76,10 +84,14 @@ loop-again c =
     let n = c .before .before .before .before .before .elements-at .result in
     let f = c .before .four .ensures .0 in
     let after = c .if3 .row in
-    let w : Put s n (l .left) (l .at) (l .at - 12) (l .row) (c .before .four .result) (l .inv .0) (omega arith) (omega arith) (omega arith) f after =
-    ⊎-elim
-    (λ x. put-set s n (l .left) (l .at) (l .at - 12) (l .row) (c .before .four .result) (l .inv .0) (omega arith) (omega arith) (omega arith) f after (x .1 .result) (x .1 .ensures .0) (x .0 .taken) (x .2))
-    (λ x. put-skip s n (l .left) (l .at) (l .at - 12) (l .row) (c .before .four .result) (l .inv .0) (omega arith) (omega arith) (omega arith) f after (x .0 .left) (x .1)) (c .if3 .came) in
+    let w : Put s n (l .left) (l .at - 12) (l .row) after =
+    ⊎-elim {C = Put s n (l .left) (l .at - 12) (l .row) after}
+    (λ x.
+    put-set s n (l .left) (l .at) (l .at - 12) (l .row) (c .before .four .result) (l .inv .0) (omega arith) (omega arith)
+    (omega arith) f after (x .1 .result) (x .1 .ensures .0) (x .0 .taken) (x .2))
+    (λ x.
+    put-skip s n (l .left) (l .at) (l .at - 12) (l .row) (c .before .four .result) (l .inv .0) (omega arith) (omega arith)
+    (omega arith) f after (x .0 .left) (x .1)) (c .if3 .came) in
     (w .cells, omega arith, omega arith, omega (arith, w .size), omega arith, l .inv .5)
 
 same-length-2 : tie.Need-same-length-2 Inv-loop μ-loop

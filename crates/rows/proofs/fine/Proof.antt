@@ -6,7 +6,8 @@ use mathlib.Core.Option.{none}
 use lib.ListN.{length}
 use Rattle.layout.specs.Decode.{elementsAt}
 use Rattle.ticks.specs.MethodRows.{leastOf}
-use Rattle.rows.specs.Method.{elementsHere, idFrom, levelOf}
+use Rattle.lookup.specs.Method.{elementsHere}
+use Rattle.rows.specs.Method.{idFrom, levelOf}
 use Rattle.rows.proofs.Cells.{fine-none, fine-begins, fine-next, fine-all}
 use native.Mathlib.Omega.{arith}
 use Rattle.rows.proofs.fine.Statement.{statement}
@@ -14,7 +15,8 @@ use Rattle.rows.proofs.fine.Tie as tie
 
 abbrev Inv-loop : tie.InvT-loop
 Inv-loop t vector keys row n i₀ at₀ i at =
-    (leastOf (levelOf keys row) (idFrom t) none (elementsHere t vector) ≡ leastOf (levelOf keys row) (idFrom t) none (elementsAt t (n - i) at)) × (i ≤ n) × (at + 12 * (n - i) ≤ length t)
+    (leastOf (levelOf keys row) (idFrom t) none (elementsHere t vector)
+    ≡ leastOf (levelOf keys row) (idFrom t) none (elementsAt t (n - i) at)) × (i ≤ n) × (at + 12 * (n - i) ≤ length t)
 
 abbrev μ-loop : tie.MeasureT-loop
 μ-loop t vector keys row n i₀ at₀ i at = n - i
@@ -29,7 +31,11 @@ add-at : tie.Need-add-at Inv-loop μ-loop
 add-at c = omega (arith, c .before .elements-at .ensures .room (omega arith))
 
 loop-holds : tie.Need-loop-holds Inv-loop μ-loop
-loop-holds c = (fine-begins _ _ _ _ _ _ (c .before .elements-at .ensures), omega arith, omega (arith, c .before .elements-at .ensures .room (omega arith)))
+loop-holds c = (
+  fine-begins _ _ _ _ _ _ (c .before .elements-at .ensures),
+  omega arith,
+  omega (arith, c .before .elements-at .ensures .room (omega arith)),
+)
 
 four-requires : tie.Need-four-requires Inv-loop μ-loop
 four-requires c κs = omega arith
@@ -59,7 +65,13 @@ loop-less : tie.Need-loop-less Inv-loop μ-loop
 loop-less c = omega arith
 
 loop-again : tie.Need-loop-again Inv-loop μ-loop
-loop-again c = (fine-next _ _ _ _ _ _ _ _ (c .before .before .before .before .before .loop .inv .0) _ _ _ (c .before .before .before .four .ensures .0) (c .before .eight .ensures .0) (c .before .before .level .ensures) (c .if2 .left) (c .before .before .before .before .loop-test .taken), omega arith, omega arith)
+loop-again c = (
+  fine-next _ _ _ _ _ _ _ _ (c .before .before .before .before .before .loop .inv .0) _ _ _
+      (c .before .before .before .four .ensures .0) (c .before .eight .ensures .0) (c .before .before .level .ensures) (c .if2 .left)
+      (c .before .before .before .before .loop-test .taken),
+  omega arith,
+  omega arith,
+)
 
 returns-3 : tie.Need-returns-3 Inv-loop μ-loop
 returns-3 c = λ e. fine-all _ _ _ _ _ _ _ _ (c .before .loop .inv .0) (omega arith)

@@ -10,11 +10,12 @@ use Rattle.rows.proofs.keys_of.Statement.{statement}
 use Rattle.rows.proofs.keys_of.Tie as tie
 
 abbrev Inv-loop : tie.InvT-loop
-Inv-loop s r t m keys₀ k₀ at₀ keys k at =
-    Keyed s r t k keys × (at ≡ idsPlace + 16 * k) × (k ≤ m) × (length keys ≡ length keys₀) × (idsPlace + 16 * m ≤ length t) × (m ≤ length keys₀)
+Inv-loop s r t m keys₀ key₀ at₀ keys key at =
+    Keyed s r t (key .0) keys × (at ≡ idsPlace + 16 * key .0) × (key .0 ≤ m) × (length keys ≡ length keys₀)
+    × (idsPlace + 16 * m ≤ length t) × (m ≤ length keys₀)
 
 abbrev μ-loop : tie.MeasureT-loop
-μ-loop s r t m keys₀ k₀ at₀ keys k at = m - k
+μ-loop s r t m keys₀ key₀ at₀ keys key at = m - key .0
 
 loop-holds : tie.Need-loop-holds Inv-loop μ-loop
 loop-holds c = (keyed-none _ _ _ _, omega arith, omega arith, refl, omega arith, omega arith)
@@ -43,20 +44,32 @@ slice-write-keys c = omega arith
 add-at : tie.Need-add-at Inv-loop μ-loop
 add-at c = omega arith
 
-add-k : tie.Need-add-k Inv-loop μ-loop
-add-k c = omega arith
+add-n : tie.Need-add-n Inv-loop μ-loop
+add-n c = omega arith
 
 loop-less : tie.Need-loop-less Inv-loop μ-loop
 loop-less c = omega arith
 
 loop-again : tie.Need-loop-again Inv-loop μ-loop
-loop-again c = (keyed-more _ _ _ _ _ _ _ _ _ (c .before .before .before .before .loop .inv .0) (omega arith) (c .before .before .before .before .loop .inv .1) (c .before .before .eight .ensures .0) (c .before .eight2 .ensures .0) (c .key-of .ensures), omega arith, omega arith, simp length-set (omega arith), omega arith, omega arith)
+loop-again c = (
+  keyed-more _ _ _ _ _ _ _ _ _ (c .before .before .before .before .before .before .before .loop .inv .0) (omega arith)
+      (c .before .before .before .before .before .before .before .loop .inv .1)
+      (c .before .before .before .before .eight .ensures .0) (c .before .before .before .eight2 .ensures .0)
+      (c .before .before .key-of .ensures),
+  omega arith,
+  omega arith,
+  simp length-set (omega arith),
+  omega arith,
+  omega arith,
+)
 
 same-length : tie.Need-same-length Inv-loop μ-loop
 same-length c = omega arith
 
 returns : tie.Need-returns Inv-loop μ-loop
-returns c = let e : c .before .loop .k ≡ c .before .before .before .before .before .args .m = omega arith in rw (← e) (c .before .loop .inv .0)
+returns c =
+    let e : c .before .before .loop .key .0 ≡ c .before .before .before .before .before .before .args .m = omega arith in
+    rw (← e) (c .before .before .loop .inv .0)
 
 pub keys-of-spec : {M : Type 1} → statement M
 keys-of-spec =
@@ -73,7 +86,7 @@ keys-of-spec =
     mul-keys
     slice-write-keys
     add-at
-    add-k
+    add-n
     loop-less
     loop-again
     same-length

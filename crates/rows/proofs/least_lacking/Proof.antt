@@ -6,7 +6,8 @@ use mathlib.Core.Option.{none}
 use lib.ListN.{length}
 use Rattle.layout.specs.Decode.{elementsAt}
 use Rattle.ticks.specs.MethodRows.{leastOf}
-use Rattle.rows.specs.Method.{elementsHere, idFrom, levelOf, leastId}
+use Rattle.lookup.specs.Method.{elementsHere}
+use Rattle.rows.specs.Method.{idFrom, levelOf, leastId}
 use Rattle.rows.proofs.Cells.{least-fine, least-nothing, least-begins, least-next, least-end}
 use native.Mathlib.Omega.{arith}
 use Rattle.rows.proofs.least_lacking.Statement.{statement}
@@ -14,7 +15,8 @@ use Rattle.rows.proofs.least_lacking.Tie as tie
 
 abbrev Inv-loop : tie.InvT-loop
 Inv-loop t vector keys row best₀ n i₀ at₀ best i at =
-    (leastOf (levelOf keys row) (idFrom t) none (elementsHere t vector) ≡ leastOf (levelOf keys row) (idFrom t) (leastId best) (elementsAt t (n - i) at)) × (i ≤ n) × (at + 12 * (n - i) ≤ length t)
+    (leastOf (levelOf keys row) (idFrom t) none (elementsHere t vector)
+    ≡ leastOf (levelOf keys row) (idFrom t) (leastId best) (elementsAt t (n - i) at)) × (i ≤ n) × (at + 12 * (n - i) ≤ length t)
 
 abbrev μ-loop : tie.MeasureT-loop
 μ-loop t vector keys row best₀ n i₀ at₀ best i at = n - i
@@ -35,7 +37,11 @@ add-at : tie.Need-add-at Inv-loop μ-loop
 add-at c = omega (arith, c .before .elements-at .ensures .room (omega arith))
 
 loop-holds : tie.Need-loop-holds Inv-loop μ-loop
-loop-holds c = (least-begins _ _ _ _ _ (c .before .elements-at .ensures), omega arith, omega (arith, c .before .elements-at .ensures .room (omega arith)))
+loop-holds c = (
+  least-begins _ _ _ _ _ (c .before .elements-at .ensures),
+  omega arith,
+  omega (arith, c .before .elements-at .ensures .room (omega arith)),
+)
 
 weighed-requires : tie.Need-weighed-requires Inv-loop μ-loop
 weighed-requires c κs = omega arith
@@ -50,7 +56,11 @@ loop-less : tie.Need-loop-less Inv-loop μ-loop
 loop-less c = omega arith
 
 loop-again : tie.Need-loop-again Inv-loop μ-loop
-loop-again c = (least-next _ _ _ _ _ _ _ _ (c .before .before .loop .inv .0) _ (c .weighed .ensures) (c .before .loop-test .taken), omega arith, omega arith)
+loop-again c = (
+  least-next _ _ _ _ _ _ _ _ (c .before .before .loop .inv .0) _ (c .weighed .ensures) (c .before .loop-test .taken),
+  omega arith,
+  omega arith,
+)
 
 returns-3 : tie.Need-returns-3 Inv-loop μ-loop
 returns-3 c = least-end _ _ _ _ _ _ _ _ (c .before .loop .inv .0) (omega arith)

@@ -26,10 +26,16 @@ less3-requires : tie.Need-less3-requires
 less3-requires c κs = tt
 
 returns-3 : tie.Need-returns-3
-returns-3 c = nearer-less _ _ _ _ _ (c .before .before .before .before .before .before .a .given .1) _ _ _ (c .before .before .before .b .given .1) _ (c .before .less3 .ensures) (c .if1 .taken)
+returns-3 c =
+    let b5 = c .before .before .before .before .before in
+    nearer-less _ _ _ _ _ (b5 .before .a .given .1) _ _ _ (c .before .before .before .b .given .1) _ (c .before .less3 .ensures)
+    (c .if1 .taken)
 
 returns-4 : tie.Need-returns-4
-returns-4 c = nearer-not _ _ _ _ _ (c .before .before .before .before .before .before .a .given .1) _ _ _ (c .before .before .before .b .given .1) _ (c .before .less3 .ensures) (c .if1 .left)
+returns-4 c =
+    let b5 = c .before .before .before .before .before in
+    nearer-not _ _ _ _ _ (b5 .before .a .given .1) _ _ _ (c .before .before .before .b .given .1) _ (c .before .less3 .ensures)
+    (c .if1 .left)
 
 pub nearer-spec : {M : Type 1} → statement M
 nearer-spec =

@@ -26,7 +26,12 @@ fill-requires : tie.Need-fill-requires Inv-loop μ-loop
 fill-requires c κs = tt
 
 loop-holds : tie.Need-loop-holds Inv-loop μ-loop
-loop-holds c = (walk-starts _ _ _ _ _ _ _ _ _ _ _ _ _ (record { below = λ i. omega (arith, c .before .before .before .before .before .before .before .before .before .shared-slice-known .given i) }) (record { below = λ i. omega (arith, c .before .before .before .before .before .before .before .before .shared-slice-known2 .given i) }) (c .before .before .before .before .before .before .before .before .before .before .pre .0) (c .before .before .before .before .before .before .before .before .before .before .pre .1) (c .before .before .before .before .before .before .before .before .before .before .pre .2) (c .before .before .before .before .before .before .before .before .before .before .pre .3) (c .before .before .before .before .before .before .before .before .before .before .pre .4) (c .before .before .before .before .before .before .before .before .before .before .pre .5) (c .before .before .before .before .before .advance .ensures) (c .before .before .before .before .advance2 .ensures) (c .before .before .fill .ensures), refl)
+loop-holds c =
+    let p = c .before .before .before .before .before .before .before .before .before .before .pre in (
+      walk-starts _ _ _ _ _ _ _ _ _ _ _ _ _ (p .0) (p .1) (p .2) (p .3) (p .4) (p .5) (c .before .before .before .before .before .advance .ensures)
+          (c .before .before .before .before .advance2 .ensures) (c .before .before .fill .ensures),
+      refl,
+    )
 
 least-lacking-requires : tie.Need-least-lacking-requires Inv-loop μ-loop
 least-lacking-requires c κs = tt
@@ -35,19 +40,23 @@ enum-known-least : tie.Need-enum-known-least Inv-loop μ-loop
 enum-known-least c = omega arith
 
 same-length : tie.Need-same-length Inv-loop μ-loop
-same-length c = omega (arith, c .before .before .before .before .before .loop .inv .1, c .before .before .before .before .before .before .before .before .fill .ensures .size)
+same-length c =
+    let b5 = c .before .before .before .before .before in
+    omega (arith, b5 .loop .inv .1, b5 .before .before .before .fill .ensures .size)
 
 returns : tie.Need-returns Inv-loop μ-loop
-returns c = walk-here _ _ _ _ _ _ _ _ _ _ _ (c .before .before .before .before .before .loop .inv .0) _ (c .before .before .before .least-lacking .ensures) _ _ _ _ _ refl (c .before .least .given .1)
+returns c =
+    walk-here _ _ _ _ _ _ _ _ _ _ _ (c .before .before .before .before .before .loop .inv .0) _
+    (c .before .before .before .least-lacking .ensures) _ _ _ _ _ refl (c .before .least .given .1)
 
 enum-told : tie.Need-enum-told Inv-loop μ-loop
 enum-told c = omega arith
 
 bound-of-requires : tie.Need-bound-of-requires Inv-loop μ-loop
-bound-of-requires c κs = c .before .before .before .before .loop .inv .0 .first .coming .room
+bound-of-requires c κs = c .before .before .before .before .loop .inv .0 .first .room
 
 bound-of-requires-2 : tie.Need-bound-of-requires-2 Inv-loop μ-loop
-bound-of-requires-2 c κs = c .before .before .before .before .before .loop .inv .0 .second .coming .room
+bound-of-requires-2 c κs = c .before .before .before .before .before .loop .inv .0 .second .room
 
 nearer-requires : tie.Need-nearer-requires Inv-loop μ-loop
 nearer-requires c κs = tt
@@ -59,10 +68,18 @@ enum-told-2 : tie.Need-enum-told-2 Inv-loop μ-loop
 enum-told-2 c = omega arith
 
 same-length-2 : tie.Need-same-length-2 Inv-loop μ-loop
-same-length-2 c = omega (arith, c .before .before .before .before .before .before .before .before .before .loop .inv .1, c .before .before .before .before .before .before .before .before .before .before .before .before .fill .ensures .size)
+same-length-2 c =
+    let b5 = c .before .before .before .before .before in
+    let b10 = b5 .before .before .before .before .before in
+    omega (arith, b5 .before .before .before .before .loop .inv .1, b10 .before .before .fill .ensures .size)
 
 returns-2 : tie.Need-returns-2 Inv-loop μ-loop
-returns-2 c = walk-past _ _ _ _ _ _ _ _ _ _ _ (c .before .before .before .before .before .before .before .before .before .loop .inv .0) _ (c .before .before .before .before .before .before .before .least-lacking .ensures) (c .before .before .before .before .before .enum-told .given .1) _ _ _ (c .before .before .before .before .bound-of .ensures) (c .before .before .before .bound-of2 .ensures) (c .before .before .nearer .ensures) (c .enum-told2 .given .1)
+returns-2 c =
+    let b5 = c .before .before .before .before .before in
+    walk-past _ _ _ _ _ _ _ _ _ _ _ (b5 .before .before .before .before .loop .inv .0) _
+    (b5 .before .before .least-lacking .ensures) (b5 .enum-told .given .1) _ _ _
+    (c .before .before .before .before .bound-of .ensures) (c .before .before .before .bound-of2 .ensures)
+    (c .before .before .nearer .ensures) (c .enum-told2 .given .1)
 
 advance-requires-3 : tie.Need-advance-requires-3 Inv-loop μ-loop
 advance-requires-3 c κs = tt
@@ -74,10 +91,26 @@ fill-requires-2 : tie.Need-fill-requires-2 Inv-loop μ-loop
 fill-requires-2 c κs = tt
 
 loop-less : tie.Need-loop-less Inv-loop μ-loop
-loop-less c = walk-less _ _ _ _ _ _ _ _ _ _ _ (c .before .before .before .before .before .before .before .before .before .before .before .before .before .before .before .before .loop .inv .0) _ (c .before .before .before .before .before .before .before .before .before .before .before .before .before .before .least-lacking .ensures) (c .before .before .before .before .before .before .before .before .before .before .before .before .enum-told .given .1) _ _ _ (c .before .before .before .before .before .before .before .before .before .before .before .bound-of .ensures) (c .before .before .before .before .before .before .before .before .before .before .bound-of2 .ensures) (c .before .before .before .before .before .before .before .before .before .nearer .ensures) _ _ _ (c .before .before .before .before .before .before .before .stop .given .1) _ _ (c .before .before .before .before .before .advance3 .ensures) (c .before .before .before .before .advance4 .ensures)
+loop-less c =
+    let b5 = c .before .before .before .before .before in
+    let b10 = b5 .before .before .before .before .before in
+    let b15 = b10 .before .before .before .before .before in
+    walk-less _ _ _ _ _ _ _ _ _ _ _ (b15 .before .loop .inv .0) _ (b10 .before .before .before .before .least-lacking .ensures)
+    (b10 .before .before .enum-told .given .1) _ _ _ (b10 .before .bound-of .ensures) (b10 .bound-of2 .ensures)
+    (b5 .before .before .before .before .nearer .ensures) _ _ _ (b5 .before .before .stop .given .1) _ _ (b5 .advance3 .ensures)
+    (c .before .before .before .before .advance4 .ensures)
 
 loop-again : tie.Need-loop-again Inv-loop μ-loop
-loop-again c = (walk-on _ _ _ _ _ _ _ _ _ _ _ (c .before .before .before .before .before .before .before .before .before .before .before .before .before .before .before .before .loop .inv .0) _ (c .before .before .before .before .before .before .before .before .before .before .before .before .before .before .least-lacking .ensures) (c .before .before .before .before .before .before .before .before .before .before .before .before .enum-told .given .1) _ _ _ (c .before .before .before .before .before .before .before .before .before .before .before .bound-of .ensures) (c .before .before .before .before .before .before .before .before .before .before .bound-of2 .ensures) (c .before .before .before .before .before .before .before .before .before .nearer .ensures) _ _ _ (c .before .before .before .before .before .before .before .stop .given .1) _ _ (c .before .before .before .before .before .advance3 .ensures) (c .before .before .before .before .advance4 .ensures) _ (c .before .before .fill2 .ensures), omega (arith, c .before .before .before .before .before .before .before .before .before .before .before .before .before .before .before .before .loop .inv .1, c .before .before .fill2 .ensures .size))
+loop-again c =
+    let b5 = c .before .before .before .before .before in
+    let b10 = b5 .before .before .before .before .before in
+    let b15 = b10 .before .before .before .before .before in (
+      walk-on _ _ _ _ _ _ _ _ _ _ _ (b15 .before .loop .inv .0) _ (b10 .before .before .before .before .least-lacking .ensures)
+          (b10 .before .before .enum-told .given .1) _ _ _ (b10 .before .bound-of .ensures) (b10 .bound-of2 .ensures)
+          (b5 .before .before .before .before .nearer .ensures) _ _ _ (b5 .before .before .stop .given .1) _ _ (b5 .advance3 .ensures)
+          (c .before .before .before .before .advance4 .ensures) _ (c .before .before .fill2 .ensures),
+      omega (arith, b15 .before .loop .inv .1, c .before .before .fill2 .ensures .size),
+    )
 
 pub walk-spec : {M : Type 1} → statement M
 walk-spec =

@@ -20,7 +20,9 @@ level-requires : tie.Need-level-requires
 level-requires c κs = tt
 
 returns : tie.Need-returns
-returns c = weighed-fine _ _ _ _ _ _ _ _ (c .before .before .before .four .ensures .0) (c .before .before .eight .ensures .0) (c .before .level .ensures) (c .if1 .taken)
+returns c =
+    weighed-fine _ _ _ _ _ _ _ _ (c .before .before .before .four .ensures .0) (c .before .before .eight .ensures .0)
+    (c .before .level .ensures) (c .if1 .taken)
 
 cast-place : tie.Need-cast-place
 cast-place c = omega arith
@@ -44,7 +46,11 @@ lesser-requires : tie.Need-lesser-requires
 lesser-requires c κs = tt
 
 returns-2 : tie.Need-returns-2
-returns-2 c = weighed-lacks _ _ _ _ _ _ _ _ (c .before .before .before .before .before .before .four .ensures .0) (c .before .before .before .before .before .eight .ensures .0) (c .before .before .before .before .level .ensures) (c .before .before .before .if1 .left) _ _ (c .before .before .read8 .ensures .0) (c .before .read82 .ensures .0) _ (c .lesser .ensures)
+returns-2 c =
+    let b5 = c .before .before .before .before .before in
+    weighed-lacks _ _ _ _ _ _ _ _ (b5 .before .four .ensures .0) (b5 .eight .ensures .0)
+    (c .before .before .before .before .level .ensures) (c .before .before .before .if1 .left) _ _
+    (c .before .before .read8 .ensures .0) (c .before .read82 .ensures .0) _ (c .lesser .ensures)
 
 pub weighed-spec : {M : Type 1} → statement M
 weighed-spec =

@@ -2,44 +2,43 @@
 -- that the check accepts they are the defined ones (`largest-in`, `alike-in`): the vector's place is kept from range to
 -- range, so the elements are those of the range's vector.
 use Prim.Native.Nat.{ℕ, zero, suc, _+_, _-_, _*_, _≤_, _<_, max}
-use mathlib.Core.Path.{_≡_, refl, sym, ap, ap₂, _∙_, subst}
+use mathlib.Core.Path.{_≡_, refl, sym, ap, ap₂, _∙_}
 use mathlib.Core.Bool.{Bool, true, false}
-use mathlib.Core.List.{List, [], _∷_}
+use mathlib.Core.List.{List, _∷_}
 use native.Mathlib.Omega.{arith}
 use lib.Dec.{eqb}
 use lib.ListN.{length}
 use borrow.Author.Tests.{le-leb, lt-leb, eq-eqb, ne-eqb}
-use Rattle.codec.specs.Number.{Bytes, beAt}
+use Rattle.codec.specs.Number.{beAt}
 use Rattle.codec.specs.Words.{words3}
 use Rattle.layout.specs.declared.ReplicaKey.{ReplicaKey}
 use Rattle.layout.specs.declared.VectorIndex.{VectorIndex}
-use Rattle.layout.specs.Knowledge.{basic, Element, Range, Knowledge, All}
-use Rattle.layout.specs.Decode.{idsAt, elementsAt, rangesAt, decode}
-use Rattle.layout.specs.MethodPlaces.{idsPlace, vectorsPlace, rangesPlace, vectorPlace, valueAt}
+use Rattle.layout.specs.Knowledge.{Rules, Element, All}
+use Rattle.layout.specs.Decode.{elementsAt, rangesAt, decode}
+use Rattle.layout.specs.MethodPlaces.{vectorsPlace, rangesPlace, vectorPlace}
 use Rattle.layout.proofs.Places.{Reading, places}
-use Rattle.ticks.specs.Meaning.{known, place, tickAt, vectorOf}
-use Rattle.ticks.specs.MethodLookup.{keyOf, firstIndex, tickIn}
+use Rattle.ticks.specs.Meaning.{known, tickAt, vectorOf}
+use Rattle.ticks.specs.MethodLookup.{keyOf, firstIndex}
 use Rattle.ticks.specs.MethodRows.{topTick, topFrom, alikeRows}
 use Rattle.ticks.specs.Operations.{largest, ownAlike}
-use Rattle.ticks.proofs.ForRows.{largest-rows, alike-rows, vectorBy, stands-known}
+use Rattle.ticks.proofs.ForRows.{largest-rows, alike-rows}
 use Rattle.lookup.specs.declared.Cursor.{Cursor}
-use Rattle.lookup.specs.Method.{keyAt, vectorFrom, startAt, advanced, elementsThere, There, tickOf}
-use Rattle.rows.specs.Method.{Starts, elementsHere, elementAt, indexThere, topBy, topOf, largestIn, alikeBy, alikeOf, alikeIn}
-use Rattle.lookup.proofs.Loops.{cursor, key-there}
-use Rattle.rows.proofs.Cells.{elements-cons, elements-zero, here-is}
-use Rattle.rows.proofs.Standing.{Coming, Standing, coming-start, standing-advanced, vector-from, vector-elements, first-place, first-indices, value, value-is, value-lawful, value-ids, ids-room, standing-stands, standing-elements}
+use Rattle.lookup.specs.Method.{keyAt, vectorFrom, startAt, advanced, There, elementAt, elementsHere, tickOf, tickFrom, Opens}
+use Rattle.lookup.proofs.Loops.{elements-cons, elements-zero, here-is}
+use Rattle.lookup.proofs.Leaf.{read-lawful, read-ranges, read-key, first-place, next-place, vector-elements, indices-below, leaf-known}
+use Rattle.ranges.specs.Method.{indexThere, topBy, topOf, largestIn, alikeBy, alikeOf, alikeIn}
 
 -- The largest tick
 
 module _ (s : List ℕ) (vector n before : ℕ) (t : There s vector n) where
   pub top-nothing : n ≡ 0 → before ≡ topTick before (elementsHere s vector)
   unfolding topTick
-  top-nothing e = sym (ap (topTick before) (here-is s 0 vector n [] [] t ∙ elements-zero s n (vector + 8) e))
+  top-nothing e = sym (ap (topTick before) (here-is s vector n t ∙ elements-zero s n (vector + 8) e))
 
   pub top-begins : topTick before (elementsHere s vector) ≡ topTick before (elementsAt s (n - 0) (vector + 8))
   top-begins =
       let e : n ≡ n - 0 = omega arith in
-      ap (topTick before) (here-is s 0 vector n [] [] t ∙ ap (λ m. elementsAt s m (vector + 8)) e)
+      ap (topTick before) (here-is s vector n t ∙ ap (λ m. elementsAt s m (vector + 8)) e)
 
 module _ (s : List ℕ) (whole n i at top : ℕ) (inv : whole ≡ topTick top (elementsAt s (n - i) at)) where
   pub top-next : (x y : ℕ) → x ≡ beAt s 8 (at + 4) → y ≡ max top x → i < n
@@ -140,85 +139,70 @@ alike-is s r v e g p c d key own b h k l m n = n ∙ rw (m, l, k, h) refl
 
 -- Accepted bytes
 
-module _ (s : List ℕ) (r v e g : ℕ) (h : Reading basic s r v e g) where
-  abbrev k : Knowledge
-  k = valueAt s r v e g
-
+module _ (R : Rules) (s : List ℕ) (r v e g : ℕ) (h : Reading R s r v e g) where
   -- the elements of the next range are its vector's
-  next-elements : (index : VectorIndex) (vector : ℕ) (to : VectorIndex) → index .0 < v → to .0 < v
-      → vector ≡ vectorPlace s r (index .0)
-      → (vectorFrom s r index vector to ≡ vectorPlace s r (to .0)) × (elementsHere s (vectorFrom s r index vector to) ≡ vectorOf k (to .0))
-  next-elements index vector to a b p =
-      let q = places basic s r v e g h in
-      let w = vector-from s r v index to vector a b (omega (arith, q .afterVectors, q .whole)) p in
-      (w, ap (elementsHere s) w ∙ vector-elements s r v e g h (to .0) b)
+  next-elements : (index : VectorIndex) (vector : ℕ) (to : VectorIndex) → to .0 < v → vector ≡ vectorPlace s r (index .0)
+      → (vectorFrom s r index vector to ≡ vectorPlace s r (to .0))
+      × (elementsHere s (vectorFrom s r index vector to) ≡ vectorOf (decode s) (to .0))
+  next-elements index vector to b p =
+      let w = next-place R s r v e g h index to vector b p in
+      (w, ap (elementsHere s) w ∙ vector-elements R s r v e g h (to .0) b)
 
-  top-by : (n next : ℕ) (index : VectorIndex) (vector top : ℕ) → index .0 < v → vector ≡ vectorPlace s r (index .0)
+  top-by : (n next : ℕ) (index : VectorIndex) (vector top : ℕ) → vector ≡ vectorPlace s r (index .0)
       → All (λ x. x .index .0 < v) (rangesAt s n next)
-      → topBy s r n next index vector top ≡ topFrom (λ y. vectorOf k (y .0)) top (rangesAt s n next)
+      → topBy s r n next index vector top ≡ topFrom (λ y. vectorOf (decode s) (y .0)) top (rangesAt s n next)
   unfolding topBy topFrom rangesAt indexThere
-  top-by zero next index vector top a p all = refl
-  top-by (suc n) next index vector top a p all =
+  top-by zero next index vector top p all = refl
+  top-by (suc n) next index vector top p all =
       let to : VectorIndex = record { 0 = beAt s 4 (next + 24) } in
-      let w = next-elements index vector to a (all .0) p in
-      top-by n (next + 28) to (vectorFrom s r index vector to) (topTick top (elementsHere s (vectorFrom s r index vector to))) (all .0) (w .0) (all .1)
-      ∙ ap (λ es. topFrom (λ y. vectorOf k (y .0)) (topTick top es) (rangesAt s n (next + 28))) (w .1)
+      let w = next-elements index vector to (all .0) p in
+      top-by n (next + 28) to (vectorFrom s r index vector to)
+      (topTick top (elementsHere s (vectorFrom s r index vector to))) (w .0) (all .1)
+      ∙ ap (λ es. topFrom (λ y. vectorOf (decode s) (y .0)) (topTick top es) (rangesAt s n (next + 28))) (w .1)
 
-  alike-by : (key : ReplicaKey) (own n next : ℕ) (index : VectorIndex) (vector : ℕ) → index .0 < v
-      → vector ≡ vectorPlace s r (index .0)
+  alike-by : (key : ReplicaKey) (own n next : ℕ) (index : VectorIndex) (vector : ℕ) → vector ≡ vectorPlace s r (index .0)
       → All (λ x. x .index .0 < v) (rangesAt s n next)
-      → alikeBy s r key own n next index vector ≡ alikeRows (λ y. vectorOf k (y .0)) key own (rangesAt s n next)
-  unfolding alikeBy alikeRows rangesAt indexThere tickOf elementsHere
-  alike-by key own zero next index vector a p all = refl
-  alike-by key own (suc n) next index vector a p all =
+      → alikeBy s r key own n next index vector ≡ alikeRows (λ y. vectorOf (decode s) (y .0)) key own (rangesAt s n next)
+  unfolding alikeBy alikeRows rangesAt indexThere tickOf
+  alike-by key own zero next index vector p all = refl
+  alike-by key own (suc n) next index vector p all =
       let to : VectorIndex = record { 0 = beAt s 4 (next + 24) } in
-      let w = next-elements index vector to a (all .0) p in
+      let w = next-elements index vector to (all .0) p in
       ap₂ (λ (es : List Element) (z : Bool). elim (eqb (tickAt es (key .0)) own) [ true ↦ z | false ↦ false ]) (w .1)
-      (alike-by key own n (next + 28) to (vectorFrom s r index vector to) (all .0) (w .0) (all .1))
+      (alike-by key own n (next + 28) to (vectorFrom s r index vector to) (w .0) (all .1))
 
-  starts : Starts s r (startAt r v e g)
-  starts = record { v = v; e = e; g = g; accepts = h .accepts; start = refl }
+  opens : Opens R s r (startAt r v e g)
+  opens = record { permitted = h .permitted; v = v; e = e; g = g; bytes = h .bytes; accepts = h .accepts; start = refl }
 
-  coming : Coming s r (startAt r v e g) 0
-  coming = coming-start s r (startAt r v e g) (h .bytes) starts
-
-  abbrev ranges : List Range
-  ranges = rangesAt s g (rangesPlace r v e)
+  room : rangesPlace r v e + 28 * g ≤ length s
+  room = omega (arith, places R s r v e g h .whole)
 
   -- the largest tick
   pub largest-in : largestIn s r v e g ≡ largest (decode s)
-  unfolding largestIn startAt valueAt
+  unfolding largestIn startAt
   largest-in =
-      let p = places basic s r v e g h in
-      sym (tops-there s r (startAt r v e g) (topBy s r g (rangesPlace r v e) firstIndex (vectorsPlace r) 0) (omega (arith, p .whole)) refl)
-      ∙ top-by g (rangesPlace r v e) firstIndex (vectorsPlace r) 0 (p .someVector) (first-place s r v e g h) (first-indices s r v e g h)
-      ∙ sym (ap largest (p .value) ∙ largest-rows basic k (p .lawful))
+      let start = startAt r v e g in
+      sym (tops-there s r start (topBy s r g (rangesPlace r v e) firstIndex (vectorsPlace r) 0) room refl)
+      ∙ top-by g (rangesPlace r v e) firstIndex (vectorsPlace r) 0 (first-place R s r v e g h) (indices-below R s r v e g h)
+      ∙ ap (topFrom (λ y. vectorOf (decode s) (y .0)) 0) (sym (read-ranges R s r v e g h))
+      ∙ sym (largest-rows R (decode s) (read-lawful R s r v e g h))
 
-  -- the tick at item 0: the cursor that was moved there stands at the first range with that bound, or before all
-  own-tick : (p : ℕ) → tickOf s (advanced s r (startAt r v e g) 0 .vector) (keyOf (idsAt s r idsPlace) p) ≡ known k 0 p
-  unfolding tickOf elementsHere tickIn keyOf
-  own-tick p =
-      let d = advanced s r (startAt r v e g) 0 in
-      let st = standing-advanced s r (startAt r v e g) 0 0 coming (omega arith) in
-      ap (λ es. tickAt es (place p (idsAt s r idsPlace))) (standing-elements s r d 0 st)
-      ∙ ap (λ ids. tickAt (vectorOf (value s r d 0 st) (d .index .0)) (place p ids)) (sym (value-ids s r d 0 st))
-      ∙ sym (stands-known basic (value s r d 0 st) (value-lawful s r d 0 st) 0 (d .index) (rangesAt s (d .left) (d .next)) (standing-stands s r d 0 st) p)
-      ∙ ap (λ z. known z 0 p) (sym (value-is s r d 0 st) ∙ places basic s r v e g h .value)
+  -- the tick at item 0: the cursor that was moved there stands at it
+  own-tick : (p : ℕ) → tickOf s (advanced s r (startAt r v e g) 0 .vector) (keyAt s r p) ≡ known (decode s) 0 p
+  unfolding tickFrom
+  own-tick p = leaf-known R s r (startAt r v e g) opens 0 p
 
   -- a tick alike in all ranges
   pub alike-in : (p : ℕ) → alikeIn s r v e g p ≡ ownAlike p (decode s)
-  unfolding alikeIn startAt valueAt tickOf keyOf tickIn
+  unfolding alikeIn startAt
   alike-in p =
-      let q = places basic s r v e g h in
-      let d = advanced s r (startAt r v e g) 0 in
-      let key : keyAt s r p ≡ keyOf (idsAt s r idsPlace) p =
-      sym (key-there s r p (keyOf (idsAt s r idsPlace) p) (omega (arith, q .whole)) refl) in
-      let own : tickOf s (d .vector) (keyAt s r p) ≡ known k 0 p =
-      ap (tickOf s (d .vector)) key ∙ own-tick p in
-      sym (alike-there s r (startAt r v e g) (keyAt s r p) (tickOf s (d .vector) (keyAt s r p))
-      (alikeBy s r (keyAt s r p) (tickOf s (d .vector) (keyAt s r p)) g (rangesPlace r v e) firstIndex (vectorsPlace r))
-      (omega (arith, q .whole)) refl)
-      ∙ ap₂ (λ (x : ReplicaKey) (y : ℕ). alikeBy s r x y g (rangesPlace r v e) firstIndex (vectorsPlace r)) key own
-      ∙ alike-by (keyOf (idsAt s r idsPlace) p) (known k 0 p) g (rangesPlace r v e) firstIndex (vectorsPlace r) (q .someVector)
-      (first-place s r v e g h) (first-indices s r v e g h)
-      ∙ sym (ap (ownAlike p) (q .value) ∙ alike-rows basic k (q .lawful) p)
+      let start = startAt r v e g in
+      let at = rangesPlace r v e in
+      let own = tickOf s (advanced s r start 0 .vector) (keyAt s r p) in
+      sym (alike-there s r start (keyAt s r p) own (alikeBy s r (keyAt s r p) own g at firstIndex (vectorsPlace r)) room refl)
+      ∙ ap₂ (λ (x : ReplicaKey) (y : ℕ). alikeBy s r x y g at firstIndex (vectorsPlace r)) (read-key R s r v e g h p) (own-tick p)
+      ∙ alike-by (keyOf (decode s .replicas) p) (known (decode s) 0 p) g at firstIndex (vectorsPlace r)
+      (first-place R s r v e g h) (indices-below R s r v e g h)
+      ∙ ap (alikeRows (λ y. vectorOf (decode s) (y .0)) (keyOf (decode s .replicas) p) (known (decode s) 0 p))
+      (sym (read-ranges R s r v e g h))
+      ∙ sym (alike-rows R (decode s) (read-lawful R s r v e g h) p)

@@ -1,8 +1,7 @@
--- `rows::largest_tick` meets its contract: from the cursor before any range.
-use Rattle.rows.proofs.Ranges.{largest-is}
-use native.Mathlib.Omega.{arith}
-use Rattle.rows.proofs.largest_tick.Statement.{statement}
-use Rattle.rows.proofs.largest_tick.Tie as tie
+-- `ranges::largest_tick` meets its contract: from the cursor before any range.
+use Rattle.ranges.proofs.Ranges.{largest-is}
+use Rattle.ranges.proofs.largest_tick.Statement.{statement}
+use Rattle.ranges.proofs.largest_tick.Tie as tie
 
 start-requires : tie.Need-start-requires
 start-requires c κs = tt

@@ -1,15 +1,15 @@
--- `rows::top_of` meets its contract. The loop's invariant: the largest tick of all elements is that of the largest so far
+-- `ranges::top_of` meets its contract. The loop's invariant: the largest tick of all elements is that of the largest so far
 -- and those that are left.
 use Prim.Native.Nat.{_+_, _-_, _*_, _≤_}
 use mathlib.Core.Path.{_≡_}
 use lib.ListN.{length}
 use Rattle.layout.specs.Decode.{elementsAt}
 use Rattle.ticks.specs.MethodRows.{topTick}
-use Rattle.rows.specs.Method.{elementsHere}
-use Rattle.rows.proofs.Ranges.{top-nothing, top-begins, top-next, top-end}
+use Rattle.lookup.specs.Method.{elementsHere}
+use Rattle.ranges.proofs.Ranges.{top-nothing, top-begins, top-next, top-end}
 use native.Mathlib.Omega.{arith}
-use Rattle.rows.proofs.top_of.Statement.{statement}
-use Rattle.rows.proofs.top_of.Tie as tie
+use Rattle.ranges.proofs.top_of.Statement.{statement}
+use Rattle.ranges.proofs.top_of.Tie as tie
 
 abbrev Inv-loop : tie.InvT-loop
 Inv-loop s vector before n top₀ i₀ at₀ top i at =
@@ -49,7 +49,12 @@ loop-less : tie.Need-loop-less Inv-loop μ-loop
 loop-less c = omega arith
 
 loop-again : tie.Need-loop-again Inv-loop μ-loop
-loop-again c = (top-next _ _ _ _ _ _ (c .before .before .before .loop .inv .0) _ _ (c .before .eight .ensures .0) (c .larger .ensures) (c .before .before .loop-test .taken), omega arith, omega arith)
+loop-again c = (
+  top-next _ _ _ _ _ _ (c .before .before .before .loop .inv .0) _ _ (c .before .eight .ensures .0) (c .larger .ensures)
+      (c .before .before .loop-test .taken),
+  omega arith,
+  omega arith,
+)
 
 returns-2 : tie.Need-returns-2 Inv-loop μ-loop
 returns-2 c = top-end _ _ _ _ _ _ (c .before .loop .inv .0) (omega arith)

@@ -1,12 +1,12 @@
--- `rows::alike` meets its contract. The loop's invariant: the whole answer is the answer for the ranges that are left.
+-- `ranges::alike` meets its contract. The loop's invariant: the whole answer is the answer for the ranges that are left.
 use Prim.Native.Nat.{_+_, _*_, _≤_}
 use mathlib.Core.Path.{_≡_, refl}
 use lib.ListN.{length}
-use Rattle.rows.specs.Method.{alikeBy}
-use Rattle.rows.proofs.Ranges.{alike-short, alike-there, alike-next, alike-stop, alike-end}
+use Rattle.ranges.specs.Method.{alikeBy}
+use Rattle.ranges.proofs.Ranges.{alike-short, alike-there, alike-next, alike-stop, alike-end}
 use native.Mathlib.Omega.{arith}
-use Rattle.rows.proofs.alike.Statement.{statement}
-use Rattle.rows.proofs.alike.Tie as tie
+use Rattle.ranges.proofs.alike.Statement.{statement}
+use Rattle.ranges.proofs.alike.Tie as tie
 
 abbrev Inv-loop : tie.InvT-loop
 Inv-loop s r key own left₀ next₀ index₀ vector₀ left next index vector =
@@ -49,7 +49,13 @@ tick-at-requires : tie.Need-tick-at-requires Inv-loop μ-loop
 tick-at-requires c κs = tt
 
 returns-3 : tie.Need-returns-3 Inv-loop μ-loop
-returns-3 c = alike-there _ _ (c .before .before .before .before .before .before .before .before .before .before .args .c) _ _ _ (omega arith) (alike-stop _ _ _ _ _ _ _ _ _ (c .before .before .before .before .before .loop .inv .0) _ _ _ (c .before .before .before .four .ensures .0) (c .before .before .vector-place .ensures) (c .before .tick-at .ensures) (c .before .before .before .before .loop-test .taken) (c .if3 .taken))
+returns-3 c =
+    let b5 = c .before .before .before .before .before in
+    let b10 = b5 .before .before .before .before .before in
+    alike-there _ _ (b10 .args .c) _ _ _ (omega arith)
+    (alike-stop _ _ _ _ _ _ _ _ _ (b5 .loop .inv .0) _ _ _ (c .before .before .before .four .ensures .0)
+    (c .before .before .vector-place .ensures) (c .before .tick-at .ensures)
+    (c .before .before .before .before .loop-test .taken) (c .if3 .taken))
 
 add-next : tie.Need-add-next Inv-loop μ-loop
 add-next c = omega arith
@@ -61,10 +67,18 @@ loop-less : tie.Need-loop-less Inv-loop μ-loop
 loop-less c = omega arith
 
 loop-again : tie.Need-loop-again Inv-loop μ-loop
-loop-again c = (alike-next _ _ _ _ _ _ _ _ _ (c .before .before .before .before .before .loop .inv .0) _ _ _ (c .before .before .before .four .ensures .0) (c .before .before .vector-place .ensures) (c .before .tick-at .ensures) (c .before .before .before .before .loop-test .taken) (c .if3 .left), omega arith)
+loop-again c = (
+  alike-next _ _ _ _ _ _ _ _ _ (c .before .before .before .before .before .loop .inv .0) _ _ _
+      (c .before .before .before .four .ensures .0) (c .before .before .vector-place .ensures) (c .before .tick-at .ensures)
+      (c .before .before .before .before .loop-test .taken) (c .if3 .left),
+  omega arith,
+)
 
 returns-4 : tie.Need-returns-4 Inv-loop μ-loop
-returns-4 c = alike-there _ _ (c .before .before .before .before .before .before .args .c) _ _ _ (omega arith) (alike-end _ _ _ _ _ _ _ _ _ (c .before .loop .inv .0) (omega arith))
+returns-4 c =
+    let b5 = c .before .before .before .before .before in
+    alike-there _ _ (b5 .before .args .c) _ _ _ (omega arith)
+    (alike-end _ _ _ _ _ _ _ _ _ (c .before .loop .inv .0) (omega arith))
 
 pub alike-spec : {M : Type 1} → statement M
 alike-spec =

@@ -1,13 +1,13 @@
--- `rows::top_from` meets its contract. The loop's invariant: the largest tick of all ranges is that of the largest so far
+-- `ranges::top_from` meets its contract. The loop's invariant: the largest tick of all ranges is that of the largest so far
 -- and those that are left.
 use Prim.Native.Nat.{_+_, _*_, _≤_}
 use mathlib.Core.Path.{_≡_, refl}
 use lib.ListN.{length}
-use Rattle.rows.specs.Method.{topBy}
-use Rattle.rows.proofs.Ranges.{tops-short, tops-there, tops-next, tops-end}
+use Rattle.ranges.specs.Method.{topBy}
+use Rattle.ranges.proofs.Ranges.{tops-short, tops-there, tops-next, tops-end}
 use native.Mathlib.Omega.{arith}
-use Rattle.rows.proofs.top_from.Statement.{statement}
-use Rattle.rows.proofs.top_from.Tie as tie
+use Rattle.ranges.proofs.top_from.Statement.{statement}
+use Rattle.ranges.proofs.top_from.Tie as tie
 
 abbrev Inv-loop : tie.InvT-loop
 Inv-loop s r left₀ next₀ index₀ vector₀ top₀ left next index vector top =
@@ -59,10 +59,16 @@ loop-less : tie.Need-loop-less Inv-loop μ-loop
 loop-less c = omega arith
 
 loop-again : tie.Need-loop-again Inv-loop μ-loop
-loop-again c = (tops-next _ _ _ _ _ _ _ _ (c .before .before .before .before .loop .inv .0) _ _ _ (c .before .before .four .ensures .0) (c .before .vector-place .ensures) (c .top-of .ensures) (c .before .before .before .loop-test .taken), omega arith)
+loop-again c = (
+  tops-next _ _ _ _ _ _ _ _ (c .before .before .before .before .loop .inv .0) _ _ _ (c .before .before .four .ensures .0)
+      (c .before .vector-place .ensures) (c .top-of .ensures) (c .before .before .before .loop-test .taken),
+  omega arith,
+)
 
 returns-3 : tie.Need-returns-3 Inv-loop μ-loop
-returns-3 c = tops-there _ _ (c .before .before .before .before .before .before .args .c) _ (omega arith) (tops-end _ _ _ _ _ _ _ _ (c .before .loop .inv .0) (omega arith))
+returns-3 c =
+    let b5 = c .before .before .before .before .before in
+    tops-there _ _ (b5 .before .args .c) _ (omega arith) (tops-end _ _ _ _ _ _ _ _ (c .before .loop .inv .0) (omega arith))
 
 pub top-from-spec : {M : Type 1} → statement M
 top-from-spec =

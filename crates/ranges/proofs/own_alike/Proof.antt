@@ -1,8 +1,7 @@
--- `rows::own_alike` meets its contract: the tick at item 0 is that of every range.
-use Rattle.rows.proofs.Ranges.{alike-is}
-use native.Mathlib.Omega.{arith}
-use Rattle.rows.proofs.own_alike.Statement.{statement}
-use Rattle.rows.proofs.own_alike.Tie as tie
+-- `ranges::own_alike` meets its contract: the tick at item 0 is that of every range.
+use Rattle.ranges.proofs.Ranges.{alike-is}
+use Rattle.ranges.proofs.own_alike.Statement.{statement}
+use Rattle.ranges.proofs.own_alike.Tie as tie
 
 start-requires : tie.Need-start-requires
 start-requires c κs = tt
@@ -20,7 +19,10 @@ alike-requires : tie.Need-alike-requires
 alike-requires c κs = tt
 
 returns : tie.Need-returns
-returns c = alike-is _ _ _ _ _ _ _ _ _ _ _ (c .before .before .before .before .start .ensures) (c .before .before .before .key-of .ensures) (c .before .before .advance .ensures) (c .before .tick-at .ensures) (c .alike .ensures)
+returns c =
+    alike-is _ _ _ _ _ _ _ _ _ _ _ (c .before .before .before .before .start .ensures)
+    (c .before .before .before .key-of .ensures) (c .before .before .advance .ensures) (c .before .tick-at .ensures)
+    (c .alike .ensures)
 
 pub own-alike-spec : {M : Type 1} → statement M
 own-alike-spec =

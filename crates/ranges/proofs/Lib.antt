@@ -1,0 +1,2 @@
+-- The laws of going range by range.
+pub mod Ranges

@@ -1,0 +1,2 @@
+-- The method of going range by range.
+pub mod Method

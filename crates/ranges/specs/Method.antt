@@ -1,0 +1,51 @@
+-- The method of going range by range, by places, for any bytes: nothing here is to be believed. The laws show that for bytes
+-- that the check accepts the largest tick, and whether a tick is alike in all ranges, are the defined ones.
+use Rattle.codec.specs.Prelude.{ℕ, zero, suc, _+_, _*_, Bool, true, false, List, eqb, leb, length}
+use Rattle.codec.specs.Number.{beAt}
+use Rattle.layout.specs.declared.ReplicaKey.{ReplicaKey}
+use Rattle.layout.specs.declared.VectorIndex.{VectorIndex}
+use Rattle.ticks.specs.MethodRows.{topTick}
+use Rattle.lookup.specs.declared.Cursor.{Cursor}
+use Rattle.lookup.specs.Method.{keyAt, vectorFrom, startAt, advanced, elementsHere, tickOf}
+
+-- the index of the range at a place
+unfoldable pub indexThere : List ℕ → ℕ → VectorIndex
+indexThere s next = record { 0 = beAt s 4 (next + 24) }
+
+-- the largest tick of n ranges from a place on, and of what was met before; the vector of an index stands at a place
+unfoldable pub topBy : List ℕ → ℕ → ℕ → ℕ → VectorIndex → ℕ → ℕ → ℕ
+topBy s r zero next index vector top = top
+topBy s r (suc n) next index vector top =
+    let at = vectorFrom s r index vector (indexThere s next) in
+    topBy s r n (next + 28) (indexThere s next) at (topTick top (elementsHere s at))
+
+-- from a cursor on, 0 where the ranges are not all there
+unfoldable pub topOf : List ℕ → ℕ → Cursor → ℕ
+topOf s r c =
+    elim (leb (c .next + 28 * c .left) (length s)) [ true ↦ topBy s r (c .left) (c .next) (c .index) (c .vector) 0 | false ↦ 0 ]
+
+-- the largest tick, from the sizes
+unfoldable pub largestIn : List ℕ → ℕ → ℕ → ℕ → ℕ → ℕ
+largestIn s r v e g = topOf s r (startAt r v e g)
+
+-- is the tick of a key the given one in n ranges from a place on
+unfoldable pub alikeBy : List ℕ → ℕ → ReplicaKey → ℕ → ℕ → ℕ → VectorIndex → ℕ → Bool
+alikeBy s r key own zero next index vector = true
+alikeBy s r key own (suc n) next index vector =
+    let at = vectorFrom s r index vector (indexThere s next) in
+    elim (eqb (tickOf s at key) own) [ true ↦ alikeBy s r key own n (next + 28) (indexThere s next) at | false ↦ false ]
+
+-- from a cursor on, and where the ranges are not all there
+unfoldable pub alikeOf : List ℕ → ℕ → ReplicaKey → ℕ → Cursor → Bool
+alikeOf s r key own c =
+    elim (leb (c .next + 28 * c .left) (length s)) [
+      | true ↦ alikeBy s r key own (c .left) (c .next) (c .index) (c .vector)
+      | false ↦ true
+    ]
+
+-- is the tick of a replica alike in all ranges: the tick at item 0, from the sizes
+unfoldable pub alikeIn : List ℕ → ℕ → ℕ → ℕ → ℕ → ℕ → Bool
+alikeIn s r v e g p =
+    let key = keyAt s r p in
+    let own = tickOf s (advanced s r (startAt r v e g) 0 .vector) key in
+    alikeOf s r key own (startAt r v e g)

@@ -1,0 +1,134 @@
+// Range by range through the bytes of a knowledge: its largest tick, and whether a replica's tick is alike in all ranges.
+//
+// Every public function is total and goes by places: for bytes that the check accepts, with the sizes that it answers, the answers
+// are the defined ones. A replica id is two words, the highest first.
+use layout::ReplicaKey;
+use layout::VectorIndex;
+use lookup::Cursor;
+ghost use mathlib.Core.Path.{_≡_};
+ghost use Prim.Native.Nat.{_+_, _^_, _≤_, _<_};
+ghost use lib.ListN.{length, getD};
+ghost use Rattle.codec.specs.Number.{beAt};
+ghost use Rattle.codec.specs.Words.{words2};
+ghost use Rattle.ticks.specs.MethodRows.{topTick};
+ghost use Rattle.lookup.specs.Method.{elementsHere};
+ghost use Rattle.ranges.specs.Method.{topOf, largestIn, alikeOf, alikeIn};
+
+// ---- numbers that are there
+
+fn one(s: &[u8], at: usize) -> u64
+    requires { ⌜ at < length (now s) ⌝ }
+    ensures { λ r. ⌜ (r ≡ getD (now (s .entry)) at 0) × (r < 256) ⌝ }
+{
+    s[at] as u64
+}
+
+fn four(s: &[u8], at: usize) -> u64
+    requires { ⌜ at + 4 ≤ length (now s) ⌝ }
+    ensures { λ r. ⌜ (r ≡ beAt (now (s .entry)) 4 at) × (r < 2 ^ 32) ⌝ }
+{
+    one(s, at) * 16777216 + one(s, at + 1) * 65536 + one(s, at + 2) * 256 + one(s, at + 3)
+}
+
+fn eight(s: &[u8], at: usize) -> u64
+    requires { ⌜ at + 8 ≤ length (now s) ⌝ }
+    ensures { λ r. ⌜ (r ≡ beAt (now (s .entry)) 8 at) × (r < 2 ^ 64) ⌝ }
+{
+    four(s, at) * 4294967296 + four(s, at + 4)
+}
+
+// ---- the largest tick
+
+// The largest tick of the elements of the vector at a place, and of what was met before.
+fn top_of(s: &[u8], vector: usize, before: u64) -> u64
+    ensures { λ t. ⌜ t ≡ topTick before (elementsHere (now (s .entry)) vector) ⌝ }
+{
+    let n = lookup::elements_at(s, vector);
+    if n == 0 {
+        return before;
+    }
+    let mut top = before;
+    let mut i: usize = 0;
+    let mut at = vector + 8;
+    while i < n {
+        top = codec::larger(top, eight(s, at + 4));
+        at += 12;
+        i += 1;
+    }
+    top
+}
+
+// The largest tick of the ranges that a cursor has not passed.
+fn top_from(s: &[u8], r: u32, c: Cursor) -> u64
+    ensures { λ t. ⌜ t ≡ topOf (now (s .entry)) r c ⌝ }
+{
+    let mut left = c.left;
+    let mut next = c.next;
+    let mut index = c.index;
+    let mut vector = c.vector;
+    if s.len() < next {
+        return 0;
+    }
+    if s.len() - next < 28 * (left as usize) {
+        return 0;
+    }
+    let mut top: u64 = 0;
+    while 0 < left {
+        let n = four(s, next + 24) as u32;
+        let to = VectorIndex(n);
+        vector = lookup::vector_place(s, r, index, vector, to);
+        top = top_of(s, vector, top);
+        index = to;
+        next += 28;
+        left -= 1;
+    }
+    top
+}
+
+// The largest tick of a knowledge that was checked, with its sizes.
+pub fn largest_tick(s: &[u8], r: u32, v: u32, e: u32, g: u32) -> u64
+    ensures { λ t. ⌜ t ≡ largestIn (now (s .entry)) r v e g ⌝ }
+{
+    top_from(s, r, lookup::start(r, v, e, g))
+}
+
+// ---- a tick alike in all ranges
+
+// Is the tick of a key the given one in every range that a cursor has not passed.
+fn alike(s: &[u8], r: u32, key: ReplicaKey, own: u64, c: Cursor) -> bool
+    ensures { λ b. ⌜ b ≡ alikeOf (now (s .entry)) r key own c ⌝ }
+{
+    let mut left = c.left;
+    let mut next = c.next;
+    let mut index = c.index;
+    let mut vector = c.vector;
+    if s.len() < next {
+        return true;
+    }
+    if s.len() - next < 28 * (left as usize) {
+        return true;
+    }
+    while 0 < left {
+        let n = four(s, next + 24) as u32;
+        let to = VectorIndex(n);
+        vector = lookup::vector_place(s, r, index, vector, to);
+        if lookup::tick_at(s, vector, key) != own {
+            return false;
+        }
+        index = to;
+        next += 28;
+        left -= 1;
+    }
+    true
+}
+
+// Is the tick of the replica of two words alike in all ranges of a knowledge that was checked, with its sizes.
+pub fn own_alike(s: &[u8], r: u32, v: u32, e: u32, g: u32, p0: u64, p1: u64) -> bool
+    ensures { λ b. ⌜ b ≡ alikeIn (now (s .entry)) r v e g (words2 p0 p1) ⌝ }
+{
+    let from = lookup::start(r, v, e, g);
+    let key = lookup::key_of(s, r, p0, p1);
+    let first = lookup::advance(s, r, from, 0, 0, 0);
+    let own = lookup::tick_at(s, first.vector, key);
+    alike(s, r, key, own, from)
+}
