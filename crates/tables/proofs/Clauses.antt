@@ -6,13 +6,13 @@ use mathlib.Core.Bool.{Bool, true, false}
 use mathlib.Core.List.{List, [], _∷_, _++_}
 use native.Mathlib.Omega.{arith}
 use lib.ListN.{length, getD, set, drop}
-use lib.Seq.{getD-set-other, getD-append-seam}
+use lib.Seq.{getD-set-other}
 use borrow.Author.Tests.{lt-ltb, le-ltb, eq-eqb, ne-eqb}
-use Rattle.layout.specs.Knowledge.{Element, Range}
 use Rattle.ticks.specs.Meaning.{placeBy}
 use Rattle.ticks.specs.Written.{elementWith, rangeWith}
 use Rattle.tables.specs.MethodWords.{numbersAt}
-use Rattle.tables.specs.MethodPlan.{sameBelow, same, stir, mixBelow, rowsFrom, grownBy, firstsFrom, numbersFrom, firstsOf, numbersOf, usedIn}
+use Rattle.tables.specs.MethodPlan.{sameBelow, same, stir, mixBelow, rowsFrom, grownBy, firstsFrom, numbersFrom, firstsOf, numbersOf}
+use Rattle.tables.specs.MethodPlan.{usedIn}
 use Rattle.tables.specs.MethodPlan.{insertColumn, withColumn, columnsFrom, columnsOf, idsOf, elementsFrom, vectorsIn, rangesFrom, rangesIn}
 use Rattle.tables.specs.MethodPlan.{elementCount, rangeCount, Over}
 
@@ -236,7 +236,8 @@ numbersAt-length l i (suc n) = ap length (numbersAt-suc l i n) ∙ ap suc (numbe
 pub numbersAt-end : (l : List ℕ) (i n : ℕ) → numbersAt l i (suc n) ≡ numbersAt l i n ++ (getD l (i + n) 0 ∷ [])
 numbersAt-end l i zero =
     let e : i ≡ i + 0 = omega arith in
-    numbersAt-suc l i 0 ∙ ap₂ (λ m ns. getD l m 0 ∷ ns) e (numbersAt-zero l (i + 1)) ∙ ap (λ ns. ns ++ (getD l (i + 0) 0 ∷ [])) (sym (numbersAt-zero l i))
+    numbersAt-suc l i 0 ∙ ap₂ (λ m ns. getD l m 0 ∷ ns) e (numbersAt-zero l (i + 1))
+    ∙ ap (λ ns. ns ++ (getD l (i + 0) 0 ∷ [])) (sym (numbersAt-zero l i))
 numbersAt-end l i (suc n) =
     let e : i + 1 + n ≡ i + suc n = omega arith in
     numbersAt-suc l i (suc n)
