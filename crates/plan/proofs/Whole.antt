@@ -7,6 +7,7 @@ use native.Mathlib.Omega.{arith}
 use lib.Dec.{leb}
 use lib.ListN.{length}
 use borrow.Author.Tests.{lt-ltb, le-ltb, le-leb, lt-leb, leb-true}
+use Rattle.ticks.proofs.Equality.{clash}
 use Rattle.ticks.proofs.Lists.{less, same, more, order}
 use Rattle.tables.specs.declared.Sizes.{Sizes}
 use Rattle.tables.specs.MethodWords.{stride, mostRows, numbersAt}
@@ -14,8 +15,8 @@ use Rattle.tables.specs.MethodPlan.{firstsOf, numbersOf, columnsOf, elementCoun
 use Rattle.plan.specs.Method.{Front, Numbered, fits, noSizes}
 use Rattle.plan.proofs.Fronts.{front-length, front-over, front-as}
 
-abbrev mk : ℕ → ℕ → ℕ → ℕ → Sizes
-mk m v e g = record { replicas = m; vectors = v; elements = e; ranges = g }
+abbrev counts : ℕ → ℕ → ℕ → ℕ → Sizes
+counts m v e g = record { replicas = m; vectors = v; elements = e; ranges = g }
 
 -- The plan from its parts
 
@@ -26,11 +27,11 @@ module _ (P : ℕ → ℕ) (T : ℕ → ℕ → ℕ) (r n : ℕ) (c f x c' f' x'
   chosen =
       front-as (columnsOf P T r (numbersAt f' 0 v)) (columnsOf P T r (firstsOf T r n)) c c' m q (ap (columnsOf P T r) (h .firsts .is))
 
-  planned : mk m v e g ≡ sizesOf T (columnsOf P T r (firstsOf T r n)) (firstsOf T r n) (numbersOf T r n)
+  planned : counts m v e g ≡ sizesOf T (columnsOf P T r (firstsOf T r n)) (firstsOf T r n) (numbersOf T r n)
   unfolding sizesOf
   planned =
-      ap₂ (λ x y. mk x y e g) (sym (front-length (columnsOf P T r (firstsOf T r n)) c c' m chosen)) (sym (front-length (firstsOf T r n) f f' v (h .firsts)))
-      ∙ ap₂ (mk (length (columnsOf P T r (firstsOf T r n))) (length (firstsOf T r n)))
+      ap₂ (λ x y. counts x y e g) (sym (front-length (columnsOf P T r (firstsOf T r n)) c c' m chosen)) (sym (front-length (firstsOf T r n) f f' v (h .firsts)))
+      ∙ ap₂ (counts (length (columnsOf P T r (firstsOf T r n))) (length (firstsOf T r n)))
       (k ∙ ap₂ (elementCount T) (chosen .is) (h .firsts .is))
       (l ∙ ap₂ (λ a b. rangeCount (a + 1) b) (sym (front-length (numbersOf T r n) x x' n (h .numbers))) (h .numbers .is))
 
@@ -82,7 +83,7 @@ module _ (r n c f x : ℕ) where
         unfolding fits
         last-test k = sym (rw (le-leb r stride h, lt-ltb n mostRows i, le-leb r c j, lt-ltb n f k, fits))
 
--- what the test tells where it holds
+-- what the test tells where it holds, and where it does
 pub fits-tells : (r n c f x : ℕ) → fits r n c f x ≡ true → Fits r n c f x
 fits-tells r n c f x e =
     elim (compare r stride) [
@@ -109,12 +110,14 @@ fits-tells r n c f x e =
     ]
   where
     no : false ≡ fits r n c f x → Fits r n c f x
-    no z = let w : _≡_ {A = Bool} false true = z ∙ e in let q : _≡_ {A = ℕ} 0 1 = cc in absurd (omega arith)
+    no z = clash (fits r n c f x) e (sym z)
 
--- a test does not come out both ways
-pub clash : (b f : Bool) (C : Type 0) → b ≡ f → b ≡ true → f ≡ false → C
-clash b f C e t n = let w : _≡_ {A = Bool} true false = sym t ∙ e ∙ n in let q : _≡_ {A = ℕ} 0 1 = cc in absurd (omega arith)
+pub fits-holds : (r n c f x : ℕ) → Fits r n c f x → fits r n c f x ≡ true
+fits-holds r n c f x h =
+    sym (last-test r n c f x (h .columns) (h .rows) (h .toColumns) (h .toFirsts)) ∙ le-leb n x (h .toNumbers)
 
-pub no-sizes : mk 0 0 0 0 ≡ noSizes
+-- no plan
+
+pub no-sizes : counts 0 0 0 0 ≡ noSizes
 unfolding noSizes
 no-sizes = refl
