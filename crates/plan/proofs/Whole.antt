@@ -30,7 +30,9 @@ module _ (P : ℕ → ℕ) (T : ℕ → ℕ → ℕ) (r n : ℕ) (c f x c' f' x'
   planned : counts m v e g ≡ sizesOf T (columnsOf P T r (firstsOf T r n)) (firstsOf T r n) (numbersOf T r n)
   unfolding sizesOf
   planned =
-      ap₂ (λ x y. counts x y e g) (sym (front-length (columnsOf P T r (firstsOf T r n)) c c' m chosen)) (sym (front-length (firstsOf T r n) f f' v (h .firsts)))
+      ap₂ (λ x y. counts x y e g)
+      (sym (front-length (columnsOf P T r (firstsOf T r n)) c c' m chosen))
+      (sym (front-length (firstsOf T r n) f f' v (h .firsts)))
       ∙ ap₂ (counts (length (columnsOf P T r (firstsOf T r n))) (length (firstsOf T r n)))
       (k ∙ ap₂ (elementCount T) (chosen .is) (h .firsts .is))
       (l ∙ ap₂ (λ a b. rangeCount (a + 1) b) (sym (front-length (numbersOf T r n) x x' n (h .numbers))) (h .numbers .is))
