@@ -1,0 +1,2 @@
+-- What the functions of planning leave behind.
+pub mod Method
