@@ -1,7 +1,7 @@
 -- The writer's steps. Each function writes some pieces and gives the place after them; whatever is written next goes on from
 -- there. Loops keep what is left to write: one thing less at each turn, nothing at the end. Past the end of the buffer nothing
 -- has room, so there any place is the place after.
-use Prim.Native.Nat.{ℕ, zero, suc, _+_, _-_, _*_, _≤_, _<_}
+use Prim.Native.Nat.{ℕ, zero, suc, _+_, _-_, _*_, _/_, _≤_, _<_}
 use mathlib.Core.Path.{_≡_, refl, sym, ap, ap₂, _∙_}
 use mathlib.Core.Bool.{Bool, true, false}
 use mathlib.Core.List.{List, [], _∷_, _++_, append-nil, append-assoc}
@@ -10,14 +10,14 @@ use lib.Dec.{eqb}
 use lib.ListN.{length, getD, List·getD-eq-default}
 use borrow.Author.Tests.{eq-eqb, ne-eqb}
 use Rattle.codec.specs.Number.{put}
-use Rattle.codec.specs.Part.{placed, part, bytes}
+use Rattle.codec.specs.Part.{placed, bytes}
 use Rattle.codec.proofs.Writing.{bytes-length}
 use Rattle.layout.specs.Knowledge.{Field, putFields, opening, beforeVectors, beforeElements, beforeRanges, closing}
 use Rattle.tables.specs.declared.Sizes.{Sizes}
 use Rattle.tables.specs.MethodWords.{cell, numbersAt}
 use Rattle.tables.specs.MethodPlan.{elementsFrom}
 use Rattle.tables.specs.MethodPieces.{laid, idPieces, elementPieces, vectorPieces, vectorsPieces, rangePieces, rangesPieces, pagePieces}
-use Rattle.tables.proofs.Pieces.{laid-past}
+use Rattle.tables.proofs.Pieces.{laid-past, laid-behind}
 use Rattle.writer.specs.Method.{Left, Wrote, elementsOf}
 
 -- ---- what is left
@@ -148,15 +148,26 @@ module _ (g : ℕ → ℕ) (cols : List ℕ) (m : ℕ) (d : List ℕ) (at : ℕ)
     pub elements-end : i ≡ m → Wrote d at ps u p
     elements-end h = left-none d at ps u p _ l (unfold elementPieces in ap (elementPieces g i) (numbers-none cols i m h))
 
--- ---- how many they are
+-- ---- how many they are: each takes twelve bytes
 
-pub elements-of-none : (x : ℕ) → x ≡ 0 → 0 ≡ elementsOf x
+elements-of-none : (x : ℕ) → x ≡ 0 → elementsOf x ≡ 0
 unfolding elementsOf
 elements-of-none x e = rw (eq-eqb x 0 e, elementsOf)
 
-pub elements-of-one : (x : ℕ) → (x ≡ 0 → ⊥) → 1 ≡ elementsOf x
+elements-of-one : (x : ℕ) → (x ≡ 0 → ⊥) → elementsOf x ≡ 1
 unfolding elementsOf
 elements-of-one x n = rw (ne-eqb x 0 n, elementsOf)
+
+pub elements-of-most : (x : ℕ) → elementsOf x ≤ 1
+elements-of-most zero = omega (arith, elements-of-none 0 refl)
+elements-of-most (suc x) = omega (arith, elements-of-one (suc x) (λ e. omega arith))
+
+module _ (t : List ℕ) (k c tick at : ℕ) (is : tick ≡ cell t k c) where
+  pub none-after : tick ≡ 0 → at ≡ at + 12 * elementsOf (cell t k c)
+  none-after e = omega (arith, elements-of-none (cell t k c) (sym is ∙ e))
+
+  pub some-after : (tick ≡ 0 → ⊥) → at + 12 ≡ at + 12 * elementsOf (cell t k c)
+  some-after n = omega (arith, elements-of-one (cell t k c) (λ e. n (is ∙ e)))
 
 count-split : (g : ℕ → ℕ) (key c : ℕ) (cs : List ℕ)
     → length (elementsFrom g key (c ∷ cs)) ≡ elementsOf (g c) + length (elementsFrom g (key + 1) cs)
@@ -166,20 +177,20 @@ count-split g key c cs = go (eqb (g c) 0) refl
     go true e = unfold elementsFrom elementsOf in rw (e, elementsFrom, elementsOf) (omega arith)
     go false e = unfold elementsFrom elementsOf in rw (e, elementsFrom, elementsOf) (omega arith)
 
-module _ (g : ℕ → ℕ) (cols : List ℕ) (m : ℕ) where
-  pub count-begin : length (elementsFrom g 0 (numbersAt cols 0 m)) ≡ 0 + length (elementsFrom g 0 (numbersAt cols 0 (m - 0)))
-  count-begin = ap (λ (v : List ℕ). length (elementsFrom g 0 v)) (numbers-all cols m) ∙ omega arith
+module _ (g : ℕ → ℕ) (cols : List ℕ) (m at : ℕ) where
+  pub places-begin : at + 12 * length (elementsFrom g 0 (numbersAt cols 0 (m - 0))) ≡ at + 12 * length (elementsFrom g 0 (numbersAt cols 0 m))
+  places-begin = ap (λ (v : List ℕ). at + 12 * length (elementsFrom g 0 v)) (sym (numbers-all cols m))
 
-  module _ (whole n i : ℕ) (l : whole ≡ n + length (elementsFrom g i (numbersAt cols i (m - i)))) where
-    pub count-more : (c x : ℕ) → i < m → c ≡ getD cols i 0 → x ≡ elementsOf (g c)
-        → whole ≡ n + x + length (elementsFrom g (i + 1) (numbersAt cols (i + 1) (m - (i + 1))))
-    count-more c x h e f =
+  module _ (whole i : ℕ) (l : at + 12 * length (elementsFrom g i (numbersAt cols i (m - i))) ≡ whole) where
+    pub places-more : (c p : ℕ) → i < m → c ≡ getD cols i 0 → p ≡ at + 12 * elementsOf (g c)
+        → p + 12 * length (elementsFrom g (i + 1) (numbersAt cols (i + 1) (m - (i + 1)))) ≡ whole
+    places-more c p h e f =
         let s = ap (λ (v : List ℕ). length (elementsFrom g i v))
         (numbers-next cols i m h ∙ ap (λ (v : ℕ). v ∷ numbersAt cols (i + 1) (m - (i + 1))) (sym e)) in
         omega (arith, l, s, f, count-split g i c (numbersAt cols (i + 1) (m - (i + 1))))
 
-    pub count-end : i ≡ m → n ≡ whole
-    count-end h =
+    pub places-end : i ≡ m → at ≡ whole
+    places-end h =
         let s : length (elementsFrom g i (numbersAt cols i (m - i))) ≡ 0 =
         unfold elementsFrom in ap (λ (v : List ℕ). length (elementsFrom g i v)) (numbers-none cols i m h) in
         omega (arith, l, s)
@@ -216,14 +227,26 @@ before-elements : putFields beforeElements [] ≡ bytes 4 1
 unfolding beforeElements putFields put bytes
 before-elements = refl
 
+-- the count stands before the elements, and is written when they are
+wrote-behind : (d u : List ℕ) (at j q : ℕ) (x : List ℕ) (ps : List (List ℕ)) → at + length x ≤ j → j ≤ q
+    → Wrote d j ps u q → Wrote (placed d at x) j ps (placed u at x) q
+wrote-behind d u at j q x ps h k o = record {
+  is = λ ts. laid-behind d at j x (ps ++ ts) h ∙ ap (λ (l : List ℕ). placed l at x) (o .is ts) ∙ sym (laid-behind u at q x ts (omega arith));
+}
+
 pub vector-wrote : (g : ℕ → ℕ) (cols d e f w : List ℕ) (at n q : ℕ)
-    → e ≡ placed d at (bytes 4 1) → n ≡ length (elementsFrom g 0 cols) → f ≡ placed e (at + 4) (bytes 4 n)
-    → Wrote f (at + 8) (elementPieces g 0 cols) w q → Wrote d at (vectorPieces g cols) w q
+    → e ≡ placed d at (bytes 4 1) → Wrote e (at + 8) (elementPieces g 0 cols) f q
+    → q ≡ at + 8 + 12 * length (elementsFrom g 0 cols) → n ≡ (q - (at + 8)) / 12 → w ≡ placed f (at + 4) (bytes 4 n)
+    → Wrote d at (vectorPieces g cols) w q
 unfolding vectorPieces
-vector-wrote g cols d e f w at n q p is r o =
-    part-wrote d e f w at (length (elementsFrom g 0 cols)) q (elementPieces g 0 cols) beforeElements 4 (at + 4) (at + 8)
+vector-wrote g cols d e f w at n q p o iq is r =
+    let m = length (elementsFrom g 0 cols) in
+    let c : n ≡ m = omega (arith, is, iq) in
+    let l : at + 4 + length (bytes 4 m) ≤ at + 8 = rw (bytes-length 4 m) (omega arith) in
+    part-wrote d e (placed e (at + 4) (bytes 4 m)) w at m q (elementPieces g 0 cols) beforeElements 4 (at + 4) (at + 8)
     (ap length before-elements ∙ bytes-length 4 1) refl (omega arith)
-    (p ∙ ap (placed d at) (sym before-elements)) (r ∙ ap (λ (v : ℕ). placed e (at + 4) (bytes 4 v)) is) o
+    (p ∙ ap (placed d at) (sym before-elements)) refl
+    (rw (r, c) (wrote-behind e f (at + 4) (at + 8) q (bytes 4 m) (elementPieces g 0 cols) l (omega (arith, iq)) o))
 
 -- ---- the vectors
 

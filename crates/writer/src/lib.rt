@@ -151,29 +151,6 @@ fn write_map(out: &mut [u8], at: usize, ids: &[u64], cols: &[u32], m: u32) -> us
 
 // ---- the clock vectors
 
-// How many elements a cell makes.
-fn elements_of(tick: u64) -> u32
-    ensures { λ r. ⌜ (r ≡ elementsOf tick) × (r ≤ 1) ⌝ }
-{
-    if tick == 0 {
-        return 0;
-    }
-    1
-}
-
-// How many elements a row has in m columns.
-fn count_elements(t: &[u64], k: u32, cols: &[u32], m: u32) -> u32
-    ensures { λ r. ⌜ r ≡ length (elementsFrom (cell (now (t .entry)) k) 0 (numbersAt (now (cols .entry)) 0 m)) ⌝ }
-{
-    let mut n: u32 = 0;
-    let mut i: u32 = 0;
-    while i < m {
-        n += elements_of(tick_at(t, k, number(cols, i)));
-        i += 1;
-    }
-    n
-}
-
 fn write_element(out: &mut [u8], at: usize, key: ReplicaKey, tick: u64)
     requires { ⌜ at + 12 < 2 ^ 64 ⌝ }
     ensures { λ _. ⌜ Wrote (now (out .entry)) at (bytes 4 (key .0) ∷ bytes 8 tick ∷ []) (now (out .exit)) (at + 12) ⌝ }
@@ -185,7 +162,8 @@ fn write_element(out: &mut [u8], at: usize, key: ReplicaKey, tick: u64)
 // The element of a row in a column, if it has a tick there; the place after.
 fn write_cell(out: &mut [u8], at: usize, t: &[u64], k: u32, c: u32, key: ReplicaKey) -> usize
     requires { ⌜ at + 12 < 2 ^ 64 ⌝ }
-    ensures { λ r. ⌜ Wrote (now (out .entry)) at (elementPieces (cell (now (t .entry)) k) (key .0) (c ∷ [])) (now (out .exit)) r × (r ≤ at + 12) ⌝ }
+    ensures { λ r. ⌜ Wrote (now (out .entry)) at (elementPieces (cell (now (t .entry)) k) (key .0) (c ∷ [])) (now (out .exit)) r
+        × (r ≡ at + 12 * elementsOf (cell (now (t .entry)) k c)) ⌝ }
 {
     let tick = tick_at(t, k, c);
     if tick == 0 {
@@ -198,28 +176,30 @@ fn write_cell(out: &mut [u8], at: usize, t: &[u64], k: u32, c: u32, key: Replica
 // The elements of a row in m columns; the place after.
 fn write_elements(out: &mut [u8], at: usize, t: &[u64], k: u32, cols: &[u32], m: u32) -> usize
     requires { ⌜ at + 12 * m < 2 ^ 64 ⌝ }
-    ensures { λ r. ⌜ Wrote (now (out .entry)) at (elementPieces (cell (now (t .entry)) k) 0 (numbersAt (now (cols .entry)) 0 m)) (now (out .exit)) r ⌝ }
+    ensures { λ r. ⌜ Wrote (now (out .entry)) at (elementPieces (cell (now (t .entry)) k) 0 (numbersAt (now (cols .entry)) 0 m)) (now (out .exit)) r
+        × (r ≡ at + 12 * length (elementsFrom (cell (now (t .entry)) k) 0 (numbersAt (now (cols .entry)) 0 m))) ⌝ }
 {
     let mut p = at;
-    let mut i: u32 = 0;
-    while i < m {
-        p = write_cell(out, p, t, k, number(cols, i), ReplicaKey(i));
-        i += 1;
+    let mut key: u32 = 0;
+    while key < m {
+        p = write_cell(out, p, t, k, number(cols, key), ReplicaKey(key));
+        key += 1;
     }
     p
 }
 
-// A row as a clock vector; the place after.
+// A row as a clock vector: the count is written when the elements are; the place after.
 fn write_vector(out: &mut [u8], at: usize, t: &[u64], k: u32, cols: &[u32], m: u32) -> usize
     ensures { λ r. ⌜ Wrote (now (out .entry)) at (vectorPieces (cell (now (t .entry)) k) (numbersAt (now (cols .entry)) 0 m)) (now (out .exit)) r ⌝ }
 {
     if out.len() < at {
         return at;
     }
-    let n = count_elements(t, k, cols, m);
+    let first = at + 8;
     codec::write4(out, at, 1);
-    codec::write4(out, at + 4, n as u64);
-    write_elements(out, at + 8, t, k, cols, m)
+    let end = write_elements(out, first, t, k, cols, m);
+    codec::write4(out, at + 4, ((end - first) / 12) as u64);
+    end
 }
 
 // The clock vectors of v rows; the place after.

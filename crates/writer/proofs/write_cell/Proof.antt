@@ -1,5 +1,5 @@
 -- `writer::write_cell` meets its contract: no element where the tick is 0.
-use Rattle.writer.proofs.Laying.{cell-none, cell-some}
+use Rattle.writer.proofs.Laying.{cell-none, cell-some, none-after, some-after}
 use native.Mathlib.Omega.{arith}
 use Rattle.writer.proofs.write_cell.Statement.{statement}
 use Rattle.writer.proofs.write_cell.Tie as tie
@@ -8,7 +8,7 @@ tick-at-requires : tie.Need-tick-at-requires
 tick-at-requires c κs = tt
 
 returns : tie.Need-returns
-returns c = (cell-none _ _ _ _ _ _ _ (c .before .tick-at .ensures) (c .if1 .taken), omega arith)
+returns c = (cell-none _ _ _ _ _ _ _ (c .before .tick-at .ensures) (c .if1 .taken), none-after _ _ _ _ _ (c .before .tick-at .ensures) (c .if1 .taken))
 
 write-element-requires : tie.Need-write-element-requires
 write-element-requires c κs = omega arith
@@ -20,7 +20,7 @@ same-length : tie.Need-same-length
 same-length c = omega arith
 
 returns-2 : tie.Need-returns-2
-returns-2 c = (cell-some _ _ _ _ _ _ _ (c .before .before .before .before .before .tick-at .ensures) _ _ (c .before .before .before .before .if1 .left) (c .before .before .write-element .ensures), omega arith)
+returns-2 c = (cell-some _ _ _ _ _ _ _ (c .before .before .before .before .before .tick-at .ensures) _ _ (c .before .before .before .before .if1 .left) (c .before .before .write-element .ensures), some-after _ _ _ _ _ (c .before .before .before .before .before .tick-at .ensures) (c .before .before .before .before .if1 .left))
 
 pub write-cell-spec : {M : Type 1} → statement M
 write-cell-spec =
