@@ -60,8 +60,8 @@ fn tick_at(t: &[u64], k: u32, c: u32) -> u64
 fn write_opening(out: &mut [u8], at: usize)
     ensures { λ _. ⌜ now (out .exit) ≡ placed (now (out .entry)) at (putFields opening []) ⌝ }
 {
-    let fields: [u8; 23] = [
-        0,
+    let fields = [
+        0u8,
         0,
         0,
         5,
@@ -91,21 +91,21 @@ fn write_opening(out: &mut [u8], at: usize)
 fn write_before_vectors(out: &mut [u8], at: usize)
     ensures { λ _. ⌜ now (out .exit) ≡ placed (now (out .entry)) at (putFields beforeVectors []) ⌝ }
 {
-    let fields: [u8; 17] = [0, 0, 0, 24, 0, 0, 16, 0, 0, 24, 0, 0, 1, 0, 0, 0, 21];
+    let fields = [0u8, 0, 0, 24, 0, 0, 16, 0, 0, 24, 0, 0, 1, 0, 0, 0, 21];
     codec::copy_part(&fields, 0, 17, out, at);
 }
 
 fn write_before_ranges(out: &mut [u8], at: usize)
     ensures { λ _. ⌜ now (out .exit) ≡ placed (now (out .entry)) at (putFields beforeRanges []) ⌝ }
 {
-    let fields: [u8; 12] = [0, 0, 0, 23, 0, 0, 0, 1, 0, 0, 0, 22];
+    let fields = [0u8, 0, 0, 23, 0, 0, 0, 1, 0, 0, 0, 22];
     codec::copy_part(&fields, 0, 12, out, at);
 }
 
 fn write_closing(out: &mut [u8], at: usize)
     ensures { λ _. ⌜ now (out .exit) ≡ placed (now (out .entry)) at (putFields closing []) ⌝ }
 {
-    let fields: [u8; 13] = [0, 0, 0, 0, 0, 0, 0, 25, 1, 0, 0, 0, 0];
+    let fields = [0u8, 0, 0, 0, 0, 0, 0, 25, 1, 0, 0, 0, 0];
     codec::copy_part(&fields, 0, 13, out, at);
 }
 
@@ -124,7 +124,8 @@ fn write_id(out: &mut [u8], at: usize, ids: &[u64], c: u32)
 // The ids of m columns; the place after.
 fn write_ids(out: &mut [u8], at: usize, ids: &[u64], cols: &[u32], m: u32) -> usize
     requires { ⌜ at + 16 * m < 2 ^ 64 ⌝ }
-    ensures { λ r. ⌜ Wrote (now (out .entry)) at (idPieces (now (ids .entry)) (numbersAt (now (cols .entry)) 0 m)) (now (out .exit)) r ⌝ }
+    ensures { λ r. ⌜ Wrote (now (out .entry)) at (idPieces (now (ids .entry)) (numbersAt (now (cols .entry)) 0 m))
+        (now (out .exit)) r ⌝ }
 {
     let mut p = at;
     let mut i: u32 = 0;
@@ -138,8 +139,8 @@ fn write_ids(out: &mut [u8], at: usize, ids: &[u64], cols: &[u32], m: u32) -> us
 
 // The opening, the count and the ids.
 fn write_map(out: &mut [u8], at: usize, ids: &[u64], cols: &[u32], m: u32) -> usize
-    ensures { λ r. ⌜ Wrote (now (out .entry)) at (putFields opening [] ∷ bytes 4 m ∷ idPieces (now (ids .entry)) (numbersAt (now (cols .entry)) 0 m))
-        (now (out .exit)) r ⌝ }
+    ensures { λ r. ⌜ Wrote (now (out .entry)) at (putFields opening [] ∷ bytes 4 m
+        ∷ idPieces (now (ids .entry)) (numbersAt (now (cols .entry)) 0 m)) (now (out .exit)) r ⌝ }
 {
     if out.len() < at {
         return at;
@@ -162,8 +163,8 @@ fn write_element(out: &mut [u8], at: usize, key: ReplicaKey, tick: u64)
 // The element of a row in a column, if it has a tick there; the place after.
 fn write_cell(out: &mut [u8], at: usize, t: &[u64], k: u32, c: u32, key: ReplicaKey) -> usize
     requires { ⌜ at + 12 < 2 ^ 64 ⌝ }
-    ensures { λ r. ⌜ Wrote (now (out .entry)) at (elementPieces (cell (now (t .entry)) k) (key .0) (c ∷ [])) (now (out .exit)) r
-        × (r ≡ at + 12 * elementsOf (cell (now (t .entry)) k c)) ⌝ }
+    ensures { λ r. ⌜ Wrote (now (out .entry)) at (elementPieces (cell (now (t .entry)) k) (key .0) (c ∷ []))
+        (now (out .exit)) r × (r ≡ at + 12 * elementsOf (cell (now (t .entry)) k c)) ⌝ }
 {
     let tick = tick_at(t, k, c);
     if tick == 0 {
@@ -176,8 +177,8 @@ fn write_cell(out: &mut [u8], at: usize, t: &[u64], k: u32, c: u32, key: Replica
 // The elements of a row in m columns; the place after.
 fn write_elements(out: &mut [u8], at: usize, t: &[u64], k: u32, cols: &[u32], m: u32) -> usize
     requires { ⌜ at + 12 * m < 2 ^ 64 ⌝ }
-    ensures { λ r. ⌜ Wrote (now (out .entry)) at (elementPieces (cell (now (t .entry)) k) 0 (numbersAt (now (cols .entry)) 0 m)) (now (out .exit)) r
-        × (r ≡ at + 12 * length (elementsFrom (cell (now (t .entry)) k) 0 (numbersAt (now (cols .entry)) 0 m))) ⌝ }
+    ensures { λ r. ⌜ Wrote (now (out .entry)) at (elementPieces (cell (now (t .entry)) k) 0 (numbersAt (now (cols .entry)) 0 m))
+        (now (out .exit)) r × (r ≡ at + 12 * length (elementsFrom (cell (now (t .entry)) k) 0 (numbersAt (now (cols .entry)) 0 m))) ⌝ }
 {
     let mut p = at;
     let mut key: u32 = 0;
@@ -190,7 +191,8 @@ fn write_elements(out: &mut [u8], at: usize, t: &[u64], k: u32, cols: &[u32], m:
 
 // A row as a clock vector: the count is written when the elements are; the place after.
 fn write_vector(out: &mut [u8], at: usize, t: &[u64], k: u32, cols: &[u32], m: u32) -> usize
-    ensures { λ r. ⌜ Wrote (now (out .entry)) at (vectorPieces (cell (now (t .entry)) k) (numbersAt (now (cols .entry)) 0 m)) (now (out .exit)) r ⌝ }
+    ensures { λ r. ⌜ Wrote (now (out .entry)) at (vectorPieces (cell (now (t .entry)) k) (numbersAt (now (cols .entry)) 0 m))
+        (now (out .exit)) r ⌝ }
 {
     if out.len() < at {
         return at;
@@ -250,7 +252,8 @@ fn write_vector_list(
 // The bound of a row, and the index of its vector.
 fn write_range(out: &mut [u8], at: usize, bounds: &[u64], k: u32, index: VectorIndex)
     requires { ⌜ at + 28 < 2 ^ 64 ⌝ }
-    ensures { λ _. ⌜ Wrote (now (out .entry)) at (rangePieces (now (bounds .entry)) k (index .0)) (now (out .exit)) (at + 28) ⌝ }
+    ensures { λ _. ⌜ Wrote (now (out .entry)) at (rangePieces (now (bounds .entry)) k (index .0))
+        (now (out .exit)) (at + 28) ⌝ }
 {
     let first = 3 * (k as usize);
     codec::write8(out, at, word(bounds, first));
@@ -269,7 +272,8 @@ fn write_row(
     index: VectorIndex,
 ) -> usize
     requires { ⌜ at + 28 < 2 ^ 64 ⌝ }
-    ensures { λ r. ⌜ Wrote (now (out .entry)) at (rangesPieces (now (bounds .entry)) k before (index .0 ∷ [])) (now (out .exit)) r × (r ≤ at + 28) ⌝ }
+    ensures { λ r. ⌜ Wrote (now (out .entry)) at (rangesPieces (now (bounds .entry)) k before (index .0 ∷ []))
+        (now (out .exit)) r × (r ≤ at + 28) ⌝ }
 {
     if index.0 as u64 == before {
         return at;
@@ -281,7 +285,8 @@ fn write_row(
 // The ranges of n rows; the place after.
 fn write_ranges(out: &mut [u8], at: usize, bounds: &[u64], numbers: &[u32], n: u32) -> usize
     requires { ⌜ at + 28 * n < 2 ^ 64 ⌝ }
-    ensures { λ r. ⌜ Wrote (now (out .entry)) at (rangesPieces (now (bounds .entry)) 1 (n + 1) (numbersAt (now (numbers .entry)) 0 n)) (now (out .exit)) r ⌝ }
+    ensures { λ r. ⌜ Wrote (now (out .entry)) at (rangesPieces (now (bounds .entry)) 1 (n + 1) (numbersAt (now (numbers .entry)) 0 n))
+        (now (out .exit)) r ⌝ }
 {
     let mut p = at;
     let mut i: u32 = 0;
