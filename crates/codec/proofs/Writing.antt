@@ -97,6 +97,46 @@ placed-append d at vs ws h =
     ∙ sym (sets-append d vs ws at)
     ∙ stored d at (vs ++ ws) h
 
+-- bytes that stand before others may be written after them
+set-swap : (l : List ℕ) (i j x y : ℕ) → i < j → set (set l i x) j y ≡ set (set l j y) i x
+set-swap [] i j x y h = refl
+set-swap (z ∷ l) zero zero x y h = absurd (omega arith)
+set-swap (z ∷ l) zero (suc j) x y h = refl
+set-swap (z ∷ l) (suc i) zero x y h = absurd (omega arith)
+set-swap (z ∷ l) (suc i) (suc j) x y h = ap (λ (r : List ℕ). z ∷ r) (set-swap l i j x y (omega arith))
+
+set-sets : (d vs : List ℕ) (at j y : ℕ) → at + length vs ≤ j → set (sets d at vs) j y ≡ sets (set d j y) at vs
+set-sets d [] at j y h = refl
+set-sets d (v ∷ vs) at j y h =
+    set-sets (set d at v) vs (suc at) j y (omega arith)
+    ∙ ap (λ (l : List ℕ). sets l (suc at) vs) (set-swap d at j v y (omega arith))
+
+sets-swap : (d vs ws : List ℕ) (at j : ℕ) → at + length vs ≤ j → sets (sets d at vs) j ws ≡ sets (sets d j ws) at vs
+sets-swap d vs [] at j h = refl
+sets-swap d vs (w ∷ ws) at j h =
+    ap (λ (l : List ℕ). sets l (suc j) ws) (set-sets d vs at j w h)
+    ∙ sets-swap (set d j w) vs ws at (suc j) (omega arith)
+
+pub placed-swap :
+    (d : List ℕ) (at j : ℕ) (vs ws : List ℕ)
+    → at + length vs ≤ j
+    → placed (placed d at vs) j ws ≡ placed (placed d j ws) at vs
+placed-swap d at j vs ws h = go (leb (j + length ws) (length d)) refl
+  where
+    go : (t : Bool) → leb (j + length ws) (length d) ≡ t → placed (placed d at vs) j ws ≡ placed (placed d j ws) at vs
+    go true e =
+        let r : j + length ws ≤ length d = leb-true (j + length ws) (length d) e in
+        let m : at + length vs ≤ length d = omega arith in
+        sym (stored (placed d at vs) j ws (rw (placed-length d at vs) r))
+        ∙ ap (λ (l : List ℕ). sets l j ws) (sym (stored d at vs m))
+        ∙ sets-swap d vs ws at j h
+        ∙ ap (λ (l : List ℕ). sets l at vs) (stored d j ws r)
+        ∙ stored (placed d j ws) at vs (rw (placed-length d j ws) m)
+    go false e =
+        let r : length d < j + length ws = leb-false (j + length ws) (length d) e in
+        sym (placed-out (placed d at vs) j ws (rw (placed-length d at vs) r))
+        ∙ ap (λ (l : List ℕ). placed l at vs) (placed-out d j ws r)
+
 pub eight-stored :
     (d e f : List ℕ) (at x : ℕ)
     → e ≡ sets d at (bytes 4 (x / 4294967296))

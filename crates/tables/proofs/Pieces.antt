@@ -2,23 +2,23 @@
 -- after the other are one list of bytes, which stands where the first begins. This list is what `encode` puts together: each
 -- field of a number is the piece with its bytes, the bytes of an id are those of its words, and the counts are the sizes of
 -- the plan. Past the end of the buffer no piece has room.
-use Prim.Native.Nat.{ℕ, zero, suc, _+_, _*_, _^_, _≤_, _<_}
+use Prim.Native.Nat.{ℕ, zero, suc, _+_, _*_, _≤_, _<_}
 use mathlib.Core.Path.{_≡_, refl, sym, ap, ap₂, _∙_}
 use mathlib.Core.Bool.{Bool, true, false}
-use mathlib.Core.List.{List, [], _∷_, _++_, append-nil, append-assoc}
-use native.Mathlib.Nat.{add-zero, add-assoc}
+use mathlib.Core.List.{List, [], _∷_, _++_, append-assoc}
+use native.Mathlib.Nat.{add-zero}
 use native.Mathlib.Numerals.{add-one}
 use native.Mathlib.Omega.{arith}
 use lib.Dec.{eqb}
 use lib.ListN.{length, getD, drop, length-append}
 use Rattle.codec.specs.Number.{put}
 use Rattle.codec.specs.Part.{placed, bytes}
-use Rattle.codec.specs.Words.{words2, words3}
+use Rattle.codec.specs.Words.{words2}
 use Rattle.codec.proofs.Numbers.{put-append}
 use Rattle.codec.proofs.Words.{put-words2, put-words3}
-use Rattle.codec.proofs.Writing.{nothing, placed-out, placed-length, placed-append}
+use Rattle.codec.proofs.Writing.{nothing, placed-out, placed-length, placed-append, placed-swap}
 use Rattle.layout.specs.Answer.{elements}
-use Rattle.layout.specs.Knowledge.{Element, Range, Knowledge, Field, putFields, putIds, putElements, putVectors, putRanges, encode}
+use Rattle.layout.specs.Knowledge.{Field, putFields, putIds, putElements, putVectors, putRanges, encode}
 use Rattle.layout.specs.Knowledge.{opening, beforeVectors, beforeElements, beforeRanges, closing}
 use Rattle.layout.proofs.Forward.{encode-length}
 use Rattle.tables.specs.declared.Sizes.{Sizes}
@@ -63,6 +63,15 @@ laid-past d at [] h = refl
 laid-past d at (p ∷ ps) h =
     let e : d ≡ placed d at p = placed-past d at p h in
     rw (← e) (laid-past d (at + length p) ps (omega arith))
+
+-- a piece that stands before others may be written after them
+pub laid-behind : (d : List ℕ) (at j : ℕ) (p : List ℕ) (ps : List (List ℕ)) → at + length p ≤ j
+    → laid (placed d at p) j ps ≡ placed (laid d j ps) at p
+unfolding laid
+laid-behind d at j p [] h = refl
+laid-behind d at j p (q ∷ ps) h =
+    ap (λ (l : List ℕ). laid l (j + length q) ps) (placed-swap d at j p q h)
+    ∙ laid-behind (placed d j q) at (j + length q) p ps (omega arith)
 
 -- ---- a piece in front of others is a field in front of their bytes
 

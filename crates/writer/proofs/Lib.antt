@@ -1,0 +1,2 @@
+-- The laws of the writer.
+pub mod Laying

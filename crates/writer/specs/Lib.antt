@@ -1,0 +1,2 @@
+-- The writer's own method.
+pub mod Method
