@@ -1,0 +1,4 @@
+-- The laws of the test of normal form.
+pub mod Conditions
+pub mod Tests
+pub mod ByPlaces
