@@ -16,16 +16,15 @@ use Rattle.layout.specs.Permitted.{largestReplicas, largestRanges}
 use Rattle.layout.specs.Decode.{idsAt, elementsAt, vectorsAt, afterVectors, rangesAt, decode}
 use Rattle.layout.specs.MethodPlaces.{idsPlace, vectorsPlace, rangesPlace, wholeLength, countAt, valueAt}
 use Rattle.layout.proofs.Places.{Reading, places, ids-length, elements-length, vectors-length, after-suc, after-later}
-use Rattle.ticks.specs.Meaning.{Normal, Unused, indices}
+use Rattle.ticks.specs.Meaning.{indices}
 use Rattle.ticks.specs.Written.{isNormal}
-use Rattle.ticks.proofs.Equality.{clash}
 use Rattle.ticks.proofs.FirstUse.{FirstUse, first-below}
 use Rattle.ticks.proofs.Operations.{normal-test}
 use Rattle.lookup.specs.Method.{elementsThere}
 use Rattle.lookup.proofs.Loops.{there-all}
-use Rattle.normal.specs.MethodNormal.{idsRise, markedBy, keysMarked, eachInOrder, vectorHere, vectorsHere, numbered, apart}
+use Rattle.normal.specs.MethodNormal.{idsRise, markedBy, keysMarked, eachInOrder, vectorsHere, numbered, apart}
 use Rattle.normal.specs.MethodNormal.{noMarks, vectorsNormal, usedInOrder, rangesNormal, normalThere, roomy, normalIn}
-use Rattle.normal.proofs.Conditions.{knowledge, Unequal, Apart, Conditions, conditions, conditions-normal}
+use Rattle.normal.proofs.Conditions.{knowledge, Conditions, conditions, conditions-normal}
 use Rattle.normal.proofs.Tests.{both, both-yes, ids-rise, rise-ids, InOrder, each-order, order-each, used-mark, mark-used}
 use Rattle.normal.proofs.Tests.{keys-marked, marked-keys, apart-each, each-apart, Differs, used-first, first-used-in-order}
 
@@ -176,6 +175,13 @@ pub record Roomy (r v : ℕ) : Type 0 where
   pub replicas : r ≤ largestReplicas
   pub vectors : v ≤ largestRanges + 1
 
+-- with limits of at most the largest there is room for everything that is accepted
+pub within-roomy : (R : Rules) (s : List ℕ) (r v e g : ℕ) → Reading R s r v e g → R .limits .replicas ≤ largestReplicas
+    → R .limits .ranges ≤ largestRanges → Roomy r v
+within-roomy R s r v e g h a b =
+    let p = places R s r v e g h in
+    record { replicas = omega (arith, p .replicas); vectors = omega (arith, p .vectors) }
+
 module _ (R : Rules) (s : List ℕ) (r v e g : ℕ) (h : Reading R s r v e g) (room : Roomy r v) where
   is-roomy : roomy s r v e g ≡ true
   unfolding roomy
@@ -184,7 +190,7 @@ module _ (R : Rules) (s : List ℕ) (r v e g : ℕ) (h : Reading R s r v e g) (r
       both-yes (leb r largestReplicas) _ (le-leb r largestReplicas (room .replicas))
       (both-yes (leb 1 v) _ (le-leb 1 v (p .someVector))
       (both-yes (leb (v - 1) largestRanges) _ (le-leb (v - 1) largestRanges (omega (arith, room .vectors)))
-      (le-leb (wholeLength r v e g) (length s) (omega (arith, p .whole)))))
+      (both-yes (leb 1 g) _ (le-leb 1 g (p .someRange)) (le-leb (wholeLength r v e g) (length s) (omega (arith, p .whole))))))
 
   -- vector 0 is empty
   empty-first : getD (vectorsAt s (suc (v - 1)) (vectorsPlace r)) 0 [] ≡ []

@@ -1,15 +1,14 @@
 -- Normal form, for a lawful knowledge: of document 01's list of conditions, those that are left to look at in the bytes
 -- (`Conditions`). The check has found the rest. "In order of first use, each used" is said here for induction, and neighbouring
 -- ranges differ in index, since vectors of unlike indices are unlike.
-use Prim.Native.Nat.{ℕ, zero, suc, _+_, _≤_, _<_}
-use mathlib.Core.Path.{_≡_, refl, sym, ap, _∙_}
+use Prim.Native.Nat.{ℕ, zero, suc, _≤_, _<_}
+use mathlib.Core.Path.{_≡_, refl, sym, ap}
 use mathlib.Core.List.{List, [], _∷_}
 use native.Mathlib.Omega.{arith}
-use lib.Dec.{eqb}
 use lib.ListN.{length, getD}
 use Rattle.layout.specs.Knowledge.{Rules, Element, Range, Knowledge, All, Rising, Lawful, keys, bounds}
 use Rattle.ticks.specs.Meaning.{placeBy, indices, vectorOf, Formed, Normal, Unused}
-use Rattle.ticks.proofs.Lists.{Among, less, same, more, order}
+use Rattle.ticks.proofs.Lists.{less, same, more, order}
 use Rattle.ticks.proofs.FirstUse.{FirstUse, first-below, first-used, first-order}
 use Rattle.ticks.proofs.Numbering.{indices-length}
 use Rattle.ticks.proofs.Written.{among-place}

@@ -2,3 +2,7 @@
 pub mod Conditions
 pub mod Tests
 pub mod ByPlaces
+pub mod Elements
+pub mod Vectors
+pub mod Loops
+pub mod Calls

@@ -169,11 +169,22 @@ unfoldable pub roomy : List ℕ → ℕ → ℕ → ℕ → ℕ → Bool
 roomy s r v e g =
     elim (leb r largestReplicas) [
       | true ↦ elim (leb 1 v) [
-        | true ↦ elim (leb (v - 1) largestRanges) [ true ↦ leb (wholeLength r v e g) (length s) | false ↦ false ]
+        | true ↦ elim (leb (v - 1) largestRanges) [
+          | true ↦ elim (leb 1 g) [ true ↦ leb (wholeLength r v e g) (length s) | false ↦ false ]
+          | false ↦ false
+        ]
         | false ↦ false
       ]
       | false ↦ false
     ]
+
+-- what this test says
+pub record RoomFor (s : List ℕ) (r v e g : ℕ) : Type 0 where
+  pub replicas : r ≤ largestReplicas
+  pub someVector : 1 ≤ v
+  pub vectors : v - 1 ≤ largestRanges
+  pub someRange : 1 ≤ g
+  pub whole : wholeLength r v e g ≤ length s
 
 unfoldable pub normalIn : List ℕ → ℕ → ℕ → ℕ → ℕ → Bool
 normalIn s r v e g = elim (roomy s r v e g) [ true ↦ normalThere s r v e g | false ↦ false ]
