@@ -1,9 +1,10 @@
 -- For bytes that the check accepts, the test by places is the test of normal form (`normal-by-places`). What stands at the places
 -- is the value that was read, with vector 0 empty; so the tests are passed exactly where the conditions hold that the check has
 -- left open (`Conditions`), and these make a lawful knowledge a normal one. The sizes must be at most the largest, for which there
--- is room.
+-- is room (`Roomy`), as they are with limits of at most the largest (`within-roomy`).
 use Prim.Native.Nat.{ℕ, zero, suc, _+_, _-_, _*_, _≤_, _<_}
 use mathlib.Core.Path.{_≡_, refl, sym, ap, ap₂, _∙_, subst}
+use mathlib.Core.Logic.{_↔_}
 use mathlib.Core.Bool.{Bool, true, false}
 use mathlib.Core.List.{List, [], _∷_}
 use native.Mathlib.Omega.{arith}
@@ -11,17 +12,20 @@ use lib.Dec.{eqb, leb}
 use lib.ListN.{length, getD, getD-replicate, length-replicate}
 use borrow.Author.Tests.{le-leb, eq-eqb, eqb-true}
 use Rattle.codec.specs.Number.{beAt}
+use Rattle.codec.specs.Parsed.{accepted, refused}
 use Rattle.layout.specs.Knowledge.{Rules, Element, Range, Knowledge, All, Rising, Lawful, bounds}
 use Rattle.layout.specs.Permitted.{largestReplicas, largestRanges}
 use Rattle.layout.specs.Decode.{idsAt, elementsAt, vectorsAt, afterVectors, rangesAt, decode}
 use Rattle.layout.specs.MethodPlaces.{idsPlace, vectorsPlace, rangesPlace, wholeLength, countAt, valueAt}
+use Rattle.layout.specs.Parse.{parse}
 use Rattle.layout.proofs.Places.{Reading, places, ids-length, elements-length, vectors-length, after-suc, after-later}
-use Rattle.ticks.specs.Meaning.{indices}
+use Rattle.ticks.specs.Meaning.{indices, Normal}
 use Rattle.ticks.specs.Written.{isNormal}
 use Rattle.ticks.proofs.FirstUse.{FirstUse, first-below}
 use Rattle.ticks.proofs.Operations.{normal-test}
 use Rattle.lookup.specs.Method.{elementsThere}
 use Rattle.lookup.proofs.Loops.{there-all}
+use Rattle.normal.specs.Normal.{normalRead, normalBytes}
 use Rattle.normal.specs.MethodNormal.{idsRise, markedBy, keysMarked, eachInOrder, vectorsHere, numbered, apart}
 use Rattle.normal.specs.MethodNormal.{noMarks, vectorsNormal, usedInOrder, rangesNormal, normalThere, roomy, normalIn}
 use Rattle.normal.proofs.Conditions.{knowledge, Conditions, conditions, conditions-normal}
@@ -242,3 +246,16 @@ module _ (R : Rules) (s : List ℕ) (r v e g : ℕ) (h : Reading R s r v e g) (r
   unfolding normalIn
   normal-by-places =
       rw (is-roomy, normalIn) (normal-there ∙ sym (ap isNormal (places R s r v e g h .value ∙ value-is)))
+
+-- What the test says of bytes
+
+-- accepted bytes pass exactly where what they stand for meets document 01's list of conditions
+pub normal-accepted : (R : Rules) (s : List ℕ) (k : Knowledge) → parse R s ≡ accepted k → (normalBytes R s ≡ true) ↔ Normal k
+unfolding normalBytes normalRead
+normal-accepted R s k e =
+    ((λ t. normal-test k .0 (sym (ap normalRead e) ∙ t)), (λ n. ap normalRead e ∙ normal-test k .1 n))
+
+-- refused bytes never pass
+pub normal-refused : (R : Rules) (s : List ℕ) (n : ℕ) → parse R s ≡ refused n → normalBytes R s ≡ false
+unfolding normalBytes normalRead
+normal-refused R s n e = ap normalRead e

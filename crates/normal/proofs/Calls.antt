@@ -33,7 +33,7 @@ use Rattle.normal.specs.MethodNormal.{idsRise, markedBy, keysMarked, vec
 use Rattle.normal.specs.MethodNormal.{wordFrom, VectorsTaken, Worded, unlike, apart, noMarks, vectorsNormal}
 use Rattle.normal.specs.MethodNormal.{usedInOrder, rangesNormal, normalThere, roomy, RoomFor, normalIn}
 use Rattle.normal.proofs.Tests.{both}
-use Rattle.normal.proofs.ByPlaces.{Roomy, within-roomy, normal-by-places}
+use Rattle.normal.proofs.ByPlaces.{Roomy, within-roomy, normal-by-places, normal-refused}
 
 -- Ids
 
@@ -240,9 +240,8 @@ module _ (s : List ℕ) (replicas ranges : ℕ) (c : Checked)
   R = rulesOf replicas ranges
 
   pub refused-normal : (n : ℕ) → c ≡ Refused n → false ≡ normalBytes R s
-  unfolding normalBytes normalRead
   refused-normal n e =
-      sym (ap normalRead (refusing R s n (record {
+      sym (normal-refused R s n (refusing R s n (record {
         permitted = within-permitted replicas ranges largestRecords;
         refuses = sym is ∙ e;
       })))
