@@ -1,0 +1,8 @@
+-- The laws of the test of normal form.
+pub mod Conditions
+pub mod Tests
+pub mod ByPlaces
+pub mod Elements
+pub mod Vectors
+pub mod Loops
+pub mod Calls
