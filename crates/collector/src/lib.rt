@@ -1,14 +1,18 @@
 // The C interface: each function is thin, and its contract says what every byte behind every pointer is afterwards.
+use codec::Answer;
 use layout::Checked;
 use ticks::Contain;
 use ticks::Cover;
 use ticks::Lead;
 ghost use mathlib.Core.Path.{_≡_};
+ghost use lib.ListN.{length};
+ghost use Rattle.codec.specs.Reply.{answer, after, numberOf, writtenOf};
 ghost use Rattle.layout.specs.Knowledge.{basic};
 ghost use Rattle.layout.specs.Parse.{checkedBy};
 ghost use Rattle.layout.specs.Answer.{checkedNumber, checkedSizes};
 ghost use Rattle.ticks.specs.Calls.{containNumber, containValue, containAnswer, leadNumber, leadValue, leadAnswer};
 ghost use Rattle.ticks.specs.Calls.{coverNumber, coverValue, coverAnswer};
+ghost use Rattle.ticks.specs.Calls.{normaliseReply, mergeReply, projectReply};
 
 // Checks a knowledge: its sizes r, v, e and g, or the refusal's number, and then no size changes.
 #[no_mangle]
@@ -109,4 +113,66 @@ pub extern "C" fn sync_cover(
         }
         Cover::Refused(n) => n,
     }
+}
+
+// How a call that writes ends for C: the length through the pointer and 0, or the refusal's number, and then nothing changes.
+fn ended(a: Answer, written: &mut u64) -> u32
+    ensures number { λ r. ⌜ r ≡ numberOf a ⌝ }
+    ensures count { λ _. ⌜ now (written .exit) ≡ writtenOf a (now (written .entry)) ⌝ }
+{
+    match a {
+        Answer::Written(n) => {
+            *written = n as u64;
+            0
+        }
+        Answer::Refused(n) => n,
+    }
+}
+
+// Writes the normal form of a knowledge, and its length; or gives the refusal's number, and then nothing changes.
+#[no_mangle]
+pub extern "C" fn sync_normalise(knowledge: &[u8], out: &mut [u8], written: &mut u64) -> u32
+    ensures number { λ r. ⌜ r ≡ numberOf (answer (normaliseReply basic (now (knowledge .entry))) (length (now (out .entry)))) ⌝ }
+    ensures count { λ _. ⌜ now (written .exit) ≡ writtenOf
+        (answer (normaliseReply basic (now (knowledge .entry))) (length (now (out .entry)))) (now (written .entry)) ⌝ }
+    ensures bytes { λ _. ⌜ now (out .exit) ≡ after (normaliseReply basic (now (knowledge .entry))) (now (out .entry)) ⌝ }
+{
+    let a = operations::normalise(knowledge, out);
+    ended(a, written)
+}
+
+// Writes the knowledge that knows the larger of the ticks that two know, and its length; or gives the refusal's number, and then
+// nothing changes.
+#[no_mangle]
+pub extern "C" fn sync_merge(first: &[u8], second: &[u8], out: &mut [u8], written: &mut u64) -> u32
+    ensures number { λ r. ⌜ r ≡ numberOf
+        (answer (mergeReply basic (now (first .entry)) (now (second .entry))) (length (now (out .entry)))) ⌝ }
+    ensures count { λ _. ⌜ now (written .exit) ≡ writtenOf
+        (answer (mergeReply basic (now (first .entry)) (now (second .entry))) (length (now (out .entry)))) (now (written .entry)) ⌝ }
+    ensures bytes { λ _. ⌜ now (out .exit) ≡ after (mergeReply basic (now (first .entry)) (now (second .entry))) (now (out .entry)) ⌝ }
+{
+    let a = operations::merge(first, second, out);
+    ended(a, written)
+}
+
+// Writes what a knowledge knows from the first id to the last, and its length; or gives the refusal's number, and then nothing
+// changes.
+#[no_mangle]
+pub extern "C" fn sync_project(
+    knowledge: &[u8],
+    first: &[u8],
+    last: &[u8],
+    out: &mut [u8],
+    written: &mut u64,
+) -> u32
+    ensures number { λ r. ⌜ r ≡ numberOf
+        (answer (projectReply basic (now (knowledge .entry)) (now (first .entry)) (now (last .entry))) (length (now (out .entry)))) ⌝ }
+    ensures count { λ _. ⌜ now (written .exit) ≡ writtenOf
+        (answer (projectReply basic (now (knowledge .entry)) (now (first .entry)) (now (last .entry))) (length (now (out .entry))))
+        (now (written .entry)) ⌝ }
+    ensures bytes { λ _. ⌜ now (out .exit) ≡ after
+        (projectReply basic (now (knowledge .entry)) (now (first .entry)) (now (last .entry))) (now (out .entry)) ⌝ }
+{
+    let a = operations::project(knowledge, first, last, out);
+    ended(a, written)
 }

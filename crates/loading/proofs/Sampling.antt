@@ -19,7 +19,7 @@ use Rattle.ticks.proofs.Written.{known-out}
 use Rattle.ticks.proofs.Operations.{known-steady, inside-yes, inside-low, inside-high, raised-own, raised-other}
 use Rattle.tables.specs.MethodWords.{stride}
 use Rattle.tables.specs.MethodPlan.{Sampled}
-use Rattle.loading.specs.Method.{Unlike, Columns, Added, Stops, Raised, Set}
+use Rattle.loading.specs.Method.{Unlike, Columns, Added, Stops, Raised, Set, Begins, at-once, after-one, Ends, at-top, with-one}
 
 -- Between two rows
 
@@ -74,8 +74,8 @@ no-column P n k keys h i p none =
     (λ m. let s = stood p (k .replicas) m in none (getD keys (s .n) 0) (h .below (s .n) (s .inside)) (h .is (s .n) (s .inside) ∙ s .is))
 
 -- columns that were put to those of another map
-later : (P Q : ℕ → ℕ) (n m : ℕ) (ids others keys columns : List ℕ) → Columns P n ids keys → Added P Q n m others columns → Columns Q m ids keys
-later P Q n m ids others keys columns h a = record {
+pub columns-later : (P Q : ℕ → ℕ) (n m : ℕ) (ids others keys columns : List ℕ) → Columns P n ids keys → Added P Q n m others columns → Columns Q m ids keys
+columns-later P Q n m ids others keys columns h a = record {
   size = h .size;
   below = λ j l. omega (arith, h .below j l, a .more);
   is = λ j l. a .kept (getD keys j 0) (h .below j l) ∙ h .is j l;
@@ -130,21 +130,11 @@ sampled-merge a b P Q B T U W m r n keys columns u h add l s z f g = record {
       ap₂ max (first-steady B 1 n 0 highest a (bounds (b .ranges)) s j i p c d e o y)
       (second-steady B 1 n 0 highest b (bounds (a .ranges)) s j i p c d e o y);
   others = λ i p none.
-      ap₂ max (no-column Q r a keys (later P Q m r (a .replicas) (b .replicas) keys columns h add) i p none)
+      ap₂ max (no-column Q r a keys (columns-later P Q m r (a .replicas) (b .replicas) keys columns h add) i p none)
       (no-column Q r b columns (add .columns) i p none);
 }
 
 -- Project
-
--- where the rows begin: at the first item of all, or one row after it
-pub data Begins (from first : ℕ) : Type 0 where
-  at-once : from ≡ 1 → first ≡ 0 → Begins from first
-  after-one : from ≡ 2 → 1 ≤ first → Begins from first
-
--- where they end: at the last item of all, or with one row more, behind the last item of the span
-pub data Ends (B : ℕ → ℕ) (top last n : ℕ) : Type 0 where
-  at-top : n ≡ top → last ≡ highest → Ends B top last n
-  with-one : n ≡ suc top → B (suc top) ≡ suc last → last < highest → Ends B top last n
 
 module _ (k : Knowledge) (P B : ℕ → ℕ) (T U : ℕ → ℕ → ℕ) (r n from top first last : ℕ) (keys : List ℕ) (u : Unlike P r)
     (h : Columns P r (k .replicas) keys) (l : r ≤ stride) (zero-bound : B 1 ≡ 0) (span : first ≤ last) (low : last ≤ highest)
@@ -332,5 +322,5 @@ sampled-raise k own tick P Q B T U W m r n column keys columns u h add l e o s z
   ];
   others = λ i p none.
       raised-other own tick k i p (λ x. none column l (e ∙ sym x))
-      ∙ no-column Q r k keys (later P Q m r (k .replicas) (own ∷ []) keys columns h add) i p none;
+      ∙ no-column Q r k keys (columns-later P Q m r (k .replicas) (own ∷ []) keys columns h add) i p none;
 }

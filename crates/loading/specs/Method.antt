@@ -2,7 +2,7 @@
 -- before and after a step. There is nothing to believe here: the laws say that a table so filled samples known ticks.
 use Rattle.codec.specs.Prelude.{ℕ, suc, max, _+_, _≤_, _<_, _≡_, _⊎_, List, length, getD}
 use Rattle.layout.specs.Knowledge.{Knowledge}
-use Rattle.ticks.specs.Meaning.{known}
+use Rattle.ticks.specs.Meaning.{highest, known}
 use Rattle.tables.specs.MethodWords.{stride}
 
 -- Columns
@@ -38,6 +38,16 @@ pub record Stops (B : ℕ → ℕ) (from top first last : ℕ) (xs ys : List ℕ
       → (k < top → getD xs n 0 < B (suc k)) → ⊥
   pub seconds : (k n : ℕ) → from ≤ k → k ≤ top → n < length ys → B k < getD ys n 0 → getD ys n 0 ≤ last
       → (k < top → getD ys n 0 < B (suc k)) → ⊥
+
+-- where the rows begin: at the first item of all, or one row after it
+pub data Begins (from first : ℕ) : Type 0 where
+  at-once : from ≡ 1 → first ≡ 0 → Begins from first
+  after-one : from ≡ 2 → 1 ≤ first → Begins from first
+
+-- where they end: at the last item of all, or with one row more, behind the last item of the span
+pub data Ends (B : ℕ → ℕ) (top last n : ℕ) : Type 0 where
+  at-top : n ≡ top → last ≡ highest → Ends B top last n
+  with-one : n ≡ suc top → B (suc top) ≡ suc last → last < highest → Ends B top last n
 
 -- Cells
 

@@ -47,7 +47,7 @@ pub record Exchanged (P : ℕ → ℕ) (c i : ℕ) (cols cols' : List ℕ) (d : 
 
 -- a plan of fewer rows takes less room
 abbrev pub few : ℕ
-few = 8
+few = 16
 
 -- a plan is made for a table of at most the largest sizes, where the lists have room: r columns, n rows, and the lengths of the
 -- lists of columns, distinct rows and numbers

@@ -1,0 +1,139 @@
+-- A planned table, judged by the limits, is what the call's reply says: a plan has the sizes of the result, so 11 and 12 are found in
+-- it, and else what is written for it are the result's bytes. So a call that refuses, finds its buffer short or writes has ended as
+-- its reply says.
+use Prim.Native.Nat.{ℕ, suc, _+_, _≤_, _<_}
+use mathlib.Core.Path.{_≡_, refl, sym, ap, _∙_, subst}
+use mathlib.Core.List.{List}
+use native.Mathlib.Omega.{arith}
+use lib.Dec.{ltb}
+use lib.ListN.{length}
+use borrow.Author.Tests.{lt-ltb, le-ltb, le-leb}
+use mathlib.Core.Bool.{true}
+use Rattle.codec.specs.Part.{placed}
+use Rattle.codec.specs.Reply.{Reply, gives, refuses, answer, after}
+use Rattle.codec.specs.declared.Answer.{Answer}
+use Rattle.codec.specs.declared.Answer.the-variants as A
+use Rattle.codec.proofs.Calls.{refused-answer, refused-after, short-answer, short-after, written-answer, written-after}
+use Rattle.layout.specs.Knowledge.{Limits, Rules, Knowledge, encode, basic}
+use Rattle.layout.specs.Permitted.{base, rulesWithin}
+use Rattle.layout.proofs.Within.{basic-within}
+use Rattle.ticks.proofs.Lists.{order, less, same, more}
+use Rattle.tables.specs.declared.Sizes.{Sizes}
+use Rattle.tables.specs.MethodWords.{stride, mostRows, cell, idAt, boundAt, Words}
+use Rattle.tables.specs.MethodPlan.{page, lengthOf, Plans}
+use Rattle.plan.specs.Method.{fits}
+use Rattle.tables.specs.MethodPieces.{laid, pagePieces}
+use Rattle.loading.specs.MethodReply.{resultReply, Tabled}
+use Rattle.loading.proofs.Closing.{result-replicas, result-ranges, result-gives, tabled}
+use Rattle.operations.specs.declared.Prepared.{Prepared}
+use Rattle.operations.specs.declared.Prepared.the-variants as P
+use Rattle.operations.specs.MethodCalls.{judged, Holds, Prepares, Ended, PlanRoom}
+
+-- the cases of what is judged
+
+module _ (L : Limits) (z : Sizes) (n : ℕ) where
+  pub judged-11 : L .replicas < z .replicas → P.Refused 11 ≡ judged L z n
+  unfolding judged
+  judged-11 h = rw (lt-ltb (L .replicas) (z .replicas) h, judged)
+
+  pub judged-12 : z .replicas ≤ L .replicas → L .ranges < z .ranges → P.Refused 12 ≡ judged L z n
+  unfolding judged
+  judged-12 l h = rw (le-ltb (L .replicas) (z .replicas) l, lt-ltb (L .ranges) (z .ranges) h, judged)
+
+  pub judged-ready : z .replicas ≤ L .replicas → z .ranges ≤ L .ranges → P.Ready z n ≡ judged L z n
+  unfolding judged
+  judged-ready l h = rw (le-ltb (L .replicas) (z .replicas) l, le-ltb (L .ranges) (z .ranges) h, judged)
+
+module _ (L : Limits) (k : Knowledge) (z : Sizes) (ids bounds t : List ℕ) (n : ℕ) (cols firsts numbers : List ℕ)
+    (h : Tabled k z ids bounds t n cols firsts numbers) where
+  abbrev Fine : Prepared → Type 0
+  Fine p = Prepares (resultReply L k) ids bounds t cols firsts numbers p
+
+  pub judged-prepares : Fine (judged L z n)
+  judged-prepares =
+      elim (order (L .replicas) (z .replicas)) [
+        | less a ↦ subst Fine (judged-11 L z n a) (record { is = result-replicas L k (omega (arith, h .replicas)) })
+        | same a ↦ ranges (omega arith)
+        | more a ↦ ranges (omega arith)
+      ]
+    where
+      ready : z .replicas ≤ L .replicas → z .ranges ≤ L .ranges → Fine (judged L z n)
+      ready a b =
+          subst Fine (judged-ready L z n a b)
+          (record {
+            is = record {
+              bs = encode k;
+              is = result-gives L k (omega (arith, h .replicas)) (omega (arith, h .ranges));
+              size = h .size;
+              writes = h .writes;
+            };
+          })
+
+      ranges : z .replicas ≤ L .replicas → Fine (judged L z n)
+      ranges a =
+          elim (order (L .ranges) (z .ranges)) [
+            | less b ↦
+                subst Fine (judged-12 L z n a b)
+                (record { is = result-ranges L k (omega (arith, h .replicas)) (omega (arith, h .ranges)) })
+            | same b ↦ ready a (omega arith)
+            | more b ↦ ready a (omega arith)
+          ]
+
+-- How a call ends
+
+module _ (reply : Reply) (out : List ℕ) where
+  pub ended-refused : (n : ℕ) → reply ≡ refuses n → Ended reply out out (A.Refused n)
+  ended-refused n e = record { answers = refused-answer reply out n e; leaves = refused-after reply out n e }
+
+  module _ (ids bounds t cols firsts numbers : List ℕ) (z : Sizes) (n : ℕ) (h : Holds reply ids bounds t cols firsts numbers z n) where
+    pub ended-short : length out < lengthOf z → Ended reply out out (A.Refused 14)
+    ended-short l = record {
+      answers = short-answer reply out (h .bs) (h .is) (omega (arith, h .size));
+      leaves = short-after reply out (h .bs) (h .is) (omega (arith, h .size));
+    }
+
+    pub ended-written : (u : List ℕ) (m : ℕ) → m ≡ lengthOf z → lengthOf z ≤ length out
+        → u ≡ laid out 0 (pagePieces z ids bounds t n cols firsts numbers) → Ended reply out u (A.Written m)
+    ended-written u m e l p = record {
+      answers = ap A.Written (e ∙ sym (h .size)) ∙ written-answer reply out (h .bs) (h .is) (omega (arith, h .size));
+      leaves = written-after reply out (h .bs) (h .is) u (omega (arith, h .size)) (p ∙ h .writes out 0 (omega arith));
+    }
+
+-- what was made ready, by its case
+module _ (reply : Reply) (ids bounds t cols firsts numbers : List ℕ) (p : Prepared) (h : Prepares reply ids bounds t cols firsts numbers p) where
+  pub prepared-ready : (z : Sizes) (n : ℕ) → p ≡ P.Ready z n → Holds reply ids bounds t cols firsts numbers z n
+  prepared-ready z n e = subst (λ q. Prepares reply ids bounds t cols firsts numbers q) e h .is
+
+  pub prepared-refused : (n : ℕ) → p ≡ P.Refused n → reply ≡ refuses n
+  prepared-refused n e = subst (λ q. Prepares reply ids bounds t cols firsts numbers q) e h .is
+
+-- A plan that was made
+
+pub fits-holds : (r n c f x : ℕ) → r ≤ stride → n < mostRows → r ≤ c → n < f → n ≤ x → fits r n c f x ≡ true
+unfolding fits
+fits-holds r n c f x a b d e g = rw (le-leb r stride a, lt-ltb n mostRows b, le-leb r c d, lt-ltb n f e, le-leb n x g, fits)
+
+pub planned-prepares :
+    (L : Limits) (r n : ℕ) (ids bounds t c f x c' f' x' : List ℕ) (z : Sizes) (p : Prepared)
+    → (fits r n (length c) (length f) (length x) ≡ true → Plans (idAt ids) (cell t) r n c f x c' f' x' z)
+    → r ≤ stride
+    → n < mostRows
+    → PlanRoom r n c f x
+    → Words ids
+    → Words bounds
+    → p ≡ judged L z n
+    → (k : Knowledge)
+    → page (idAt ids) (boundAt bounds) (cell t) r n ≡ k
+    → Prepares (resultReply L k) ids bounds t c' f' x' p
+planned-prepares L r n ids bounds t c f x c' f' x' z p plans a b room wi wb e k g =
+    let plan = plans (fits-holds r n (length c) (length f) (length x) a b (room .columns) (room .distinct) (room .rows)) in
+    subst (λ q. Prepares (resultReply L k) ids bounds t c' f' x' q) (sym e)
+    (judged-prepares L k z ids bounds t n c' f' x' (tabled r n ids bounds t c f x c' f' x' z k plan wi wb g))
+
+-- Document 01's limits
+
+pub ended-basic : (call : Rules → Reply) (out u : List ℕ) (a : Answer) → Ended (call (rulesWithin (base .replicas) (base .ranges))) out u a
+    → (a ≡ answer (call basic) (length out)) × (u ≡ after (call basic) out)
+ended-basic call out u a h =
+    let e : call (rulesWithin (base .replicas) (base .ranges)) ≡ call basic = ap call basic-within in
+    (h .answers ∙ ap (λ r. answer r (length out)) e, h .leaves ∙ ap (λ r. after r out) e)

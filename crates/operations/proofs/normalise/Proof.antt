@@ -1,0 +1,26 @@
+-- `operations::normalise` meets its contract: document 01's limits are those of its two numbers.
+use borrow.Author.Needs.{needs}
+use Rattle.ticks.specs.Calls.{normaliseReply}
+use Rattle.operations.proofs.Judged.{ended-basic}
+use Rattle.operations.proofs.normalise.Statement.{statement}
+use Rattle.operations.proofs.normalise.Tie as tie
+use Rattle.operations.proofs.normalise.Reads as reads
+use Rattle.operations.proofs.normalise.Lts as lts
+use Rattle.operations.proofs.normalise_within.Reads as normalise-within-reads
+
+-- src/lib.rt:554:5
+normalise-within-requires : tie.Need-normalise-within-requires
+normalise-within-requires c κs = search needs
+
+-- src/lib.rt:550:1
+same-length : tie.Need-same-length
+same-length c = search needs
+
+-- src/lib.rt:550:1
+returns : tie.Need-returns
+returns c =
+    let e = c .before .before .normalise-within .ensures in
+    ended-basic (λ R. normaliseReply R (c .before .before .before .before .before .before .args .knowledge .now)) _ _ _ e
+
+pub normalise-spec : {M : Type 1} → statement M
+normalise-spec = tie.close (tie.spec normalise-within-requires same-length returns)

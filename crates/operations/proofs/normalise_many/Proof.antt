@@ -1,0 +1,69 @@
+-- `operations::normalise_many` meets its contract: scratch of the largest sizes has room.
+use Prim.Native.Nat.{_*_}
+use native.Mathlib.Omega.{arith}
+use Rattle.tables.specs.MethodWords.{stride, mostRows}
+use Rattle.operations.proofs.Opening.{opened-few-replicas, opened-few-ranges}
+use Rattle.operations.proofs.Scratch.{table-room, plan-room}
+use borrow.Author.Needs.{needs}
+use Rattle.operations.proofs.normalise_many.Statement.{statement}
+use Rattle.operations.proofs.normalise_many.Tie as tie
+use Rattle.operations.proofs.normalise_many.Reads as reads
+use Rattle.operations.proofs.normalise_many.Lts as lts
+use Rattle.operations.proofs.normalise_in.Reads as normalise-in-reads
+
+-- src/lib.rt:531:54
+slice-aggregate-normalise-in : tie.Need-slice-aggregate-normalise-in
+slice-aggregate-normalise-in c = search needs
+
+-- src/lib.rt:531:64
+slice-aggregate-normalise-in-2 : tie.Need-slice-aggregate-normalise-in-2
+slice-aggregate-normalise-in-2 c = search needs
+
+-- src/lib.rt:531:77
+slice-aggregate-normalise-in-3 : tie.Need-slice-aggregate-normalise-in-3
+slice-aggregate-normalise-in-3 c = search needs
+
+-- src/lib.rt:531:85
+slice-aggregate-normalise-in-4 : tie.Need-slice-aggregate-normalise-in-4
+slice-aggregate-normalise-in-4 c = search needs
+
+-- src/lib.rt:531:96
+slice-aggregate-normalise-in-5 : tie.Need-slice-aggregate-normalise-in-5
+slice-aggregate-normalise-in-5 c = search needs
+
+-- src/lib.rt:531:109
+slice-aggregate-normalise-in-6 : tie.Need-slice-aggregate-normalise-in-6
+slice-aggregate-normalise-in-6 c = search needs
+
+-- src/lib.rt:531:5
+normalise-in-requires : tie.Need-normalise-in-requires
+normalise-in-requires c κs =
+    let o = c .before .before .before .before .before .before .before .before .before .pre in
+    let r = opened-few-replicas _ _ _ _ _ o in
+    let g = opened-few-ranges _ _ _ _ _ o in (
+      o,
+      table-room _ _ (2 * stride) (3 * mostRows) (stride * mostRows) (omega (arith, r)) (omega (arith, g)) (omega (arith, r)) (omega (arith, g)) (omega (arith, g)),
+      plan-room _ _ stride mostRows mostRows (omega (arith, r)) (omega (arith, g)) (omega (arith, g)),
+    )
+
+-- src/lib.rt:521:1
+same-length : tie.Need-same-length
+same-length c = search needs
+
+-- src/lib.rt:521:1
+returns : tie.Need-returns
+returns c = search needs
+
+pub normalise-many-spec : {M : Type 1} → statement M
+normalise-many-spec =
+    tie.close
+    (tie.spec
+    slice-aggregate-normalise-in
+    slice-aggregate-normalise-in-2
+    slice-aggregate-normalise-in-3
+    slice-aggregate-normalise-in-4
+    slice-aggregate-normalise-in-5
+    slice-aggregate-normalise-in-6
+    normalise-in-requires
+    same-length
+    returns)

@@ -1,0 +1,46 @@
+-- `operations::prepare` meets its contract: the plan of a table is judged by the limits.
+use native.Mathlib.Omega.{arith}
+use Rattle.layout.specs.Permitted.{rulesWithin}
+use Rattle.tables.specs.MethodWords.{Words}
+use Rattle.operations.proofs.Judged.{planned-prepares}
+use borrow.Author.Needs.{needs}
+use Rattle.operations.proofs.prepare.Statement.{statement}
+use Rattle.operations.proofs.prepare.Tie as tie
+use Rattle.operations.proofs.prepare.Reads as reads
+use Rattle.operations.proofs.prepare.Lts as lts
+use Rattle.operations.proofs.judge.Reads as judge-reads
+use Rattle.plan.proofs.plan.Reads as plan-reads
+
+-- src/lib.rt:443:9
+plan-requires : tie.Need-plan-requires
+plan-requires c κs = search needs
+
+-- src/lib.rt:444:5
+judge-requires : tie.Need-judge-requires
+judge-requires c κs = search needs
+
+-- src/lib.rt:425:1
+same-length : tie.Need-same-length
+same-length c = search needs
+
+-- src/lib.rt:425:1
+same-length-2 : tie.Need-same-length-2
+same-length-2 c = search needs
+
+-- src/lib.rt:425:1
+same-length-3 : tie.Need-same-length-3
+same-length-3 c = search needs
+
+-- src/lib.rt:425:1
+returns : tie.Need-returns
+returns c =
+    let a = c .before .before .before .before .before .before .before .before .before .before .before .before .before .before .before .before .before .args in
+    let wi : Words (a .ids .now) = record { below = λ i. omega (arith, c .before .before .before .before .before .before .before .before .before .before .before .before .before .before .before .before .shared-slice-known .given i) } in
+    let wb : Words (a .bounds .now) = record { below = λ i. omega (arith, c .before .before .before .before .before .before .before .before .before .before .before .before .before .before .before .shared-slice-known2 .given i) } in
+    planned-prepares (rulesWithin (a .replicas) (a .ranges) .limits) (a .q .columns) (a .q .rows) _ _ _ _ _ _ _ _ _ _ _
+    (c .before .before .before .before .before .before .before .plan .ensures .0) (c .before .before .before .before .before .before .before .before .before .before .before .before .before .before .before .before .before .pre .0) (c .before .before .before .before .before .before .before .before .before .before .before .before .before .before .before .before .before .pre .1) (c .before .before .before .before .before .before .before .before .before .before .before .before .before .before .before .before .before .pre .2) wi wb (c .judge .ensures)
+
+pub prepare-spec : {M : Type 1} → statement M
+prepare-spec =
+    tie.close
+    (tie.spec plan-requires judge-requires same-length same-length-2 same-length-3 returns)

@@ -1,0 +1,23 @@
+-- `operations::project` meets its contract: document 01's limits are those of its two numbers.
+use Rattle.ticks.specs.Calls.{projectReply}
+use Rattle.operations.proofs.Judged.{ended-basic}
+use borrow.Author.Needs.{needs}
+use Rattle.operations.proofs.project.Statement.{statement}
+use Rattle.operations.proofs.project.Tie as tie
+use Rattle.operations.proofs.project.Reads as reads
+use Rattle.operations.proofs.project.Lts as lts
+use Rattle.operations.proofs.project_within.Reads as project-within-reads
+
+project-within-requires : tie.Need-project-within-requires
+project-within-requires c κs = search needs
+
+same-length : tie.Need-same-length
+same-length c = search needs
+
+returns : tie.Need-returns
+returns c =
+    let a = c .before .before .before .before .before .before .before .before .args in
+    ended-basic (λ R. projectReply R (a .knowledge .now) (a .first .now) (a .last .now)) _ _ _ (c .before .before .project-within .ensures)
+
+pub project-spec : {M : Type 1} → statement M
+project-spec = tie.close (tie.spec project-within-requires same-length returns)

@@ -1,0 +1,4 @@
+-- The method of the operations.
+pub mod MethodColumns
+pub mod MethodCells
+pub mod MethodCalls
