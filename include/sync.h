@@ -24,8 +24,8 @@ extern "C" {
  * The numbers of the refusals. A knowledge is read from left to right, and the number is that of the first field with a
  * fault. Each id, count, key, tick, bound and index is a field of its own.
  *
- * Where several inputs have a fault, the first knowledge comes before the second, and knowledge before ids. Each function
- * says which numbers it returns.
+ * Where several inputs have a fault, the first knowledge comes before the second, and knowledge before ids. Inputs come
+ * before the result. Each function says which numbers it returns.
  */
 enum sync_refusal {
     /* The bytes end inside the field. At a field this comes before any other number. */
@@ -124,6 +124,45 @@ uint32_t sync_lead(const uint8_t *first, size_t first_n, const uint8_t *second, 
 uint32_t sync_cover(const uint8_t *first_knowledge, size_t first_knowledge_n, const uint8_t *second_knowledge,
                     size_t second_knowledge_n, const uint8_t *first, size_t first_n, const uint8_t *last, size_t last_n,
                     uint32_t *covers);
+
+/*
+ * The functions below write a knowledge in normal form to the front of a buffer: out, which has out_n bytes. The bytes of
+ * the buffer behind the result stay as they were. No result has over 14,933 bytes.
+ */
+
+/*
+ * Writes the normal form of a knowledge, which knows the same ticks.
+ *
+ * Returns 0 and sets *written to the length of the result.
+ *
+ * Else returns the number of the refusal, 1 to 10 for the knowledge, then 12 and 14 for the result, and leaves out and
+ * *written as they were. A knowledge of 64 ranges that begins above the first item id can have 65 in normal form.
+ */
+uint32_t sync_normalise(const uint8_t *knowledge, size_t knowledge_n, uint8_t *out, size_t out_n, uint64_t *written);
+
+/*
+ * Merges two knowledges: writes the knowledge that knows, for every item and every replica, the larger of the ticks that
+ * the two know.
+ *
+ * Returns 0 and sets *written to the length of the result.
+ *
+ * Else returns the number of the refusal, 1 to 10 for the first knowledge, then 1 to 10 for the second, then 11, 12 and 14
+ * for the result, in this order, and leaves out and *written as they were.
+ */
+uint32_t sync_merge(const uint8_t *first, size_t first_n, const uint8_t *second, size_t second_n, uint8_t *out,
+                    size_t out_n, uint64_t *written);
+
+/*
+ * Projects a knowledge onto a span of item ids: writes the knowledge that knows the same ticks for every item from the
+ * first id to the last, both included, and none for any other item. An item id has 24 bytes.
+ *
+ * Returns 0 and sets *written to the length of the result.
+ *
+ * Else returns the number of the refusal, 1 to 10 for the knowledge, then 17 for the ids, also where the first id is above
+ * the last, then 12 and 14 for the result, and leaves out and *written as they were.
+ */
+uint32_t sync_project(const uint8_t *knowledge, size_t knowledge_n, const uint8_t *first, size_t first_n,
+                      const uint8_t *last, size_t last_n, uint8_t *out, size_t out_n, uint64_t *written);
 
 #ifdef __cplusplus
 }

@@ -3,6 +3,7 @@
 
 #include <inttypes.h>
 #include <stdio.h>
+#include <string.h>
 
 #include "sync.h"
 
@@ -120,6 +121,83 @@ static int calls(void)
         && cover(b, 0, last, first, SYNC_CUT, 7);
 }
 
+/* A and B merged: tick 5 of replica P and tick 2 of replica Q everywhere. */
+static const uint8_t merged[] = {
+    0, 0, 0, 5,  0, 0, 0, 0,  0, 0, 0, 1,  0, 0, 0, 0,
+    0, 0, 0, 5,  0,  0, 16,  0, 0, 0, 2,
+    0, 0, 0, 0, 0, 0, 0, 0, 0, 0, 0, 0, 0, 0, 0, 1,
+    0, 0, 0, 0, 0, 0, 0, 0, 0, 0, 0, 0, 0, 0, 0, 2,
+    0, 0, 0, 24,  0,  0, 16,  0,  0, 24,  0,  0, 1,
+    0, 0, 0, 21,  0, 0, 0, 2,
+    0, 0, 0, 1,  0, 0, 0, 0,
+    0, 0, 0, 1,  0, 0, 0, 2,  0, 0, 0, 0,  0, 0, 0, 0, 0, 0, 0, 5,  0, 0, 0, 1,  0, 0, 0, 0, 0, 0, 0, 2,
+    0, 0, 0, 23,  0, 0, 0, 1,  0, 0, 0, 22,  0, 0, 0, 1,
+    0, 0, 0, 0, 0, 0, 0, 0, 0, 0, 0, 0, 0, 0, 0, 0, 0, 0, 0, 0, 0, 0, 0, 0,  0, 0, 0, 1,
+    0, 0, 0, 0,  0, 0, 0, 25,  1,  0, 0, 0, 0
+};
+
+/* A from item 1 to the top: nothing, and from item 1 on tick 5 of replica P. */
+static const uint8_t part[] = {
+    0, 0, 0, 5,  0, 0, 0, 0,  0, 0, 0, 1,  0, 0, 0, 0,
+    0, 0, 0, 5,  0,  0, 16,  0, 0, 0, 1,
+    0, 0, 0, 0, 0, 0, 0, 0, 0, 0, 0, 0, 0, 0, 0, 1,
+    0, 0, 0, 24,  0,  0, 16,  0,  0, 24,  0,  0, 1,
+    0, 0, 0, 21,  0, 0, 0, 2,
+    0, 0, 0, 1,  0, 0, 0, 0,
+    0, 0, 0, 1,  0, 0, 0, 1,  0, 0, 0, 0,  0, 0, 0, 0, 0, 0, 0, 5,
+    0, 0, 0, 23,  0, 0, 0, 1,  0, 0, 0, 22,  0, 0, 0, 2,
+    0, 0, 0, 0, 0, 0, 0, 0, 0, 0, 0, 0, 0, 0, 0, 0, 0, 0, 0, 0, 0, 0, 0, 0,  0, 0, 0, 0,
+    0, 0, 0, 0, 0, 0, 0, 0, 0, 0, 0, 0, 0, 0, 0, 0, 0, 0, 0, 0, 0, 0, 0, 1,  0, 0, 0, 1,
+    0, 0, 0, 0,  0, 0, 0, 25,  1,  0, 0, 0, 0
+};
+
+static const uint8_t one[ITEM] = {0, 0, 0, 0, 0, 0, 0, 0, 0, 0, 0, 0, 0, 0, 0, 0, 0, 0, 0, 0, 0, 0, 0, 1};
+
+/* A buffer that is longer than all results here, and the length written. */
+#define ROOM 300
+static uint8_t out[ROOM];
+static uint64_t written;
+
+/* Forgets what was written. */
+static void forget(void)
+{
+    memset(out, 7, sizeof out);
+    written = 7;
+}
+
+/* Whether a call gave the number, and wrote these n bytes and no others; on a refusal n is 0. */
+static int wrote(const char *call, uint32_t given, uint32_t number, const uint8_t *wanted, size_t n)
+{
+    size_t place;
+    int right = given == number && written == (number == 0 ? n : 7) && memcmp(out, wanted, n) == 0;
+    for (place = n; place < ROOM; place++)
+        right = right && out[place] == 7;
+    if (!right)
+        fprintf(stderr, "header: %s: %" PRIu32 " and length %" PRIu64 ", not %" PRIu32 " and %zu bytes\n",
+                call, given, written, number, n);
+    forget();
+    return right;
+}
+
+static int writing(void)
+{
+    forget();
+    return wrote("normalise", sync_normalise(a, sizeof a, out, ROOM, &written), 0, a, sizeof a)
+        && wrote("normalise", sync_normalise(bytes, LENGTH, out, LENGTH, &written), 0, bytes, LENGTH)
+        && wrote("normalise", sync_normalise(a, 0, out, 0, &written), SYNC_CUT, out, 0)
+        && wrote("normalise", sync_normalise(a, sizeof a, out, sizeof a - 1, &written), SYNC_SHORT_BUFFER, out, 0)
+        && wrote("merge", sync_merge(a, sizeof a, b, sizeof b, out, ROOM, &written), 0, merged, sizeof merged)
+        && wrote("merge", sync_merge(b, sizeof b, a, sizeof a, out, sizeof merged, &written), 0, merged, sizeof merged)
+        && wrote("merge", sync_merge(a, sizeof a, b, sizeof b - 1, out, ROOM, &written), SYNC_CUT, out, 0)
+        && wrote("merge", sync_merge(a, sizeof a, b, sizeof b, out, 0, &written), SYNC_SHORT_BUFFER, out, 0)
+        && wrote("project", sync_project(a, sizeof a, one, ITEM, last, ITEM, out, ROOM, &written), 0, part, sizeof part)
+        && wrote("project", sync_project(a, sizeof a, first, ITEM, last, ITEM, out, ROOM, &written), 0, a, sizeof a)
+        && wrote("project", sync_project(a, sizeof a, last, ITEM, one, ITEM, out, ROOM, &written), SYNC_ARGUMENT, out, 0)
+        && wrote("project", sync_project(a, sizeof a, one, ITEM - 1, last, ITEM, out, ROOM, &written), SYNC_ARGUMENT, out, 0)
+        && wrote("project", sync_project(a, sizeof a, one, ITEM, last, ITEM, out, sizeof part - 1, &written), SYNC_SHORT_BUFFER,
+                 out, 0);
+}
+
 int main(void)
 {
     return right(LENGTH, 0, 0, 1, 0, 1)
@@ -127,5 +205,6 @@ int main(void)
         && right(LENGTH + 1, SYNC_LEFT_OVER, 7, 7, 7, 7)
         && right(0, SYNC_CUT, 7, 7, 7, 7)
         && calls()
+        && writing()
         ? 0 : 1;
 }

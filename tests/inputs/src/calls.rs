@@ -1,6 +1,6 @@
 //! Calls that compare knowledges or look something up in them, with their arguments.
 
-use crate::edits::{boundary_values, disturb, set_a_field, spoil};
+use crate::edits::{boundary_values, damage};
 use crate::knowledge::{Knowledge, item_id, replica_id};
 use crate::meaning::{FIRST_ITEM, ItemId, LAST_ITEM, item_before, next_item};
 use crate::pairs;
@@ -183,7 +183,7 @@ fn damaged<E>(visit: &mut impl Visit<E>) -> Result<(), E> {
 }
 
 /// Bounds of a knowledge, at most so many of them, with the ids next to them and the ends.
-fn items(knowledge: &Knowledge, most: usize) -> Vec<ItemId> {
+pub fn items(knowledge: &Knowledge, most: usize) -> Vec<ItemId> {
     let g = knowledge.ranges.len();
     let mut items = vec![FIRST_ITEM, LAST_ITEM];
     for (place, (bound, _)) in knowledge.ranges.iter().enumerate() {
@@ -226,10 +226,8 @@ fn places<E>(visit: &mut impl Visit<E>) -> Result<(), E> {
     Ok(())
 }
 
-/// Every span between the bounds of a knowledge and the ids next to them, where the second knowledge knows one tick more, or
-/// the first one less, in one range, at one replica.
-fn spans<E>(visit: &mut impl Visit<E>) -> Result<(), E> {
-    const FAMILY: &str = "spans";
+/// Three replicas and six unlike ranges, from the first item on, from a later one, and up to the last one.
+pub fn spread() -> [Knowledge; 3] {
     let mut spread = Knowledge::filled(3, 7, 6);
     for (place, (bound, _)) in spread.ranges.iter_mut().enumerate() {
         *bound = item_id(4 * place as u128);
@@ -240,7 +238,14 @@ fn spans<E>(visit: &mut impl Visit<E>) -> Result<(), E> {
     }
     let mut to_the_top = late.clone();
     to_the_top.ranges[5].0 = LAST_ITEM;
-    for knowledge in [spread, late, to_the_top] {
+    [spread, late, to_the_top]
+}
+
+/// Every span between the bounds of a knowledge and the ids next to them, where the second knowledge knows one tick more, or
+/// the first one less, in one range, at one replica.
+fn spans<E>(visit: &mut impl Visit<E>) -> Result<(), E> {
+    const FAMILY: &str = "spans";
+    for knowledge in spread() {
         let items = items(&knowledge, 6);
         let whole = knowledge.bytes();
         let mut others = vec![whole.clone()];
@@ -294,7 +299,7 @@ pub fn random<E>(seed: u64, count: usize, visit: &mut impl Visit<E>) -> Result<(
         let choice = k % 3;
         let tick = tick(random, pair.0.known(&item, &replica));
         if choice == 2 {
-            order_span(random, &mut arguments);
+            order_span(random, &mut arguments.item, &mut arguments.last_item);
         }
         let family = match random.below(8) {
             0 => {
@@ -343,17 +348,8 @@ impl Arguments {
 
     fn damage_knowledge(&mut self, random: &mut SplitMix64, knowledges: [&Knowledge; 2]) {
         let which = random.below(2);
-        let knowledge = knowledges[which];
         let bytes = if which == 0 { &mut self.first } else { &mut self.second };
-        match random.below(3) {
-            0 => set_a_field(random, &knowledge.write(), bytes),
-            1 => {
-                let mut spoilt = knowledge.clone();
-                spoil(random, &mut spoilt);
-                *bytes = spoilt.bytes();
-            }
-            _ => disturb(random, bytes),
-        }
+        damage(random, knowledges[which], bytes);
     }
 
     fn damage_id(&mut self, random: &mut SplitMix64) {
@@ -368,20 +364,20 @@ impl Arguments {
 }
 
 /// Mostly brings the ends of a span into order; sometimes it becomes one id, or reaches an end.
-fn order_span(random: &mut SplitMix64, arguments: &mut Arguments) {
+pub fn order_span(random: &mut SplitMix64, first: &mut Vec<u8>, last: &mut Vec<u8>) {
     match random.below(16) {
         0 => return,
-        1 | 2 => arguments.last_item.clone_from(&arguments.item),
-        3 => arguments.item = FIRST_ITEM.to_vec(),
-        4 => arguments.last_item = LAST_ITEM.to_vec(),
+        1 | 2 => last.clone_from(first),
+        3 => *first = FIRST_ITEM.to_vec(),
+        4 => *last = LAST_ITEM.to_vec(),
         5 => {
-            arguments.item = FIRST_ITEM.to_vec();
-            arguments.last_item = LAST_ITEM.to_vec();
+            *first = FIRST_ITEM.to_vec();
+            *last = LAST_ITEM.to_vec();
         }
         _ => {}
     }
-    if arguments.item > arguments.last_item {
-        std::mem::swap(&mut arguments.item, &mut arguments.last_item);
+    if *first > *last {
+        std::mem::swap(first, last);
     }
 }
 

@@ -146,6 +146,19 @@ pub fn spoil(random: &mut SplitMix64, knowledge: &mut Knowledge) {
     }
 }
 
+/// Damages the bytes of a knowledge in some way; they may be damaged already.
+pub fn damage(random: &mut SplitMix64, knowledge: &Knowledge, bytes: &mut Vec<u8>) {
+    match random.below(3) {
+        0 => set_a_field(random, &knowledge.write(), bytes),
+        1 => {
+            let mut spoilt = knowledge.clone();
+            spoil(random, &mut spoilt);
+            *bytes = spoilt.bytes();
+        }
+        _ => disturb(random, bytes),
+    }
+}
+
 /// Changes bytes without regard to what they say.
 pub fn disturb(random: &mut SplitMix64, bytes: &mut Vec<u8>) {
     // The sizes of fields and of groups of fields, so that whole ones are often hit.

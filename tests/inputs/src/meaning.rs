@@ -82,7 +82,7 @@ impl Knowledge {
 
     /// The knowledge in normal form that has the given ticks, which change at the given places only and are 0 for all
     /// other replicas.
-    fn with_ticks(
+    pub fn with_ticks(
         mut places: BTreeSet<ItemId>,
         mut replicas: BTreeSet<ReplicaId>,
         tick: impl Fn(&ItemId, &ReplicaId) -> u64,
@@ -139,11 +139,11 @@ impl Knowledge {
             && ticks_say_something
     }
 
-    fn bounds(&self) -> BTreeSet<ItemId> {
+    pub fn bounds(&self) -> BTreeSet<ItemId> {
         self.ranges.iter().map(|(bound, _)| *bound).collect()
     }
 
-    fn replica_set(&self) -> BTreeSet<ReplicaId> {
+    pub fn replica_set(&self) -> BTreeSet<ReplicaId> {
         self.replicas.iter().copied().collect()
     }
 }

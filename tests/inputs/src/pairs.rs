@@ -1,6 +1,7 @@
 //! Knowledges that are related to another one: the same ticks written in another way, and small changes.
 
 use crate::knowledge::Knowledge;
+use crate::limits;
 use crate::meaning::{FIRST_ITEM, ItemId, LAST_ITEM, ReplicaId, item_before, next_item};
 use crate::splitmix::SplitMix64;
 
@@ -28,6 +29,29 @@ pub fn pair(random: &mut SplitMix64) -> (Knowledge, Knowledge) {
         }
     }
     if random.once_in(2) { (first, second) } else { (second, first) }
+}
+
+/// Three random knowledges without fault that have much in common, and four items that do not fall: the ends of a span and those of
+/// a part of it.
+pub struct Three {
+    pub knowledges: [Knowledge; 3],
+    pub items: [ItemId; 4],
+}
+
+impl Three {
+    pub fn new(random: &mut SplitMix64) -> Self {
+        let (first, second) = if random.once_in(8) { limits::pair(random) } else { pair(random) };
+        let mut third = match random.below(4) {
+            0 => one(random),
+            1 => first.projected(&item(random, [&first, &second]), &LAST_ITEM),
+            _ => relaid(random, &second),
+        };
+        lower(random, &mut third);
+        let third = within_limits(third).unwrap_or_else(|| first.clone());
+        let mut items = [(); 4].map(|()| item(random, [&first, &third]));
+        items.sort();
+        Self { knowledges: [first, second, third], items }
+    }
 }
 
 /// A random knowledge, in normal form once in three times.

@@ -6,6 +6,7 @@ use std::env;
 use crate::calls::{self, Call};
 use crate::families;
 use crate::splitmix::SplitMix64;
+use crate::writing::{self, Writing};
 
 /// One input of a run.
 #[derive(Clone, Copy, Debug)]
@@ -18,11 +19,11 @@ pub struct Input<'a> {
 
 /// One call of a run.
 #[derive(Clone, Copy, Debug)]
-pub struct CallInput<'a> {
+pub struct CallInput<C> {
     /// Its place in the run, from 0.
     pub place: usize,
     pub family: &'static str,
-    pub call: Call<'a>,
+    pub call: C,
 }
 
 /// A run: the same plan always gives the same inputs.
@@ -65,13 +66,25 @@ impl Plan {
     }
 
     /// Hands out calls in the same manner, as many as the plan has inputs.
-    pub fn try_for_each_call<E>(&self, mut visit: impl FnMut(CallInput) -> Result<(), E>) -> Result<(), E> {
+    pub fn try_for_each_call<E>(&self, mut visit: impl FnMut(CallInput<Call>) -> Result<(), E>) -> Result<(), E> {
         let mut places = Places::new(self, fixed_calls());
         calls::fixed(&mut |family, call: Call| match places.next_fixed() {
             Some(place) => visit(CallInput { place, family, call }),
             None => Ok(()),
         })?;
         calls::random(self.seed, places.left(), &mut |family, call: Call| {
+            visit(CallInput { place: places.next(), family, call })
+        })
+    }
+
+    /// Hands out calls that write a knowledge in the same manner, as many as the plan has inputs.
+    pub fn try_for_each_writing<E>(&self, mut visit: impl FnMut(CallInput<Writing>) -> Result<(), E>) -> Result<(), E> {
+        let mut places = Places::new(self, fixed_writing());
+        writing::fixed(&mut |family, call: Writing| match places.next_fixed() {
+            Some(place) => visit(CallInput { place, family, call }),
+            None => Ok(()),
+        })?;
+        writing::random(self.seed, places.left(), &mut |family, call: Writing| {
             visit(CallInput { place: places.next(), family, call })
         })
     }
@@ -127,6 +140,15 @@ fn fixed_calls() -> usize {
     count
 }
 
+fn fixed_writing() -> usize {
+    let mut count = 0;
+    let Ok(()) = writing::fixed(&mut |_, _: Writing| {
+        count += 1;
+        Ok::<(), Infallible>(())
+    });
+    count
+}
+
 #[cfg(test)]
 mod tests {
     use std::hash::{DefaultHasher, Hash, Hasher};
@@ -152,6 +174,15 @@ mod tests {
             Ok::<(), Infallible>(())
         });
         assert_eq!(count, fixed_calls());
+
+        let mut count = 0;
+        let Ok(()) = Plan::USUAL.try_for_each_writing(|input| {
+            if !input.family.starts_with("random") {
+                count += 1;
+            }
+            Ok::<(), Infallible>(())
+        });
+        assert_eq!(count, fixed_writing());
     }
 
     #[test]
@@ -173,6 +204,21 @@ mod tests {
             let calls = || {
                 let mut calls = Vec::new();
                 let Ok(()) = Plan { seed: 5, inputs }.try_for_each_call(|input| {
+                    assert_eq!(input.place, calls.len());
+                    let mut hasher = DefaultHasher::new();
+                    input.call.hash(&mut hasher);
+                    calls.push(hasher.finish());
+                    Ok::<(), Infallible>(())
+                });
+                calls
+            };
+            let hashes = calls();
+            assert_eq!(hashes.len(), inputs);
+            assert_eq!(hashes, calls());
+
+            let calls = || {
+                let mut calls = Vec::new();
+                let Ok(()) = Plan { seed: 5, inputs }.try_for_each_writing(|input| {
                     assert_eq!(input.place, calls.len());
                     let mut hasher = DefaultHasher::new();
                     input.call.hash(&mut hasher);

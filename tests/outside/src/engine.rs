@@ -39,10 +39,40 @@ unsafe extern "C" {
         last_length: usize,
         covers: *mut u32,
     ) -> u32;
+
+    fn sync_normalise(
+        knowledge: *const u8,
+        knowledge_length: usize,
+        out: *mut u8,
+        out_length: usize,
+        written: *mut u64,
+    ) -> u32;
+
+    fn sync_merge(
+        first: *const u8,
+        first_length: usize,
+        second: *const u8,
+        second_length: usize,
+        out: *mut u8,
+        out_length: usize,
+        written: *mut u64,
+    ) -> u32;
+
+    fn sync_project(
+        knowledge: *const u8,
+        knowledge_length: usize,
+        first: *const u8,
+        first_length: usize,
+        last: *const u8,
+        last_length: usize,
+        out: *mut u8,
+        out_length: usize,
+        written: *mut u64,
+    ) -> u32;
 }
 
 // SAFETY of each call below: The pointers come from references, so they are not null, those to bytes may be read for the
-// length beside them and the last may be written, and what is written overlaps nothing else.
+// length beside them, the buffers and the last may be written, and what is written overlaps nothing else.
 
 /// Checks a knowledge. Gives 0 and sets r, v, e, g, or gives the number of the refusal and leaves the sizes alone.
 #[inline]
@@ -104,8 +134,55 @@ pub fn cover(first: &[u8], second: &[u8], first_item: &[u8], last_item: &[u8], c
     }
 }
 
+/// Writes the normal form. Gives 0 and sets the length, or gives the number of the refusal.
+#[inline]
+pub fn normalise(knowledge: &[u8], out: &mut [u8], written: &mut u64) -> u32 {
+    unsafe { sync_normalise(knowledge.as_ptr(), knowledge.len(), out.as_mut_ptr(), out.len(), written) }
+}
+
+/// Writes the larger known tick everywhere. Gives 0 and sets the length, or gives the number of the refusal.
+#[inline]
+pub fn merge(first: &[u8], second: &[u8], out: &mut [u8], written: &mut u64) -> u32 {
+    unsafe {
+        sync_merge(first.as_ptr(), first.len(), second.as_ptr(), second.len(), out.as_mut_ptr(), out.len(), written)
+    }
+}
+
+/// Writes the known ticks inside a span. Gives 0 and sets the length, or gives the number of the refusal.
+#[inline]
+pub fn project(knowledge: &[u8], first_item: &[u8], last_item: &[u8], out: &mut [u8], written: &mut u64) -> u32 {
+    unsafe {
+        sync_project(
+            knowledge.as_ptr(),
+            knowledge.len(),
+            first_item.as_ptr(),
+            first_item.len(),
+            last_item.as_ptr(),
+            last_item.len(),
+            out.as_mut_ptr(),
+            out.len(),
+            written,
+        )
+    }
+}
+
 /// The calls of the library that is linked.
 pub struct Linked;
+
+impl crate::writing::Engine for Linked {
+    fn normalise(&self, knowledge: &[u8], out: &mut [u8], written: &mut u64) -> u32 {
+        normalise(knowledge, out, written)
+    }
+
+    fn merge(&self, [first, second]: [&[u8]; 2], out: &mut [u8], written: &mut u64) -> u32 {
+        merge(first, second, out, written)
+    }
+
+    fn project(&self, knowledge: &[u8], span: [&[u8]; 2], out: &mut [u8], written: &mut u64) -> u32 {
+        let [first_item, last_item] = span;
+        project(knowledge, first_item, last_item, out, written)
+    }
+}
 
 impl crate::calls::Engine for Linked {
     fn contain(&self, knowledge: &[u8], item: &[u8], replica: &[u8], tick: u64, contained: &mut u32) -> u32 {

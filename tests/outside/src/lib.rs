@@ -2,8 +2,12 @@
 
 #![deny(unsafe_code)]
 
+mod buffer;
 pub mod calls;
 pub mod compare;
 #[allow(unsafe_code)]
 pub mod engine;
+pub mod laws;
 mod one;
+mod tally;
+pub mod writing;

@@ -64,23 +64,50 @@ fn copied<const N: usize, T: Value>(
     answer: Result<T, u32>,
     engine: &impl Fn([&[u8]; N], &mut T) -> u32,
 ) -> Result<(), String> {
-    let skipped = |argument: usize| (place + 3 * argument) % 8;
-    let memories: [Box<[u8]>; N] = std::array::from_fn(|argument| {
-        let mut memory = vec![0; skipped(argument) + arguments[argument].len()].into_boxed_slice();
-        memory[skipped(argument)..].copy_from_slice(arguments[argument]);
-        memory
-    });
+    let copies = Copies::new(place, arguments);
     let before = T::filled(0x3c);
     let mut value = Box::new(before);
-    let number = engine(std::array::from_fn(|argument| &memories[argument][skipped(argument)..]), &mut value);
+    let number = engine(copies.arguments(), &mut value);
     differ("copied", number, *value, before, answer)?;
-    for (argument, memory) in memories.iter().enumerate() {
-        let (front, back) = memory.split_at(skipped(argument));
-        if front.iter().any(|byte| *byte != 0) || back != arguments[argument] {
-            return Err(format!("the engine changed argument {argument}"));
-        }
+    copies.unchanged(arguments)
+}
+
+/// Copies of arguments, each in memory of its own that ends where it ends.
+pub struct Copies<const N: usize> {
+    place: usize,
+    memories: [Box<[u8]>; N],
+}
+
+impl<const N: usize> Copies<N> {
+    pub fn new(place: usize, arguments: [&[u8]; N]) -> Self {
+        let memories = std::array::from_fn(|argument| {
+            let front = front(place, argument);
+            let mut memory = vec![0; front + arguments[argument].len()].into_boxed_slice();
+            memory[front..].copy_from_slice(arguments[argument]);
+            memory
+        });
+        Self { place, memories }
     }
-    Ok(())
+
+    pub fn arguments(&self) -> [&[u8]; N] {
+        std::array::from_fn(|argument| &self.memories[argument][front(self.place, argument)..])
+    }
+
+    /// The error, where a copy is no longer like its argument.
+    pub fn unchanged(&self, arguments: [&[u8]; N]) -> Result<(), String> {
+        for (argument, memory) in self.memories.iter().enumerate() {
+            let (front, back) = memory.split_at(front(self.place, argument));
+            if front.iter().any(|byte| *byte != 0) || back != arguments[argument] {
+                return Err(format!("the engine changed argument {argument}"));
+            }
+        }
+        Ok(())
+    }
+}
+
+/// How many bytes the memory of a copy has in front of it.
+pub fn front(place: usize, argument: usize) -> usize {
+    (place + 3 * argument) % 8
 }
 
 /// The error, where number or value are not as the answer says.

@@ -1,4 +1,5 @@
-//! The engine and the reference give the same answer on every input and on every call of the run.
+//! The engine and the reference give the same answer on every input and on every call of the run, and the engine's calls that write
+//! keep their laws.
 //!
 //! `SYNC_INPUTS` sets the number of inputs, and of calls; `SYNC_SEED` sets the seed.
 
@@ -20,6 +21,25 @@ fn engine_and_reference_agree_on_the_other_calls() {
     let plan = Plan::from_environment();
     println!("{} calls from seed {}", plan.inputs, plan.seed);
     match outside::calls::run(&plan, &engine::Linked) {
+        Ok(tally) => println!("{tally}"),
+        Err(error) => panic!("{error}"),
+    }
+}
+
+#[test]
+fn engine_and_reference_agree_on_the_calls_that_write() {
+    let plan = Plan::from_environment();
+    println!("{} calls that write from seed {}", plan.inputs, plan.seed);
+    match outside::writing::run(&plan, &engine::Linked) {
+        Ok(tally) => println!("{tally}"),
+        Err(error) => panic!("{error}"),
+    }
+}
+
+#[test]
+fn the_engine_keeps_the_laws_of_the_calls_that_write() {
+    let plan = Plan::from_environment();
+    match outside::laws::run(&plan, &engine::Linked) {
         Ok(tally) => println!("{tally}"),
         Err(error) => panic!("{error}"),
     }

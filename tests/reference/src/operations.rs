@@ -4,8 +4,9 @@ use std::cell::RefCell;
 
 use crate::forward::{self, Forward};
 use crate::ids::Span;
-use crate::table::{FIRST_ITEM, Table};
-use crate::view::{ItemId, REPLICAS, Starts, View};
+use crate::refusal::RESULT_REPLICAS;
+use crate::table::{Columns, FIRST_ITEM, Table};
+use crate::view::{ItemId, REPLICAS, Starts, VECTORS, View};
 
 const LAST_ITEM: ItemId = [255; 24];
 
@@ -36,7 +37,7 @@ pub fn merge(first: &[u8], second: &[u8], out: &mut [u8]) -> Result<usize, u32> 
     let first = View::read(first, &mut first_starts)?;
     let second = View::read(second, &mut second_starts)?;
     TABLE.with_borrow_mut(|table| {
-        merged(table, &first, &second);
+        merged(table, &first, &second)?;
         table.write(out)
     })
 }
@@ -44,39 +45,56 @@ pub fn merge(first: &[u8], second: &[u8], out: &mut [u8]) -> Result<usize, u32> 
 /// Writes the known ticks of a knowledge inside a span.
 fn written(knowledge: &View, span: Span, out: &mut [u8]) -> Result<usize, u32> {
     TABLE.with_borrow_mut(|table| {
-        table.clear(knowledge.replicas().iter());
+        table.clear(knowledge.replicas().iter(), knowledge.ranges().count() + 1);
         let columns = table.columns(knowledge.replicas());
         let mut cursor = Forward::new(knowledge.ranges(), span);
         if *span.first != FIRST_ITEM {
-            table.push(&FIRST_ITEM, |_| {});
+            table.push(&FIRST_ITEM, 0)?;
         }
+        // The row of each vector that was needed before; the first is all 0.
+        const UNKNOWN: u8 = u8::MAX;
+        let mut rows = [UNKNOWN; VECTORS];
+        rows[0] = 0;
         let mut bound = Some(span.first);
         while let Some(from) = bound {
-            table.push(from, |row| raise(row, knowledge, cursor.index(), &columns));
+            let index = cursor.index();
+            if rows[index] == UNKNOWN {
+                rows[index] = table.row(|row| row.set(ticks(knowledge, index, &columns)));
+            }
+            table.push(from, rows[index])?;
             bound = cursor.next_bound();
             cursor.step();
         }
         if let Some(behind) = next_item(span.last) {
-            table.push(&behind, |_| {});
+            table.push(&behind, 0)?;
         }
         table.write(out)
     })
 }
 
 /// Fills a table with the larger known ticks of two knowledges.
-fn merged(table: &mut Table, first: &View, second: &View) {
-    table.clear(first.replicas().iter().chain(second.replicas()));
+#[inline(never)] // the reading of both would take the registers
+fn merged(table: &mut Table, first: &View, second: &View) -> Result<(), u32> {
+    table.clear(first.replicas().iter().chain(second.replicas()), first.ranges().count() + second.ranges().count() + 1);
     let first_columns = table.columns(first.replicas());
     let second_columns = table.columns(second.replicas());
+    if table.width() > REPLICAS {
+        // A replica has a tick in the result where it has one in either, so it is refused before a row is filled.
+        let used = used(first, &first_columns) | used(second, &second_columns);
+        if used.count_ones() as usize > REPLICAS {
+            return Err(RESULT_REPLICAS);
+        }
+    }
     let all = Span { first: &FIRST_ITEM, last: &LAST_ITEM };
     let mut left = Forward::new(first.ranges(), all);
     let mut right = Forward::new(second.ranges(), all);
     let mut bound = Some(&FIRST_ITEM);
     while let Some(from) = bound {
-        table.push(from, |row| {
-            raise(row, first, left.index(), &first_columns);
-            raise(row, second, right.index(), &second_columns);
+        let row = table.row(|row| {
+            row.set(ticks(first, left.index(), &first_columns));
+            row.raise(ticks(second, right.index(), &second_columns));
         });
+        table.push(from, row)?;
         bound = forward::next(&left, &right).and_then(|order| {
             let bound = if order.is_le() { left.next_bound() } else { right.next_bound() };
             if order.is_le() {
@@ -88,15 +106,19 @@ fn merged(table: &mut Table, first: &View, second: &View) {
             bound
         });
     }
+    Ok(())
 }
 
-/// Raises the ticks of a row to those of a vector.
+/// The columns that have a tick in some range, as bits.
+fn used(knowledge: &View, columns: &Columns) -> u32 {
+    let ticks = knowledge.ranges().iter().flat_map(|range| ticks(knowledge, range.index(), columns));
+    ticks.fold(0, |used, (column, tick)| used | u32::from(tick != 0) << column)
+}
+
+/// The ticks of a vector by column.
 #[inline]
-fn raise(row: &mut [u64], knowledge: &View, index: usize, columns: &[u8; REPLICAS]) {
-    for element in knowledge.elements(index) {
-        let tick = &mut row[columns[element.key() % REPLICAS] as usize];
-        *tick = element.tick().max(*tick);
-    }
+fn ticks(knowledge: &View, index: usize, columns: &Columns) -> impl Iterator<Item = (usize, u64)> {
+    knowledge.elements(index).map(|element| (columns[element.key() % REPLICAS] as usize, element.tick()))
 }
 
 /// The id behind an item's; nothing follows the last one.

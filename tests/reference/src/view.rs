@@ -57,6 +57,16 @@ pub struct Ranges<'a>(&'a [[u8; 28]]);
 
 impl<'a> Ranges<'a> {
     #[inline]
+    pub fn count(self) -> usize {
+        self.0.len()
+    }
+
+    #[inline]
+    pub fn iter(self) -> impl Iterator<Item = Range<'a>> {
+        self.0.iter().map(Range)
+    }
+
+    #[inline]
     pub fn get(self, place: usize) -> Option<Range<'a>> {
         self.0.get(place).map(Range)
     }
@@ -119,7 +129,7 @@ pub struct View<'a> {
 
 impl<'a> View<'a> {
     /// Reads a knowledge, or gives the number of its first fault.
-    #[inline]
+    #[inline(always)] // else it is copied from where it is returned
     pub fn read(bytes: &'a [u8], starts: &'a mut Starts) -> Result<Self, u32> {
         let sizes = read(bytes, starts)?;
         let from = |left| &bytes[bytes.len() - left..];

@@ -2,11 +2,14 @@
 
 use std::collections::BTreeMap;
 
-use inputs::{Call, FIRST_ITEM, ItemId, Knowledge, LAST_ITEM, Plan, SplitMix64, item_id, replica_id};
+use inputs::{ItemId, Knowledge, LAST_ITEM, LONGEST, Plan, Room, Writing, item_id};
 use reference::{check, merge, normalise, project};
 
-/// How often each number was given, 0 for acceptance.
-type Counts = BTreeMap<u32, usize>;
+/// Has all fixed calls.
+const PLAN: Plan = Plan { seed: 78, inputs: 70_000 };
+
+/// How often each number was given by each call, 0 for acceptance.
+type Counts = BTreeMap<&'static str, BTreeMap<u32, usize>>;
 
 fn decoded(bytes: &[u8]) -> Result<Knowledge, u32> {
     check(bytes).map(|_| Knowledge::decoded(bytes))
@@ -24,124 +27,58 @@ fn result(knowledge: Knowledge) -> Result<Vec<u8>, u32> {
     Ok(knowledge.bytes())
 }
 
-/// Calls with buffers of many lengths: the bytes come to the front where there is room, and else no byte changes.
-fn compare(counts: &mut Counts, expected: Result<Vec<u8>, u32>, call: impl Fn(&mut [u8]) -> Result<usize, u32>) {
-    let length = expected.as_ref().map_or(0, Vec::len);
-    let shorter = [0, length / 2, length.saturating_sub(1)];
-    for room in shorter.into_iter().chain([length, length + 1, length + 100]) {
-        let mut out = vec![0xa5; room];
-        let answer = call(&mut out);
-        let number = match &expected {
-            Ok(bytes) if bytes.len() <= room => {
-                assert_eq!(answer, Ok(length));
-                assert_eq!(out[..length], bytes[..]);
-                assert!(out[length..].iter().all(|byte| *byte == 0xa5));
-                0
+fn span(first: &[u8], last: &[u8]) -> Result<(ItemId, ItemId), u32> {
+    let [first, last] = [first, last].map(|id| ItemId::try_from(id).map_err(|_| 17u32));
+    let (first, last) = (first?, last?);
+    if first > last { Err(17) } else { Ok((first, last)) }
+}
+
+/// Calls with a buffer: the bytes come to the front where there is room, and else no byte changes. Gives the number.
+fn compare(right: Result<Vec<u8>, u32>, room: Room, call: impl Fn(&mut [u8]) -> Result<usize, u32>) -> u32 {
+    let room = room.length(right.as_ref().ok().map(Vec::len));
+    let mut out = vec![0xa5; room];
+    let answer = call(&mut out);
+    let right = right.and_then(|bytes| if bytes.len() <= room { Ok(bytes) } else { Err(14) });
+    assert_eq!(answer, right.as_ref().map(Vec::len).map_err(|number| *number));
+    let bytes = right.as_deref().unwrap_or(&[]);
+    assert!(out.starts_with(bytes));
+    assert!(out[bytes.len()..].iter().all(|byte| *byte == 0xa5));
+    right.err().unwrap_or(0)
+}
+
+#[test]
+fn as_slowly() {
+    let mut counts = Counts::new();
+    let Ok(()) = PLAN.try_for_each_writing(|input| {
+        let (call, number) = match input.call {
+            Writing::Normalise { knowledge, room } => {
+                let right = decoded(knowledge).and_then(|knowledge| result(knowledge.normalised()));
+                ("normalise", compare(right, room, |out| normalise(knowledge, out)))
             }
-            refused => {
-                let number = refused.as_ref().err().copied().unwrap_or(14);
-                assert_eq!(answer, Err(number));
-                assert!(out.iter().all(|byte| *byte == 0xa5));
-                number
+            Writing::Merge { first, second, room } => {
+                let right = decoded(first).and_then(|first| result(first.merged(&decoded(second)?)));
+                ("merge", compare(right, room, |out| merge(first, second, out)))
+            }
+            Writing::Project { knowledge, first_item, last_item, room } => {
+                let right = decoded(knowledge).and_then(|knowledge| {
+                    let (first, last) = span(first_item, last_item)?;
+                    result(knowledge.projected(&first, &last))
+                });
+                ("project", compare(right, room, |out| project(knowledge, first_item, last_item, out)))
             }
         };
-        *counts.entry(number).or_default() += 1;
-    }
-}
-
-fn compare_normalise(counts: &mut Counts, knowledge: &[u8]) {
-    let expected = decoded(knowledge).and_then(|knowledge| result(knowledge.normalised()));
-    compare(counts, expected, |out| normalise(knowledge, out));
-}
-
-fn compare_merge(counts: &mut Counts, first: &[u8], second: &[u8]) {
-    let expected = decoded(first).and_then(|first| result(first.merged(&decoded(second)?)));
-    compare(counts, expected, |out| merge(first, second, out));
-}
-
-fn compare_project(counts: &mut Counts, knowledge: &[u8], first_item: &[u8], last_item: &[u8]) {
-    let expected = decoded(knowledge).and_then(|knowledge| {
-        let first_item: ItemId = first_item.try_into().map_err(|_| 17u32)?;
-        let last_item: ItemId = last_item.try_into().map_err(|_| 17u32)?;
-        if first_item > last_item { Err(17) } else { result(knowledge.projected(&first_item, &last_item)) }
-    });
-    compare(counts, expected, |out| project(knowledge, first_item, last_item, out));
-}
-
-/// A random knowledge near the limits, with up to 16 of 20 replicas and with many unlike ranges.
-fn large(random: &mut SplitMix64) -> Knowledge {
-    let mut replicas: Vec<_> = (0..20).map(replica_id).collect();
-    random.shuffle(&mut replicas);
-    replicas.truncate(random.between(7, 16));
-    let mut bounds: Vec<u128> = (0..100).collect();
-    random.shuffle(&mut bounds);
-    bounds.truncate(random.between(30, 64));
-    bounds.sort();
-    let tick = |random: &mut SplitMix64| random.below(3) as u64 * random.below(50) as u64;
-    let vectors = (0..65).map(|vector| match vector {
-        0 => Vec::new(),
-        _ => (0..replicas.len() as u32).map(|key| (key, tick(random))).collect(),
-    });
-    let vectors: Vec<Vec<_>> = vectors.collect();
-    let ranges = bounds.into_iter().map(|bound| (item_id(bound), random.below(65) as u32)).collect();
-    Knowledge { replicas, vectors, ranges }
-}
-
-fn numbers(counts: &Counts) -> Vec<u32> {
-    counts.keys().copied().collect()
-}
-
-#[test]
-fn as_slowly_on_the_knowledges_of_calls() {
-    let (mut normalised, mut merged, mut projected) = (Counts::new(), Counts::new(), Counts::new());
-    let Ok(()) = Plan { seed: 78, inputs: 12_000 }.try_for_each_call(|input| {
-        match input.call {
-            Call::Contain { knowledge, .. } => compare_normalise(&mut normalised, knowledge),
-            Call::Lead { first, second, .. } => compare_merge(&mut merged, first, second),
-            Call::Cover { first, first_item, last_item, .. } => {
-                compare_project(&mut projected, first, first_item, last_item);
-            }
-        }
+        *counts.entry(call).or_default().entry(number).or_default() += 1;
         Ok::<(), std::convert::Infallible>(())
     });
-    for counts in [normalised, merged, projected] {
-        assert!((0..=10).chain([14]).all(|number| counts.contains_key(&number)), "{counts:?}");
+    for (call, others) in [("normalise", &[12, 14][..]), ("merge", &[11, 12, 14]), ("project", &[12, 14, 17])] {
+        let numbers: Vec<u32> = (0..=10).chain(others.iter().copied()).collect();
+        assert_eq!(counts[call].keys().copied().collect::<Vec<_>>(), numbers, "{call}: {counts:?}");
     }
-}
-
-#[test]
-fn as_slowly_near_the_limits() {
-    let random = &mut SplitMix64::new(9);
-    let (mut normalised, mut merged, mut projected) = (Counts::new(), Counts::new(), Counts::new());
-    compare_normalise(&mut normalised, &Knowledge::late_start().bytes());
-    let mut other = large(random).bytes();
-    for _ in 0..300 {
-        let knowledge = large(random).bytes();
-        compare_normalise(&mut normalised, &knowledge);
-        compare_merge(&mut merged, &knowledge, &other);
-        for _ in 0..4 {
-            let [a, b] = [(); 2].map(|()| item_id(random.below(102) as u128));
-            compare_project(&mut projected, &knowledge, &a.min(b), &a.max(b));
-        }
-        compare_project(&mut projected, &knowledge, &FIRST_ITEM, &LAST_ITEM);
-        other = knowledge;
-    }
-    let full = Knowledge::filled(2, 65, 64);
-    let mut late = full.clone();
-    late.ranges.iter_mut().for_each(|(bound, _)| bound[0] = 1);
-    for knowledge in [full.bytes(), late.bytes()] {
-        compare_project(&mut projected, &knowledge, &FIRST_ITEM, &item_id(62));
-        compare_project(&mut projected, &knowledge, &FIRST_ITEM, &item_id(70));
-        compare_project(&mut projected, &knowledge, &item_id(1), &LAST_ITEM);
-    }
-    assert_eq!(numbers(&normalised), [0, 12, 14]);
-    assert_eq!(numbers(&merged), [0, 11, 12, 14]);
-    assert_eq!(numbers(&projected), [0, 12, 14]);
 }
 
 #[test]
 fn the_named_instances() {
-    let written = |call: &dyn Fn(&mut [u8]) -> Result<usize, u32>| call(&mut [0; 14_933]);
+    let written = |call: &dyn Fn(&mut [u8]) -> Result<usize, u32>| call(&mut [0; LONGEST]);
     let (a, b) = (Knowledge::a().bytes(), Knowledge::b().bytes());
     assert_eq!(written(&|out| merge(&a, &b, out)), Ok(177), "K4");
     assert_eq!(written(&|out| project(&a, &item_id(1), &item_id(1), out)), Ok(205), "K6");

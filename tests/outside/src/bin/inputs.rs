@@ -1,4 +1,5 @@
-//! Compares the engine with the reference on a run of inputs and one of calls, and says how often each answer was given.
+//! Compares the engine with the reference on a run of inputs, one of calls that look something up and one of calls that write, and
+//! says how often each answer was given; and tries the laws of the calls that write.
 //!
 //! `SYNC_INPUTS` sets the number of inputs, and of calls; `SYNC_SEED` sets the seed.
 
@@ -11,15 +12,17 @@ use outside::{compare, engine};
 fn main() -> ExitCode {
     let plan = Plan::from_environment();
     println!("inputs: {} from seed {}", plan.inputs, plan.seed);
-    let agree = said(compare::run(&plan, engine::check));
-    let agree = said(outside::calls::run(&plan, &engine::Linked)) && agree;
-    if agree { ExitCode::SUCCESS } else { ExitCode::FAILURE }
+    let passed = said(compare::run(&plan, engine::check));
+    let passed = said(outside::calls::run(&plan, &engine::Linked)) && passed;
+    let passed = said(outside::writing::run(&plan, &engine::Linked)) && passed;
+    let passed = said(outside::laws::run(&plan, &engine::Linked)) && passed;
+    if passed { ExitCode::SUCCESS } else { ExitCode::FAILURE }
 }
 
-/// Says how a run ended; gives whether engine and reference agree.
+/// Says how a run ended; gives whether it passed.
 fn said(run: Result<impl Display, String>) -> bool {
     match &run {
-        Ok(tally) => println!("inputs: engine and reference agree; {tally}"),
+        Ok(tally) => println!("inputs: passed: {tally}"),
         Err(error) => eprintln!("inputs: {error}"),
     }
     run.is_ok()

@@ -9,6 +9,7 @@
 mod measure;
 mod row;
 mod sample;
+mod writing;
 
 use std::env;
 
@@ -19,8 +20,15 @@ use sample::{Sample, samples};
 /// The rows of a table that are measured on a sample.
 type Rows = fn(&Sample) -> Vec<Row>;
 
-const TABLES: [(&str, Rows); 4] =
-    [("check", sample::check), ("contain", sample::contain), ("lead", sample::lead), ("cover", sample::cover)];
+const TABLES: [(&str, Rows); 7] = [
+    ("check", sample::check),
+    ("contain", sample::contain),
+    ("lead", sample::lead),
+    ("cover", sample::cover),
+    ("normalise", writing::normalise),
+    ("merge", writing::merge),
+    ("project", writing::project),
+];
 
 fn main() {
     let chosen: Vec<String> = env::args().skip(1).collect();

@@ -6,11 +6,16 @@ use outside::engine;
 
 use crate::measure::Times;
 
+#[derive(Clone, PartialEq)]
 pub enum Asked {
     Check { knowledge: Vec<u8> },
     Contain { knowledge: Vec<u8>, item: Vec<u8>, replica: Vec<u8>, tick: u64 },
     Lead { first: Vec<u8>, second: Vec<u8>, item: Vec<u8>, replica: Vec<u8> },
     Cover { first: Vec<u8>, second: Vec<u8>, first_item: Vec<u8>, last_item: Vec<u8> },
+    // The calls that write have a buffer of so many bytes.
+    Normalise { knowledge: Vec<u8>, room: usize },
+    Merge { first: Vec<u8>, second: Vec<u8>, room: usize },
+    Project { knowledge: Vec<u8>, first_item: Vec<u8>, last_item: Vec<u8>, room: usize },
 }
 
 pub struct Row {
@@ -101,6 +106,29 @@ impl Row {
                     },
                 );
             }
+            Asked::Normalise { knowledge, room } => {
+                let knowledge = &knowledge[..];
+                let engine = |out: &mut [u8], written: &mut u64| engine::normalise(black_box(knowledge), out, written);
+                writing(self.name, number, *room, times, engine, |out| reference::normalise(black_box(knowledge), out));
+            }
+            Asked::Merge { first, second, room } => {
+                let (first, second) = (&first[..], &second[..]);
+                let engine = |out: &mut [u8], written: &mut u64| {
+                    engine::merge(black_box(first), black_box(second), out, written)
+                };
+                writing(self.name, number, *room, times, engine, |out| {
+                    reference::merge(black_box(first), black_box(second), out)
+                });
+            }
+            Asked::Project { knowledge, first_item, last_item, room } => {
+                let (knowledge, first_item, last_item) = (&knowledge[..], &first_item[..], &last_item[..]);
+                let engine = |out: &mut [u8], written: &mut u64| {
+                    engine::project(black_box(knowledge), black_box(first_item), black_box(last_item), out, written)
+                };
+                writing(self.name, number, *room, times, engine, |out| {
+                    reference::project(black_box(knowledge), black_box(first_item), black_box(last_item), out)
+                });
+            }
         }
     }
 
@@ -118,9 +146,39 @@ impl Row {
     /// How many bytes the knowledges have together.
     fn bytes(&self) -> usize {
         match &self.asked {
-            Asked::Check { knowledge } => knowledge.len(),
-            Asked::Contain { knowledge, .. } => knowledge.len(),
-            Asked::Lead { first, second, .. } | Asked::Cover { first, second, .. } => first.len() + second.len(),
+            Asked::Check { knowledge }
+            | Asked::Contain { knowledge, .. }
+            | Asked::Normalise { knowledge, .. }
+            | Asked::Project { knowledge, .. } => knowledge.len(),
+            Asked::Lead { first, second, .. }
+            | Asked::Cover { first, second, .. }
+            | Asked::Merge { first, second, .. } => first.len() + second.len(),
         }
     }
+}
+
+/// Measures one round more of a call that writes. Each side has a buffer of its own.
+fn writing(
+    name: &str,
+    number: u32,
+    room: usize,
+    times: &mut Times,
+    engine: impl Fn(&mut [u8], &mut u64) -> u32,
+    rust: impl Fn(&mut [u8]) -> Result<usize, u32>,
+) {
+    let (mut out, mut rust_out) = (vec![0; room], vec![0; room]);
+    let mut written = 0;
+    let given = engine(&mut out, &mut written);
+    let answer = rust(&mut rust_out);
+    assert_eq!((given, answer.err().unwrap_or(0)), (number, number), "{name}");
+    assert_eq!(answer.unwrap_or(0) as u64, written, "{name}");
+    assert_eq!(out, rust_out, "{name}");
+    times.measure(
+        || {
+            black_box(engine(black_box(&mut out), &mut written));
+        },
+        || {
+            black_box(&rust(black_box(&mut rust_out)));
+        },
+    );
 }

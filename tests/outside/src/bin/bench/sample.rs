@@ -1,4 +1,4 @@
-//! The knowledges that are measured on, and the rows of each table.
+//! The knowledges that are measured on, and the rows of the tables of calls that look something up.
 
 use inputs::{FIRST_ITEM, LAST_ITEM, item_id, replica_id};
 use inputs::{Field, Kind, Knowledge};
@@ -7,12 +7,12 @@ use crate::row::{Asked, Row};
 
 pub struct Sample {
     pub name: &'static str,
-    knowledge: Knowledge,
+    pub knowledge: Knowledge,
     /// Its bytes, and these with a fault.
-    whole: Vec<u8>,
-    cut: Vec<u8>,
-    index_too_high: Vec<u8>,
-    replica_too_many: Vec<u8>,
+    pub whole: Vec<u8>,
+    pub cut: Vec<u8>,
+    pub index_too_high: Vec<u8>,
+    pub replica_too_many: Vec<u8>,
 }
 
 /// The smallest, a middle and the largest size.
