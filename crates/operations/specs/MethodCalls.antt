@@ -5,6 +5,7 @@ use Rattle.codec.specs.Part.{placed}
 use Rattle.codec.specs.Reply.{Reply, gives, refuses, answer, after}
 use Rattle.codec.specs.declared.Answer.{Answer}
 use Rattle.layout.specs.Knowledge.{Limits}
+use Rattle.layout.specs.Permitted.{largestRanges}
 use Rattle.tables.specs.declared.Sizes.{Sizes}
 use Rattle.tables.specs.MethodWords.{stride, mostRows, cell, idAt, boundAt}
 use Rattle.tables.specs.MethodPlan.{lengthOf, Sampled}
@@ -16,6 +17,10 @@ use Rattle.operations.specs.declared.Prepared.the-variants as P
 -- up to so many rows a call takes less room
 abbrev pub few : ℕ
 few = 12
+
+-- rows for one knowledge: row 0, one at the first item, one for each range, and two at the ends of a span
+abbrev pub oneRows : ℕ
+oneRows = largestRanges + 4
 
 -- 11 over the most replicas, 12 over the most ranges, or n rows that are ready
 unfoldable pub judged : Limits → Sizes → ℕ → Prepared

@@ -41,6 +41,9 @@ const KEYS: usize = layout::LARGEST_REPLICAS as usize;
 // up to so many rows a call takes less room
 const FEW: usize = 12;
 
+// rows for one knowledge: row 0, one at the first item, one for each range, and two at the ends of a span
+const ONE: usize = layout::LARGEST_RANGES as usize + 4;
+
 // each word of the top item id
 const TOP: u64 = 18446744073709551615;
 
@@ -589,11 +592,11 @@ fn normalise_many(
     ensures { λ a. ⌜ Ended (normaliseReply (rulesWithin replicas ranges) (now (s .entry))) (now (out .entry)) (now (out .exit)) a ⌝ }
 {
     let mut ids = [0u64; 2 * tables::STRIDE];
-    let mut bounds = [0u64; 3 * tables::ROWS];
-    let mut t = [0u64; tables::STRIDE * tables::ROWS];
+    let mut bounds = [0u64; 3 * ONE];
+    let mut t = [0u64; tables::STRIDE * ONE];
     let mut cols = [0u32; tables::STRIDE];
-    let mut firsts = [0u32; tables::ROWS];
-    let mut numbers = [0u32; tables::ROWS];
+    let mut firsts = [0u32; ONE];
+    let mut numbers = [0u32; ONE];
     normalise_in(
         s,
         r,
@@ -1011,11 +1014,11 @@ fn project_many(
         (now (out .entry)) (now (out .exit)) a ⌝ }
 {
     let mut ids = [0u64; 2 * tables::STRIDE];
-    let mut bounds = [0u64; 3 * tables::ROWS];
-    let mut t = [0u64; tables::STRIDE * tables::ROWS];
+    let mut bounds = [0u64; 3 * ONE];
+    let mut t = [0u64; tables::STRIDE * ONE];
     let mut cols = [0u32; tables::STRIDE];
-    let mut firsts = [0u32; tables::ROWS];
-    let mut numbers = [0u32; tables::ROWS];
+    let mut firsts = [0u32; ONE];
+    let mut numbers = [0u32; ONE];
     project_in(
         s,
         r,

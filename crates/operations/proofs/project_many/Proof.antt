@@ -1,7 +1,8 @@
 -- `operations::project_many` meets its contract: scratch of the largest sizes has room.
 use Prim.Native.Nat.{_*_}
 use native.Mathlib.Omega.{arith}
-use Rattle.tables.specs.MethodWords.{stride, mostRows}
+use Rattle.tables.specs.MethodWords.{stride}
+use Rattle.operations.specs.MethodCalls.{oneRows}
 use Rattle.operations.proofs.Opening.{opened-few-replicas, opened-few-ranges}
 use Rattle.operations.proofs.Scratch.{table-room, plan-room}
 use borrow.Author.Needs.{needs}
@@ -36,9 +37,9 @@ project-in-requires c κs =
     let g = opened-few-ranges _ _ _ _ _ (p .0) in (
       p .0,
       p .1,
-      table-room _ _ (2 * stride) (3 * mostRows) (stride * mostRows) (omega (arith, r)) (omega (arith, g)) (omega (arith, r)) (omega (arith, g))
+      table-room _ _ (2 * stride) (3 * oneRows) (stride * oneRows) (omega (arith, r)) (omega (arith, g)) (omega (arith, r)) (omega (arith, g))
           (omega (arith, g)),
-      plan-room _ _ stride mostRows mostRows (omega (arith, r)) (omega (arith, g)) (omega (arith, g)),
+      plan-room _ _ stride oneRows oneRows (omega (arith, r)) (omega (arith, g)) (omega (arith, g)),
     )
 
 same-length : tie.Need-same-length
