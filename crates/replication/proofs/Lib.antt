@@ -48,3 +48,5 @@ pub mod RefusalsCounts
 pub mod RefusalsJoin
 pub mod RefusalsSettled
 pub mod Runner
+pub mod RecordsInBytes
+pub mod RecordsTable

@@ -12,6 +12,7 @@ pub mod Operate
 pub mod Calls
 pub mod Queries
 pub mod MethodTable
+pub mod MethodRecords
 pub mod Machine
 pub mod Lists
 pub mod Promise
