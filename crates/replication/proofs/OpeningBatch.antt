@@ -4,7 +4,7 @@
 use Prim.Native.Nat.{ℕ, _≤_, _<_}
 use mathlib.Core.Path.{_≡_, refl, sym, ap, ap₂, _∙_}
 use mathlib.Core.Logic.{_⊎_, _↔_}
-use mathlib.Core.Bool.{Bool, true, false}
+use mathlib.Core.Bool.{true, false}
 use mathlib.Core.List.{List}
 use mathlib.Core.Option.{some}
 use native.Mathlib.Omega.{arith}
@@ -18,6 +18,7 @@ use Rattle.layout.specs.Decode.{decode}
 use Rattle.layout.proofs.Places.{Reading}
 use Rattle.ticks.specs.Meaning.{highest, known}
 use Rattle.ticks.specs.Written.{isNormal, eqKnowledge}
+use Rattle.ticks.specs.Table.{inSpan}
 use Rattle.ticks.specs.Operations.{project}
 use Rattle.ticks.specs.Calls.{readAs}
 use Rattle.ticks.proofs.ForCode.{reading}
@@ -26,13 +27,18 @@ use Rattle.ticks.proofs.Operations.{normal-test}
 use Rattle.ticks.proofs.Algebra.{project-same, project-outside}
 use Rattle.replication.specs.Record.{Rec}
 use Rattle.replication.specs.BatchFormat.{Batch}
-use Rattle.replication.specs.OpenBatch.{firstId, lastId, neededLength, learnedLength, batchCount, batchNeeded, batchLearned, batchTable, carried, decodeBatch, validBatch, ifValidBatch, openBatch}
+use Rattle.replication.specs.Reading.{both}
+use Rattle.replication.specs.OpenStore.{versionsIn}
+use Rattle.replication.specs.OpenBatch.{firstId, lastId, neededLength, learnedLength, batchCount, batchNeeded, batchLearned, batchTable}
+use Rattle.replication.specs.OpenBatch.{lacksChange, carried, decodeBatch, ifValidBatch, openBatch}
 use Rattle.replication.specs.MethodTable.{tableAt}
-use Rattle.replication.specs.MethodOpening.{onlyIf, isAccepted, countedAt, orderedAt, everyRec, neededRead, learnedRead, batchAt, unchanged, isBatch}
+use Rattle.replication.specs.MethodOpening.{onlyIf, isAccepted, countedAt, orderedAt, everyRec}
+use Rattle.replication.specs.MethodOpening.{neededRead, learnedRead, batchAt, unchanged, isBatch}
 use Rattle.replication.proofs.Tables.{both-parts, both-holds}
 use Rattle.replication.proofs.BatchBytes.{decode-of, if-valid, batch-read, ReadBatch, ValidBatch, batch-valid-of, batch-valid-parts}
 use Rattle.replication.proofs.ContentsValid.{batch-number}
-use Rattle.replication.proofs.OpeningTables.{fails, opens-if, accepted-is, is-accepted, read-is, counted-length, ordered-read, ordered-valid, read-counted, valid-ordered, ordered-table}
+use Rattle.replication.proofs.OpeningTables.{if-holds, if-fails, fails, opens-if, accepted-is, is-accepted, read-is}
+use Rattle.replication.proofs.OpeningTables.{counted-length, ordered-read, ordered-valid, read-counted, valid-ordered, ordered-table}
 
 -- the tests by their names
 pub record BatchTests (L : Limits) (s : List ℕ) : Type 0 where
@@ -139,6 +145,13 @@ module _ (L : Limits) (s : List ℕ) where
   pub batch-walked : BatchTests L s → tableAt s (batchTable s) ≡ batchAt L s .records
   batch-walked t = ordered-table s 0 (batchCount s) (batchTable s) (t .ordered) ∙ sym batch-records
 
+  -- what a record must meet, by places
+  pub carried-is : (r : Rec) → carried (batchAt L s) r
+      ≡ both (inSpan (firstId s) (lastId s) (r .item))
+      (both (versionsIn (readAs (learnedRead L s)) r) (lacksChange (readAs (neededRead L s)) r))
+  unfolding carried batchAt
+  carried-is r = refl
+
   -- ---- from the tests to the batch
 
   tests-valid : BatchTests L s → ValidBatch L (batchAt L s)
@@ -161,7 +174,7 @@ module _ (L : Limits) (s : List ℕ) where
       (accepted-is (neededRead L s) (t .neededAccepted)) (accepted-is (learnedRead L s) (t .learnedAccepted))
       (ordered-read s 0 (batchCount s) (batchTable s) (t .ordered))
 
-  pub tests-open : BatchTests L s → openBatch L s ≡ accepted (batchAt L s)
+  tests-open : BatchTests L s → openBatch L s ≡ accepted (batchAt L s)
   unfolding openBatch
   tests-open t = ap (ifValidBatch L) (tests-decode t) ∙ if-valid L (batchAt L s) (batch-valid-of L (batchAt L s) (tests-valid t))
 
@@ -217,7 +230,7 @@ module _ (L : Limits) (s : List ℕ) where
           carries = ap (λ (x : Batch). everyRec (carried x) (countedAt s (batchCount s) (batchTable s))) value-is ∙ in-order .1;
         }
 
-  pub open-tests : (b : Batch) → openBatch L s ≡ accepted b → BatchTests L s
+  open-tests : (b : Batch) → openBatch L s ≡ accepted b → BatchTests L s
   open-tests b e = let o = batch-read L s b e in read-tests b (o .0) (batch-valid-parts L b (o .1))
 
   -- ---- opening is the tests and the value
@@ -227,7 +240,17 @@ module _ (L : Limits) (s : List ℕ) where
       opens-if 16 (isBatch L s) (batchAt L s) (openBatch L s) (λ e. tests-open (batch-tests-hold e))
       (λ b e. tests-batch (open-tests b e)) (batch-number L s)
 
+  pub batch-opens : isBatch L s ≡ true → openBatch L s ≡ accepted (batchAt L s)
+  batch-opens e = opened-batch ∙ if-holds 16 (isBatch L s) (batchAt L s) e
+
+  pub batch-refuses : isBatch L s ≡ false → openBatch L s ≡ refused 16
+  batch-refuses e = opened-batch ∙ if-fails 16 (isBatch L s) (batchAt L s) e
+
 -- ---- learned unchanged by projecting, said of ticks
+
+pub unchanged-is : (first last : ℕ) (k : Knowledge) → unchanged first last k ≡ eqKnowledge (project first last k) k
+unfolding unchanged
+unchanged-is first last k = refl
 
 -- it knows nothing of an item outside the span
 abbrev pub NothingOutside : ℕ → ℕ → Knowledge → Type 0
@@ -240,3 +263,11 @@ unchanged-ticks first last k n = (
   λ f.
       ap (λ (x : Knowledge). eqKnowledge x k) (project-same first last k (normal-test k .0 n) f) ∙ eqKnowledge-self k,
 )
+
+-- one tick outside the span is enough for a change, in normal form or not
+pub outside-changes : (first last : ℕ) (k : Knowledge) (i p : ℕ) → i ≤ highest → (i < first) ⊎ (last < i) → 1 ≤ known k i p
+    → unchanged first last k ≡ false
+unfolding unchanged
+outside-changes first last k i p h o t =
+    fails (unchanged first last k)
+    (λ e. omega (arith, project-outside first last k i p (eqKnowledge-sound (project first last k) k e) h o, t))

@@ -4,7 +4,7 @@
 use Prim.Native.Nat.{ℕ, _≤_}
 use mathlib.Core.Path.{_≡_, refl, sym, ap, ap₂, _∙_}
 use mathlib.Core.Logic.{_↔_}
-use mathlib.Core.Bool.{Bool, true, false}
+use mathlib.Core.Bool.{true, false}
 use mathlib.Core.List.{List}
 use mathlib.Core.Option.{some}
 use native.Mathlib.Omega.{arith}
@@ -21,13 +21,15 @@ use Rattle.ticks.specs.Operations.{ownAlike}
 use Rattle.ticks.specs.Calls.{readAs}
 use Rattle.ticks.proofs.ForCode.{reading}
 use Rattle.replication.specs.Formats.{Store}
-use Rattle.replication.specs.OpenStore.{ownId, knowledgeLength, storeCount, storeKnowledge, storeTable, versionsIn, decodeStore, validStore, ifValid, openStore}
+use Rattle.replication.specs.OpenStore.{ownId, knowledgeLength, storeCount, storeKnowledge, storeTable}
+use Rattle.replication.specs.OpenStore.{versionsIn, decodeStore, ifValid, openStore}
 use Rattle.replication.specs.MethodTable.{tableAt}
 use Rattle.replication.specs.MethodOpening.{onlyIf, isAccepted, countedAt, orderedAt, everyRec, storeRead, storeAt, isStore}
 use Rattle.replication.proofs.Tables.{both-parts, both-holds}
 use Rattle.replication.proofs.StoreBytes.{decode-of, if-valid, store-read, ReadStore, ValidStore, store-valid-of, store-valid-parts}
 use Rattle.replication.proofs.ContentsValid.{store-number}
-use Rattle.replication.proofs.OpeningTables.{fails, opens-if, accepted-is, is-accepted, read-is, counted-length, ordered-read, ordered-valid, read-counted, valid-ordered, ordered-table}
+use Rattle.replication.proofs.OpeningTables.{if-holds, if-fails, fails, opens-if, accepted-is, is-accepted, read-is}
+use Rattle.replication.proofs.OpeningTables.{counted-length, ordered-read, ordered-valid, read-counted, valid-ordered, ordered-table}
 
 -- the tests by their names
 pub record StoreTests (L : Limits) (s : List ℕ) : Type 0 where
@@ -126,7 +128,7 @@ module _ (L : Limits) (s : List ℕ) where
       (t .kind) refl refl (t .inside) (accepted-is (storeRead L s) (t .accepts))
       (ordered-read s 0 (storeCount s) (storeTable s) (t .ordered))
 
-  pub tests-open : StoreTests L s → openStore L s ≡ accepted (storeAt L s)
+  tests-open : StoreTests L s → openStore L s ≡ accepted (storeAt L s)
   unfolding openStore
   tests-open t = ap (ifValid L) (tests-decode t) ∙ if-valid L (storeAt L s) (store-valid-of L (storeAt L s) (tests-valid t))
 
@@ -160,7 +162,7 @@ module _ (L : Limits) (s : List ℕ) where
               ap (λ (k : Knowledge). everyRec (versionsIn k) (countedAt s (storeCount s) (storeTable s))) knowledge-is ∙ in-order .1;
         }
 
-  pub open-tests : (st : Store) → openStore L s ≡ accepted st → StoreTests L s
+  open-tests : (st : Store) → openStore L s ≡ accepted st → StoreTests L s
   open-tests st e = let o = store-read L s st e in read-tests st (o .0) (store-valid-parts L st (o .1))
 
   -- ---- opening is the tests and the value
@@ -169,3 +171,9 @@ module _ (L : Limits) (s : List ℕ) where
   opened-store =
       opens-if 15 (isStore L s) (storeAt L s) (openStore L s) (λ e. tests-open (store-tests-hold e))
       (λ st e. tests-store (open-tests st e)) (store-number L s)
+
+  pub store-opens : isStore L s ≡ true → openStore L s ≡ accepted (storeAt L s)
+  store-opens e = opened-store ∙ if-holds 15 (isStore L s) (storeAt L s) e
+
+  pub store-refuses : isStore L s ≡ false → openStore L s ≡ refused 15
+  store-refuses e = opened-store ∙ if-fails 15 (isStore L s) (storeAt L s) e
