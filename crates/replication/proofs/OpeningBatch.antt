@@ -32,7 +32,7 @@ use Rattle.replication.specs.OpenStore.{versionsIn}
 use Rattle.replication.specs.OpenBatch.{firstId, lastId, neededLength, learnedLength, batchCount, batchNeeded, batchLearned, batchTable}
 use Rattle.replication.specs.OpenBatch.{lacksChange, carried, decodeBatch, ifValidBatch, openBatch}
 use Rattle.replication.specs.MethodTable.{tableAt}
-use Rattle.replication.specs.MethodOpening.{onlyIf, isAccepted, countedAt, orderedAt, everyRec}
+use Rattle.replication.specs.MethodOpening.{acceptedIf, isAccepted, countedAt, orderedAt, everyRec}
 use Rattle.replication.specs.MethodOpening.{neededRead, learnedRead, batchAt, unchanged, isBatch}
 use Rattle.replication.proofs.Tables.{both-parts, both-holds}
 use Rattle.replication.proofs.BatchBytes.{decode-of, if-valid, batch-read, ReadBatch, ValidBatch, batch-valid-of, batch-valid-parts}
@@ -235,7 +235,7 @@ module _ (L : Limits) (s : List ℕ) where
 
   -- ---- opening is the tests and the value
 
-  pub opened-batch : openBatch L s ≡ onlyIf 16 (isBatch L s) (batchAt L s)
+  pub opened-batch : openBatch L s ≡ acceptedIf 16 (isBatch L s) (batchAt L s)
   opened-batch =
       opens-if 16 (isBatch L s) (batchAt L s) (openBatch L s) (λ e. tests-open (batch-tests-hold e))
       (λ b e. tests-batch (open-tests b e)) (batch-number L s)

@@ -24,7 +24,7 @@ use Rattle.replication.specs.Formats.{Store}
 use Rattle.replication.specs.OpenStore.{ownId, knowledgeLength, storeCount, storeKnowledge, storeTable}
 use Rattle.replication.specs.OpenStore.{versionsIn, decodeStore, ifValid, openStore}
 use Rattle.replication.specs.MethodTable.{tableAt}
-use Rattle.replication.specs.MethodOpening.{onlyIf, isAccepted, countedAt, orderedAt, everyRec, storeRead, storeAt, isStore}
+use Rattle.replication.specs.MethodOpening.{acceptedIf, isAccepted, countedAt, orderedAt, everyRec, storeRead, storeAt, isStore}
 use Rattle.replication.proofs.Tables.{both-parts, both-holds}
 use Rattle.replication.proofs.StoreBytes.{decode-of, if-valid, store-read, ReadStore, ValidStore, store-valid-of, store-valid-parts}
 use Rattle.replication.proofs.ContentsValid.{store-number}
@@ -167,7 +167,7 @@ module _ (L : Limits) (s : List ℕ) where
 
   -- ---- opening is the tests and the value
 
-  pub opened-store : openStore L s ≡ onlyIf 15 (isStore L s) (storeAt L s)
+  pub opened-store : openStore L s ≡ acceptedIf 15 (isStore L s) (storeAt L s)
   opened-store =
       opens-if 15 (isStore L s) (storeAt L s) (openStore L s) (λ e. tests-open (store-tests-hold e))
       (λ st e. tests-store (open-tests st e)) (store-number L s)

@@ -19,20 +19,20 @@ use Rattle.ticks.specs.Calls.{readAs}
 use Rattle.replication.specs.Record.{Rec}
 use Rattle.replication.specs.Reading.{both, whole, recAt, behind, recsAt, front, validRec, validRecs}
 use Rattle.replication.specs.MethodTable.{tableAt}
-use Rattle.replication.specs.MethodOpening.{onlyIf, isAccepted, countedAt, orderedAt, everyRec}
+use Rattle.replication.specs.MethodOpening.{acceptedIf, isAccepted, countedAt, orderedAt, everyRec}
 use Rattle.replication.proofs.Tables.{both-parts, both-holds}
 use Rattle.replication.proofs.RecordBytes.{recs-end, recs-more, front-some, more-back, end-back}
 use Rattle.replication.proofs.QueriesPlaces.{table-read}
 
 -- ---- values under a test
 
-pub if-holds : {A : Type 0} (n : ℕ) (t : Bool) (x : A) → t ≡ true → onlyIf n t x ≡ accepted x
-unfolding onlyIf
-if-holds n t x e = ap (λ (b : Bool). onlyIf n b x) e
+pub if-holds : {A : Type 0} (n : ℕ) (t : Bool) (x : A) → t ≡ true → acceptedIf n t x ≡ accepted x
+unfolding acceptedIf
+if-holds n t x e = ap (λ (b : Bool). acceptedIf n b x) e
 
-pub if-fails : {A : Type 0} (n : ℕ) (t : Bool) (x : A) → t ≡ false → onlyIf n t x ≡ refused n
-unfolding onlyIf
-if-fails n t x e = ap (λ (b : Bool). onlyIf n b x) e
+pub if-fails : {A : Type 0} (n : ℕ) (t : Bool) (x : A) → t ≡ false → acceptedIf n t x ≡ refused n
+unfolding acceptedIf
+if-fails n t x e = ap (λ (b : Bool). acceptedIf n b x) e
 
 -- a test that cannot be true is false
 pub fails : (t : Bool) → (t ≡ true → ⊥) → t ≡ false
@@ -41,10 +41,10 @@ fails false n = refl
 
 -- a value that opens exactly where a test holds, and is refused with one number only
 pub opens-if : {A : Type 0} (n : ℕ) (t : Bool) (x : A) (p : Parsed A) → (t ≡ true → p ≡ accepted x)
-    → ((y : A) → p ≡ accepted y → t ≡ true) → ((m : ℕ) → p ≡ refused m → m ≡ n) → p ≡ onlyIf n t x
+    → ((y : A) → p ≡ accepted y → t ≡ true) → ((m : ℕ) → p ≡ refused m → m ≡ n) → p ≡ acceptedIf n t x
 opens-if n t x p f g h = go t refl p refl
   where
-    go : (b : Bool) → t ≡ b → (q : _) → p ≡ q → p ≡ onlyIf n t x
+    go : (b : Bool) → t ≡ b → (q : _) → p ≡ q → p ≡ acceptedIf n t x
     go true e q d = f e ∙ sym (if-holds n t x e)
     go false e (accepted y) d = absurd (let z : _≡_ {A = ℕ} 0 1 = cc (g y d) in omega arith)
     go false e (refused m) d = d ∙ ap refused (h m d) ∙ sym (if-fails n t x e)

@@ -17,9 +17,9 @@ use Rattle.replication.specs.OpenBatch.{firstId, lastId, neededLength, l
 use Rattle.replication.specs.OpenBatch.{carried}
 
 -- the value where the test holds, else the number
-unfoldable pub onlyIf : {A : Type 0} → ℕ → Bool → A → Parsed A
-onlyIf n true x = accepted x
-onlyIf n false x = refused n
+unfoldable pub acceptedIf : {A : Type 0} → ℕ → Bool → A → Parsed A
+acceptedIf n true x = accepted x
+acceptedIf n false x = refused n
 
 unfoldable pub isAccepted : {A : Type 0} → Parsed A → Bool
 isAccepted (accepted x) = true
