@@ -85,7 +85,7 @@ unfolding decodeBatch
 tests-hold L s e l = rw (eq-eqb (beAt s 1 0) 4 e, le-leb (batchTable s) (length s) l, decodeBatch)
 
 -- bytes whose parts are known are read as a batch
-decode-of : (L : Limits) (s : List ℕ) (n m c : ℕ) (k l : Knowledge) (rs : List Rec) → beAt s 1 0 ≡ 4 → neededLength s ≡ n → learnedLength s ≡ m →
+pub decode-of : (L : Limits) (s : List ℕ) (n m c : ℕ) (k l : Knowledge) (rs : List Rec) → beAt s 1 0 ≡ 4 → neededLength s ≡ n → learnedLength s ≡ m →
     batchCount s ≡ c → batchNeeded + n + m ≤ length s → parse (anyId L) (take n (drop batchNeeded s)) ≡ accepted k →
     parse (anyId L) (take m (drop (batchNeeded + n) s)) ≡ accepted l → recsAt s c (batchNeeded + n + m) ≡ some rs →
     decodeBatch L s ≡ some (record { first = firstId s; last = lastId s; needed = k; learned = l; records = rs })
@@ -110,7 +110,7 @@ batch-decode L b p f =
     (recs-read s (batchNeeded + n + m) (b .records) (f .records) (at-records b))
     ∙ ap₂ (λ (x y : ℕ). some (record { first = x; last = y; needed = b .needed; learned = b .learned; records = b .records })) (w .1 .0) (w .1 .1 .0)
 
-if-valid : (L : Limits) (b : Batch) → validBatch L b ≡ true → ifValidBatch L (some b) ≡ accepted b
+pub if-valid : (L : Limits) (b : Batch) → validBatch L b ≡ true → ifValidBatch L (some b) ≡ accepted b
 unfolding ifValidBatch
 if-valid L b v = rw (v, ifValidBatch)
 

@@ -33,6 +33,9 @@ pub mod AgreeAsked
 pub mod Demand3
 pub mod Settled
 pub mod QueriesPlaces
+pub mod OpeningTables
+pub mod OpeningStore
+pub mod OpeningBatch
 pub mod QueriesWalk
 pub mod QueriesWinner
 pub mod QueriesCoverage

@@ -78,7 +78,7 @@ unfolding decodeStore
 tests-hold L s e l = rw (eq-eqb (beAt s 1 0) 3 e, le-leb (storeTable s) (length s) l, decodeStore)
 
 -- bytes whose parts are known are read as a store
-decode-of : (L : Limits) (s : List ℕ) (n c : ℕ) (k : Knowledge) (rs : List Rec) → beAt s 1 0 ≡ 3 → knowledgeLength s ≡ n → storeCount s ≡ c →
+pub decode-of : (L : Limits) (s : List ℕ) (n c : ℕ) (k : Knowledge) (rs : List Rec) → beAt s 1 0 ≡ 3 → knowledgeLength s ≡ n → storeCount s ≡ c →
     storeKnowledge + n ≤ length s → parse (anyId L) (take n (drop storeKnowledge s)) ≡ accepted k → recsAt s c (storeKnowledge + n) ≡ some rs →
     decodeStore L s ≡ some (record { own = ownId s; knowledge = k; records = rs })
 unfolding storeFrom storeWith
@@ -99,7 +99,7 @@ store-decode L st p f =
     (recs-read s (storeKnowledge + length (encode k)) (st .records) (f .records) (at-records st))
     ∙ ap (λ (x : ℕ). some (record { own = x; knowledge = k; records = st .records })) (w .1 .0)
 
-if-valid : (L : Limits) (st : Store) → validStore L st ≡ true → ifValid L (some st) ≡ accepted st
+pub if-valid : (L : Limits) (st : Store) → validStore L st ≡ true → ifValid L (some st) ≡ accepted st
 unfolding ifValid
 if-valid L st v = rw (v, ifValid)
 
