@@ -32,13 +32,15 @@ use Rattle.replication.specs.OpenStore.{versionsIn}
 use Rattle.replication.specs.OpenBatch.{firstId, lastId, neededLength, learnedLength, batchCount, batchNeeded, batchLearned, batchTable}
 use Rattle.replication.specs.OpenBatch.{lacksChange, carried, decodeBatch, ifValidBatch, openBatch}
 use Rattle.replication.specs.MethodTable.{tableAt}
-use Rattle.replication.specs.MethodOpening.{acceptedIf, isAccepted, countedAt, orderedAt, everyRec}
+use Rattle.replication.specs.MethodRecords.{recordsAt, shapedAt, each}
+use Rattle.replication.specs.MethodOpening.{acceptedIf, isAccepted}
 use Rattle.replication.specs.MethodOpening.{neededRead, learnedRead, batchAt, unchanged, isBatch}
 use Rattle.replication.proofs.Tables.{both-parts, both-holds}
 use Rattle.replication.proofs.BatchBytes.{decode-of, if-valid, batch-read, ReadBatch, ValidBatch, batch-valid-of, batch-valid-parts}
+use Rattle.replication.proofs.RecordsTable.{count-records}
 use Rattle.replication.proofs.ContentsValid.{batch-number}
 use Rattle.replication.proofs.OpeningTables.{if-holds, if-fails, fails, opens-if, accepted-is, is-accepted, read-is}
-use Rattle.replication.proofs.OpeningTables.{counted-length, ordered-read, ordered-valid, read-counted, valid-ordered, ordered-table}
+use Rattle.replication.proofs.OpeningTables.{ordered-read, ordered-valid, read-counted, valid-ordered, ordered-table}
 
 -- the tests by their names
 pub record BatchTests (L : Limits) (s : List ℕ) : Type 0 where
@@ -47,13 +49,13 @@ pub record BatchTests (L : Limits) (s : List ℕ) : Type 0 where
   pub inside : batchTable s ≤ length s
   pub count : batchCount s ≤ L .records
   pub span : firstId s ≤ lastId s
-  pub ordered : orderedAt s 0 (batchCount s) (batchTable s) ≡ true
+  pub ordered : shapedAt s 0 (batchCount s) (batchTable s) ≡ true
   pub neededAccepted : isAccepted (neededRead L s) ≡ true
   pub neededNormal : isNormal (readAs (neededRead L s)) ≡ true
   pub learnedAccepted : isAccepted (learnedRead L s) ≡ true
   pub learnedNormal : isNormal (readAs (learnedRead L s)) ≡ true
   pub projected : unchanged (firstId s) (lastId s) (readAs (learnedRead L s)) ≡ true
-  pub carries : everyRec (carried (batchAt L s)) (countedAt s (batchCount s) (batchTable s)) ≡ true
+  pub carries : each (carried (batchAt L s)) (recordsAt s (batchCount s) (batchTable s)) ≡ true
 
 module _ (L : Limits) (s : List ℕ) where
   pub tests-batch : BatchTests L s → isBatch L s ≡ true
@@ -78,7 +80,7 @@ module _ (L : Limits) (s : List ℕ) where
       let c = both-parts (leb (batchTable s) (length s)) _ (b .1) in
       let d = both-parts (leb (batchCount s) (L .records)) _ (c .1) in
       let f = both-parts (leb (firstId s) (lastId s)) _ (d .1) in
-      let g = both-parts (orderedAt s 0 (batchCount s) (batchTable s)) _ (f .1) in
+      let g = both-parts (shapedAt s 0 (batchCount s) (batchTable s)) _ (f .1) in
       let h = both-parts (isAccepted (neededRead L s)) _ (g .1) in
       let i = both-parts (isNormal (readAs (neededRead L s))) _ (h .1) in
       let j = both-parts (isAccepted (learnedRead L s)) _ (i .1) in
@@ -124,7 +126,7 @@ module _ (L : Limits) (s : List ℕ) where
   unfolding batchAt
   batch-learned = refl
 
-  pub batch-records : batchAt L s .records ≡ countedAt s (batchCount s) (batchTable s)
+  pub batch-records : batchAt L s .records ≡ recordsAt s (batchCount s) (batchTable s)
   unfolding batchAt
   batch-records = refl
 
@@ -158,7 +160,7 @@ module _ (L : Limits) (s : List ℕ) where
   unfolding batchAt unchanged
   tests-valid t =
       record {
-        count = omega (arith, t .count, counted-length s (batchCount s) (batchTable s));
+        count = omega (arith, t .count, count-records s (batchCount s) (batchTable s));
         span = t .span;
         needed = t .neededNormal;
         learned = t .learnedNormal;
@@ -170,7 +172,7 @@ module _ (L : Limits) (s : List ℕ) where
   unfolding batchAt
   tests-decode t =
       decode-of L s (neededLength s) (learnedLength s) (batchCount s) (readAs (neededRead L s)) (readAs (learnedRead L s))
-      (countedAt s (batchCount s) (batchTable s)) (t .kind) refl refl refl (t .inside)
+      (recordsAt s (batchCount s) (batchTable s)) (t .kind) refl refl refl (t .inside)
       (accepted-is (neededRead L s) (t .neededAccepted)) (accepted-is (learnedRead L s) (t .learnedAccepted))
       (ordered-read s 0 (batchCount s) (batchTable s) (t .ordered))
 
@@ -187,7 +189,7 @@ module _ (L : Limits) (s : List ℕ) where
     learned-is : readAs (learnedRead L s) ≡ b .learned
     learned-is = read-is (learnedRead L s) (b .learned) (h .learned)
 
-    records-are : countedAt s (batchCount s) (batchTable s) ≡ b .records
+    records-are : recordsAt s (batchCount s) (batchTable s) ≡ b .records
     records-are = read-counted s (batchCount s) (batchTable s) (b .records) (h .records)
 
     value-is : batchAt L s ≡ b
@@ -200,12 +202,12 @@ module _ (L : Limits) (s : List ℕ) where
       records = records-are i;
     }
 
-    in-order : (orderedAt s 0 (batchCount s) (batchTable s) ≡ true)
-        × (everyRec (carried b) (countedAt s (batchCount s) (batchTable s)) ≡ true)
+    in-order : (shapedAt s 0 (batchCount s) (batchTable s) ≡ true)
+        × (each (carried b) (recordsAt s (batchCount s) (batchTable s)) ≡ true)
     in-order = valid-ordered (carried b) s 0 (batchCount s) (batchTable s) (b .records) (h .records) (v .records)
 
     counted : batchCount s ≡ length (b .records)
-    counted = sym (counted-length s (batchCount s) (batchTable s)) ∙ ap length records-are
+    counted = sym (count-records s (batchCount s) (batchTable s)) ∙ ap length records-are
 
     same-span : unchanged (firstId s) (lastId s) (readAs (learnedRead L s)) ≡ true
     unfolding unchanged
@@ -227,7 +229,7 @@ module _ (L : Limits) (s : List ℕ) where
           learnedAccepted = is-accepted (learnedRead L s) (b .learned) (h .learned);
           learnedNormal = ap isNormal learned-is ∙ v .learned;
           projected = same-span;
-          carries = ap (λ (x : Batch). everyRec (carried x) (countedAt s (batchCount s) (batchTable s))) value-is ∙ in-order .1;
+          carries = ap (λ (x : Batch). each (carried x) (recordsAt s (batchCount s) (batchTable s))) value-is ∙ in-order .1;
         }
 
   open-tests : (b : Batch) → openBatch L s ≡ accepted b → BatchTests L s

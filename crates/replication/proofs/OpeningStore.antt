@@ -24,12 +24,14 @@ use Rattle.replication.specs.Formats.{Store}
 use Rattle.replication.specs.OpenStore.{ownId, knowledgeLength, storeCount, storeKnowledge, storeTable}
 use Rattle.replication.specs.OpenStore.{versionsIn, decodeStore, ifValid, openStore}
 use Rattle.replication.specs.MethodTable.{tableAt}
-use Rattle.replication.specs.MethodOpening.{acceptedIf, isAccepted, countedAt, orderedAt, everyRec, storeRead, storeAt, isStore}
+use Rattle.replication.specs.MethodRecords.{recordsAt, shapedAt, each}
+use Rattle.replication.specs.MethodOpening.{acceptedIf, isAccepted, storeRead, storeAt, isStore}
 use Rattle.replication.proofs.Tables.{both-parts, both-holds}
 use Rattle.replication.proofs.StoreBytes.{decode-of, if-valid, store-read, ReadStore, ValidStore, store-valid-of, store-valid-parts}
+use Rattle.replication.proofs.RecordsTable.{count-records}
 use Rattle.replication.proofs.ContentsValid.{store-number}
 use Rattle.replication.proofs.OpeningTables.{if-holds, if-fails, fails, opens-if, accepted-is, is-accepted, read-is}
-use Rattle.replication.proofs.OpeningTables.{counted-length, ordered-read, ordered-valid, read-counted, valid-ordered, ordered-table}
+use Rattle.replication.proofs.OpeningTables.{ordered-read, ordered-valid, read-counted, valid-ordered, ordered-table}
 
 -- the tests by their names
 pub record StoreTests (L : Limits) (s : List ℕ) : Type 0 where
@@ -37,11 +39,11 @@ pub record StoreTests (L : Limits) (s : List ℕ) : Type 0 where
   pub kind : beAt s 1 0 ≡ 3
   pub inside : storeTable s ≤ length s
   pub count : storeCount s ≤ L .records
-  pub ordered : orderedAt s 0 (storeCount s) (storeTable s) ≡ true
+  pub ordered : shapedAt s 0 (storeCount s) (storeTable s) ≡ true
   pub accepts : isAccepted (storeRead L s) ≡ true
   pub normal : isNormal (readAs (storeRead L s)) ≡ true
   pub alike : ownAlike (ownId s) (readAs (storeRead L s)) ≡ true
-  pub versions : everyRec (versionsIn (readAs (storeRead L s))) (countedAt s (storeCount s) (storeTable s)) ≡ true
+  pub versions : each (versionsIn (readAs (storeRead L s))) (recordsAt s (storeCount s) (storeTable s)) ≡ true
 
 module _ (L : Limits) (s : List ℕ) where
   pub tests-store : StoreTests L s → isStore L s ≡ true
@@ -61,7 +63,7 @@ module _ (L : Limits) (s : List ℕ) where
       let b = both-parts (eqb (beAt s 1 0) 3) _ (a .1) in
       let c = both-parts (leb (storeTable s) (length s)) _ (b .1) in
       let d = both-parts (leb (storeCount s) (L .records)) _ (c .1) in
-      let f = both-parts (orderedAt s 0 (storeCount s) (storeTable s)) _ (d .1) in
+      let f = both-parts (shapedAt s 0 (storeCount s) (storeTable s)) _ (d .1) in
       let g = both-parts (isAccepted (storeRead L s)) _ (f .1) in
       let h = both-parts (isNormal (readAs (storeRead L s))) _ (g .1) in
       let i = both-parts (ownAlike (ownId s) (readAs (storeRead L s))) _ (h .1) in
@@ -94,7 +96,7 @@ module _ (L : Limits) (s : List ℕ) where
   unfolding storeAt
   store-knowledge = refl
 
-  pub store-records : storeAt L s .records ≡ countedAt s (storeCount s) (storeTable s)
+  pub store-records : storeAt L s .records ≡ recordsAt s (storeCount s) (storeTable s)
   unfolding storeAt
   store-records = refl
 
@@ -115,7 +117,7 @@ module _ (L : Limits) (s : List ℕ) where
   unfolding storeAt
   tests-valid t =
       record {
-        count = omega (arith, t .count, counted-length s (storeCount s) (storeTable s));
+        count = omega (arith, t .count, count-records s (storeCount s) (storeTable s));
         normal = t .normal;
         alike = t .alike;
         records = ordered-valid (versionsIn (readAs (storeRead L s))) s 0 (storeCount s) (storeTable s) (t .ordered) (t .versions);
@@ -124,7 +126,7 @@ module _ (L : Limits) (s : List ℕ) where
   tests-decode : StoreTests L s → decodeStore L s ≡ some (storeAt L s)
   unfolding storeAt
   tests-decode t =
-      decode-of L s (knowledgeLength s) (storeCount s) (readAs (storeRead L s)) (countedAt s (storeCount s) (storeTable s))
+      decode-of L s (knowledgeLength s) (storeCount s) (readAs (storeRead L s)) (recordsAt s (storeCount s) (storeTable s))
       (t .kind) refl refl (t .inside) (accepted-is (storeRead L s) (t .accepts))
       (ordered-read s 0 (storeCount s) (storeTable s) (t .ordered))
 
@@ -138,13 +140,13 @@ module _ (L : Limits) (s : List ℕ) where
     knowledge-is : readAs (storeRead L s) ≡ st .knowledge
     knowledge-is = read-is (storeRead L s) (st .knowledge) (h .knowledge)
 
-    in-order : (orderedAt s 0 (storeCount s) (storeTable s) ≡ true)
-        × (everyRec (versionsIn (st .knowledge)) (countedAt s (storeCount s) (storeTable s)) ≡ true)
+    in-order : (shapedAt s 0 (storeCount s) (storeTable s) ≡ true)
+        × (each (versionsIn (st .knowledge)) (recordsAt s (storeCount s) (storeTable s)) ≡ true)
     in-order = valid-ordered (versionsIn (st .knowledge)) s 0 (storeCount s) (storeTable s) (st .records) (h .records) (v .records)
 
     counted : storeCount s ≡ length (st .records)
     counted =
-        sym (counted-length s (storeCount s) (storeTable s))
+        sym (count-records s (storeCount s) (storeTable s))
         ∙ ap length (read-counted s (storeCount s) (storeTable s) (st .records) (h .records))
 
     read-tests : StoreTests L s
@@ -159,7 +161,7 @@ module _ (L : Limits) (s : List ℕ) where
           normal = ap isNormal knowledge-is ∙ v .normal;
           alike = ap₂ ownAlike (h .own) knowledge-is ∙ v .alike;
           versions =
-              ap (λ (k : Knowledge). everyRec (versionsIn k) (countedAt s (storeCount s) (storeTable s))) knowledge-is ∙ in-order .1;
+              ap (λ (k : Knowledge). each (versionsIn k) (recordsAt s (storeCount s) (storeTable s))) knowledge-is ∙ in-order .1;
         }
 
   open-tests : (st : Store) → openStore L s ≡ accepted st → StoreTests L s

@@ -5,10 +5,10 @@
 use Prim.Native.Nat.{ℕ, zero, suc}
 use mathlib.Core.Path.{_≡_, refl, sym, ap, _∙_}
 use mathlib.Core.Bool.{Bool, true, false}
-use mathlib.Core.List.{List, [], _∷_}
+use mathlib.Core.List.{List, _∷_}
 use mathlib.Core.Option.{some}
 use native.Mathlib.Omega.{arith}
-use lib.Dec.{leb, eqb}
+use lib.Dec.{leb}
 use lib.ListN.{length}
 use borrow.Author.Tests.{eq-eqb, eqb-true}
 use Rattle.codec.specs.Parsed.{Parsed, accepted, refused}
@@ -17,12 +17,14 @@ use Rattle.layout.specs.Knowledge.{Knowledge}
 use Rattle.ticks.specs.Meaning.{emptyKnowledge}
 use Rattle.ticks.specs.Calls.{readAs}
 use Rattle.replication.specs.Record.{Rec}
-use Rattle.replication.specs.Reading.{both, whole, recAt, behind, recsAt, front, validRec, validRecs}
+use Rattle.replication.specs.Reading.{whole, recAt, behind, recsAt, front, validRec, validRecs}
 use Rattle.replication.specs.MethodTable.{tableAt}
-use Rattle.replication.specs.MethodOpening.{acceptedIf, isAccepted, countedAt, orderedAt, everyRec}
+use Rattle.replication.specs.MethodRecords.{recordsAt, shapedAt, each}
+use Rattle.replication.specs.MethodOpening.{acceptedIf, isAccepted}
 use Rattle.replication.proofs.Tables.{both-parts, both-holds}
 use Rattle.replication.proofs.RecordBytes.{recs-end, recs-more, front-some, more-back, end-back}
 use Rattle.replication.proofs.QueriesPlaces.{table-read}
+use Rattle.replication.proofs.RecordsInBytes.{each-nil, each-cons, valid-nil, valid-cons, records-nil, records-cons, shaped-nil, shaped-cons}
 
 -- ---- values under a test
 
@@ -66,47 +68,6 @@ not-accepted p n e = ap isAccepted e
 pub read-is : (p : Parsed Knowledge) (k : Knowledge) → p ≡ accepted k → readAs p ≡ k
 read-is p k e = ap (λ (q : Parsed Knowledge). readAs q) e ∙ read-accepted emptyKnowledge k
 
--- ---- clauses
-
-pub counted-none : (s : List ℕ) (at : ℕ) → countedAt s 0 at ≡ []
-unfolding countedAt
-counted-none s at = refl
-
-pub counted-more : (s : List ℕ) (n at : ℕ) → countedAt s (suc n) at ≡ recAt s at ∷ countedAt s n (behind s at)
-unfolding countedAt
-counted-more s n at = refl
-
-pub counted-length : (s : List ℕ) (n at : ℕ) → length (countedAt s n at) ≡ n
-counted-length s zero at = ap length (counted-none s at)
-counted-length s (suc n) at = ap length (counted-more s n at) ∙ ap suc (counted-length s n (behind s at))
-
-pub ordered-none : (s : List ℕ) (lo at : ℕ) → orderedAt s lo 0 at ≡ eqb at (length s)
-unfolding orderedAt
-ordered-none s lo at = refl
-
-pub ordered-more : (s : List ℕ) (lo n at : ℕ) → orderedAt s lo (suc n) at
-    ≡ both (whole s at)
-    (both (leb lo (recAt s at .item)) (both (validRec (recAt s at)) (orderedAt s (suc (recAt s at .item)) n (behind s at))))
-unfolding orderedAt
-ordered-more s lo n at = refl
-
-pub every-none : (P : Rec → Bool) → everyRec P [] ≡ true
-unfolding everyRec
-every-none P = refl
-
-pub every-more : (P : Rec → Bool) (r : Rec) (rs : List Rec) → everyRec P (r ∷ rs) ≡ both (P r) (everyRec P rs)
-unfolding everyRec
-every-more P r rs = refl
-
-valid-none : (P : Rec → Bool) (lo : ℕ) → validRecs P lo [] ≡ true
-unfolding validRecs
-valid-none P lo = refl
-
-valid-more : (P : Rec → Bool) (lo : ℕ) (r : Rec) (rs : List Rec) → validRecs P lo (r ∷ rs)
-    ≡ both (leb lo (r .item)) (both (validRec r) (both (P r) (validRecs P (suc (r .item)) rs)))
-unfolding validRecs
-valid-more P lo r rs = refl
-
 -- ---- one record more
 
 -- what the first pass says of the record at a place, and of the others behind it
@@ -114,45 +75,45 @@ pub record OrderedMore (s : List ℕ) (lo n at : ℕ) : Type 0 where
   pub whole : whole s at ≡ true
   pub low : leb lo (recAt s at .item) ≡ true
   pub valid : validRec (recAt s at) ≡ true
-  pub rest : orderedAt s (suc (recAt s at .item)) n (behind s at) ≡ true
+  pub rest : shapedAt s (suc (recAt s at .item)) n (behind s at) ≡ true
 
-pub ordered-parts : (s : List ℕ) (lo n at : ℕ) → orderedAt s lo (suc n) at ≡ true → OrderedMore s lo n at
+pub ordered-parts : (s : List ℕ) (lo n at : ℕ) → shapedAt s lo (suc n) at ≡ true → OrderedMore s lo n at
 ordered-parts s lo n at e =
-    let a = both-parts (whole s at) _ (sym (ordered-more s lo n at) ∙ e) in
+    let a = both-parts (whole s at) _ (sym (shaped-cons s lo n at) ∙ e) in
     let b = both-parts (leb lo (recAt s at .item)) _ (a .1) in
     let c = both-parts (validRec (recAt s at)) _ (b .1) in
     record { whole = a .0; low = b .0; valid = c .0; rest = c .1 }
 
-pub ordered-of : (s : List ℕ) (lo n at : ℕ) → OrderedMore s lo n at → orderedAt s lo (suc n) at ≡ true
+pub ordered-of : (s : List ℕ) (lo n at : ℕ) → OrderedMore s lo n at → shapedAt s lo (suc n) at ≡ true
 ordered-of s lo n at o =
-    ordered-more s lo n at
+    shaped-cons s lo n at
     ∙ both-holds (whole s at) _ (o .whole)
     (both-holds (leb lo (recAt s at .item)) _ (o .low)
-    (both-holds (validRec (recAt s at)) (orderedAt s (suc (recAt s at .item)) n (behind s at)) (o .valid) (o .rest)))
+    (both-holds (validRec (recAt s at)) (shapedAt s (suc (recAt s at .item)) n (behind s at)) (o .valid) (o .rest)))
 
 -- ---- from the two passes to the table
 
 -- records in order are read
-pub ordered-read : (s : List ℕ) (lo n at : ℕ) → orderedAt s lo n at ≡ true → recsAt s n at ≡ some (countedAt s n at)
+pub ordered-read : (s : List ℕ) (lo n at : ℕ) → shapedAt s lo n at ≡ true → recsAt s n at ≡ some (recordsAt s n at)
 ordered-read s lo zero at e =
-    recs-end s at (eqb-true at (length s) (sym (ordered-none s lo at) ∙ e)) ∙ ap some (sym (counted-none s at))
+    recs-end s at (eqb-true at (length s) (sym (shaped-nil s lo at) ∙ e)) ∙ ap some (sym (records-nil s at))
 ordered-read s lo (suc n) at e =
     let o = ordered-parts s lo n at e in
     recs-more s n at (o .whole)
     ∙ ap (front (recAt s at)) (ordered-read s (suc (recAt s at .item)) n (behind s at) (o .rest))
-    ∙ front-some (recAt s at) (countedAt s n (behind s at))
-    ∙ ap some (sym (counted-more s n at))
+    ∙ front-some (recAt s at) (recordsAt s n (behind s at))
+    ∙ ap some (sym (records-cons s n at))
 
 -- and are a valid table with each property that every one has
-pub ordered-valid : (P : Rec → Bool) (s : List ℕ) (lo n at : ℕ) → orderedAt s lo n at ≡ true → everyRec P (countedAt s n at) ≡ true
-    → validRecs P lo (countedAt s n at) ≡ true
-ordered-valid P s lo zero at e f = ap (validRecs P lo) (counted-none s at) ∙ valid-none P lo
+pub ordered-valid : (P : Rec → Bool) (s : List ℕ) (lo n at : ℕ) → shapedAt s lo n at ≡ true → each P (recordsAt s n at) ≡ true
+    → validRecs P lo (recordsAt s n at) ≡ true
+ordered-valid P s lo zero at e f = ap (validRecs P lo) (records-nil s at) ∙ valid-nil P lo
 ordered-valid P s lo (suc n) at e f =
     let r = recAt s at in
-    let rs = countedAt s n (behind s at) in
+    let rs = recordsAt s n (behind s at) in
     let o = ordered-parts s lo n at e in
-    let p = both-parts (P r) (everyRec P rs) (sym (ap (everyRec P) (counted-more s n at) ∙ every-more P r rs) ∙ f) in
-    ap (validRecs P lo) (counted-more s n at) ∙ valid-more P lo r rs
+    let p = both-parts (P r) (each P rs) (sym (ap (each P) (records-cons s n at) ∙ each-cons P r rs) ∙ f) in
+    ap (validRecs P lo) (records-cons s n at) ∙ valid-cons P lo r rs
     ∙ both-holds (leb lo (r .item)) _ (o .low)
     (both-holds (validRec r) _ (o .valid)
     (both-holds (P r) (validRecs P (suc (r .item)) rs) (p .0) (ordered-valid P s (suc (r .item)) n (behind s at) (o .rest) (p .1))))
@@ -160,29 +121,29 @@ ordered-valid P s lo (suc n) at e f =
 -- ---- and back
 
 -- records that are read are those at their places
-pub read-counted : (s : List ℕ) (n at : ℕ) (rs : List Rec) → recsAt s n at ≡ some rs → countedAt s n at ≡ rs
-read-counted s zero at rs e = counted-none s at ∙ sym (end-back s at rs e .0)
+pub read-counted : (s : List ℕ) (n at : ℕ) (rs : List Rec) → recsAt s n at ≡ some rs → recordsAt s n at ≡ rs
+read-counted s zero at rs e = records-nil s at ∙ sym (end-back s at rs e .0)
 read-counted s (suc n) at rs e =
-    more-back s n at rs (countedAt s (suc n) at ≡ rs) e
-    (λ qs w f g. counted-more s n at ∙ ap (λ (l : List Rec). recAt s at ∷ l) (read-counted s n (behind s at) qs f) ∙ g)
+    more-back s n at rs (recordsAt s (suc n) at ≡ rs) e
+    (λ qs w f g. records-cons s n at ∙ ap (λ (l : List Rec). recAt s at ∷ l) (read-counted s n (behind s at) qs f) ∙ g)
 
 -- a valid table with a property is in order, and every record has the property
 pub valid-ordered : (P : Rec → Bool) (s : List ℕ) (lo n at : ℕ) (rs : List Rec) → recsAt s n at ≡ some rs → validRecs P lo rs ≡ true
-    → (orderedAt s lo n at ≡ true) × (everyRec P (countedAt s n at) ≡ true)
+    → (shapedAt s lo n at ≡ true) × (each P (recordsAt s n at) ≡ true)
 valid-ordered P s lo zero at rs e v =
-    (ordered-none s lo at ∙ eq-eqb at (length s) (end-back s at rs e .1), ap (everyRec P) (counted-none s at) ∙ every-none P)
+    (shaped-nil s lo at ∙ eq-eqb at (length s) (end-back s at rs e .1), ap (each P) (records-nil s at) ∙ each-nil P)
 valid-ordered P s lo (suc n) at rs e v =
     more-back s n at rs _ e
     (λ qs w f g.
     let r = recAt s at in
-    let a = both-parts (leb lo (r .item)) _ (sym (ap (validRecs P lo) (sym g) ∙ valid-more P lo r qs) ∙ v) in
+    let a = both-parts (leb lo (r .item)) _ (sym (ap (validRecs P lo) (sym g) ∙ valid-cons P lo r qs) ∙ v) in
     let b = both-parts (validRec r) _ (a .1) in
     let c = both-parts (P r) (validRecs P (suc (r .item)) qs) (b .1) in
     let h = valid-ordered P s (suc (r .item)) n (behind s at) qs f (c .1) in (
       ordered-of s lo n at (record { whole = w; low = a .0; valid = b .0; rest = h .0 }),
-      ap (everyRec P) (counted-more s n at) ∙ every-more P r (countedAt s n (behind s at)) ∙ both-holds (P r) _ (c .0) (h .1),
+      ap (each P) (records-cons s n at) ∙ each-cons P r (recordsAt s n (behind s at)) ∙ both-holds (P r) _ (c .0) (h .1),
     ))
 
 -- the walker's table is the counted one
-pub ordered-table : (s : List ℕ) (lo n at : ℕ) → orderedAt s lo n at ≡ true → tableAt s at ≡ countedAt s n at
-ordered-table s lo n at e = table-read s n at (countedAt s n at) (ordered-read s lo n at e)
+pub ordered-table : (s : List ℕ) (lo n at : ℕ) → shapedAt s lo n at ≡ true → tableAt s at ≡ recordsAt s n at
+ordered-table s lo n at e = table-read s n at (recordsAt s n at) (ordered-read s lo n at e)

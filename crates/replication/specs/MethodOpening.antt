@@ -1,6 +1,6 @@
 -- The check of a store and of a batch in the order of the code: each test once, and the value at its places with no test. There is
 -- nothing to believe here: the laws `opened-store` and `opened-batch` say that this is opening (specs/OpenStore.antt, specs/OpenBatch.antt).
-use Rattle.codec.specs.Prelude.{ℕ, zero, suc, Bool, true, false, List, [], _∷_, eqb, leb, length, take, drop}
+use Rattle.codec.specs.Prelude.{ℕ, Bool, true, false, List, eqb, leb, length, take, drop}
 use Rattle.codec.specs.Number.{beAt}
 use Rattle.codec.specs.Parsed.{Parsed, accepted, refused}
 use Rattle.layout.specs.Knowledge.{Limits, anyId, Knowledge}
@@ -8,10 +8,10 @@ use Rattle.layout.specs.Parse.{parse}
 use Rattle.ticks.specs.Written.{isNormal, eqKnowledge}
 use Rattle.ticks.specs.Operations.{ownAlike, project}
 use Rattle.ticks.specs.Calls.{readAs}
-use Rattle.replication.specs.Record.{Rec}
 use Rattle.replication.specs.Formats.{Store}
 use Rattle.replication.specs.BatchFormat.{Batch}
-use Rattle.replication.specs.Reading.{both, whole, recAt, behind, validRec}
+use Rattle.replication.specs.Reading.{both}
+use Rattle.replication.specs.MethodRecords.{recordsAt, shapedAt, each}
 use Rattle.replication.specs.OpenStore.{ownId, knowledgeLength, storeCount, storeKnowledge, storeTable, versionsIn}
 use Rattle.replication.specs.OpenBatch.{firstId, lastId, neededLength, learnedLength, batchCount, batchNeeded, batchLearned, batchTable}
 use Rattle.replication.specs.OpenBatch.{carried}
@@ -25,25 +25,6 @@ unfoldable pub isAccepted : {A : Type 0} → Parsed A → Bool
 isAccepted (accepted x) = true
 isAccepted (refused n) = false
 
--- ---- records
-
--- n records from a place on, with no test
-unfoldable pub countedAt : List ℕ → ℕ → ℕ → List Rec
-countedAt s zero at = []
-countedAt s (suc n) at = recAt s at ∷ countedAt s n (behind s at)
-
--- n records from a place on, in one pass: each whole, from item lo on and rising, valid; then the very end of the bytes
-unfoldable pub orderedAt : List ℕ → ℕ → ℕ → ℕ → Bool
-orderedAt s lo zero at = eqb at (length s)
-orderedAt s lo (suc n) at =
-    both (whole s at)
-    (both (leb lo (recAt s at .item)) (both (validRec (recAt s at)) (orderedAt s (suc (recAt s at .item)) n (behind s at))))
-
--- every record has the property
-unfoldable pub everyRec : (Rec → Bool) → List Rec → Bool
-everyRec P [] = true
-everyRec P (r ∷ rs) = both (P r) (everyRec P rs)
-
 -- ---- stores
 
 -- the knowledge of a store, read from its part of the bytes
@@ -56,7 +37,7 @@ storeAt L s =
     record {
       own = ownId s;
       knowledge = readAs (storeRead L s);
-      records = countedAt s (storeCount s) (storeTable s);
+      records = recordsAt s (storeCount s) (storeTable s);
     }
 
 unfoldable pub isStore : Limits → List ℕ → Bool
@@ -65,11 +46,11 @@ isStore L s =
     (both (eqb (beAt s 1 0) 3)
     (both (leb (storeTable s) (length s))
     (both (leb (storeCount s) (L .records))
-    (both (orderedAt s 0 (storeCount s) (storeTable s))
+    (both (shapedAt s 0 (storeCount s) (storeTable s))
     (both (isAccepted (storeRead L s))
     (both (isNormal (readAs (storeRead L s)))
     (both (ownAlike (ownId s) (readAs (storeRead L s)))
-    (everyRec (versionsIn (readAs (storeRead L s))) (countedAt s (storeCount s) (storeTable s))))))))))
+    (each (versionsIn (readAs (storeRead L s))) (recordsAt s (storeCount s) (storeTable s))))))))))
 
 -- ---- batches
 
@@ -88,7 +69,7 @@ batchAt L s =
       last = lastId s;
       needed = readAs (neededRead L s);
       learned = readAs (learnedRead L s);
-      records = countedAt s (batchCount s) (batchTable s);
+      records = recordsAt s (batchCount s) (batchTable s);
     }
 
 -- projecting onto the span leaves the knowledge as it is
@@ -102,10 +83,10 @@ isBatch L s =
     (both (leb (batchTable s) (length s))
     (both (leb (batchCount s) (L .records))
     (both (leb (firstId s) (lastId s))
-    (both (orderedAt s 0 (batchCount s) (batchTable s))
+    (both (shapedAt s 0 (batchCount s) (batchTable s))
     (both (isAccepted (neededRead L s))
     (both (isNormal (readAs (neededRead L s)))
     (both (isAccepted (learnedRead L s))
     (both (isNormal (readAs (learnedRead L s)))
     (both (unchanged (firstId s) (lastId s) (readAs (learnedRead L s)))
-    (everyRec (carried (batchAt L s)) (countedAt s (batchCount s) (batchTable s)))))))))))))
+    (each (carried (batchAt L s)) (recordsAt s (batchCount s) (batchTable s)))))))))))))
