@@ -6,23 +6,21 @@
 use Prim.Native.Nat.{ℕ, zero, suc, _+_, _-_, _≤_, _<_}
 use mathlib.Core.Path.{_≡_, refl, sym, ap, _∙_}
 use mathlib.Core.Bool.{Bool, true, false}
-use mathlib.Core.Logic.{_⊎_, inl, inr}
+use mathlib.Core.Logic.{inl, inr}
 use mathlib.Core.List.{List}
 use native.Mathlib.Omega.{arith}
-use lib.Dec.{leb, eqb}
+use lib.Dec.{leb}
 use lib.ListN.{length, getD, List·getD-eq-default}
-use borrow.Author.Tests.{le-leb, lt-leb, eq-eqb, ne-eqb, leb-true, leb-false}
+use borrow.Author.Tests.{ne-eqb, leb-true, leb-false}
 use Rattle.codec.specs.Number.{beAt}
 use Rattle.codec.specs.Total.{readAt}
 use Rattle.codec.specs.Words.{words2}
 use Rattle.codec.proofs.Reading.{be-one}
 use Rattle.codec.proofs.Total.{read-there, read-missing, read-id2, read-id3}
-use Rattle.replication.specs.Record.{Content, Rec}
 use Rattle.replication.specs.Reading.{recLength, behind, itemPlace, changeReplicaPlace, changeTickPlace, createReplicaPlace, createTickPlace, tagPlace}
 use Rattle.replication.specs.Reading.{contentAt, recAt, whole}
 use Rattle.replication.specs.MethodRecords.{WholeAt}
 use Rattle.replication.proofs.RecordBytes.{KnownKind, recSize, kind-length, kind-known, whole-exact}
-use Rattle.replication.proofs.RecordsInBytes.{whole-at}
 use Rattle.records.specs.Method.{itemWords}
 
 -- ---- lengths

@@ -4,7 +4,7 @@ use Prim.Native.Nat.{ℕ, _+_, _≤_, _<_}
 use mathlib.Core.Path.{_≡_, refl, sym, ap, _∙_}
 use mathlib.Core.Bool.{Bool, true, false}
 use mathlib.Core.List.{List}
-use mathlib.Core.Option.{Option, none, some}
+use mathlib.Core.Option.{none, some}
 use native.Mathlib.Omega.{arith}
 use lib.Dec.{eqb}
 use lib.ListN.{length}
@@ -15,7 +15,6 @@ use Rattle.replication.specs.Reading.{behind, itemPlace, recAt, whole}
 use Rattle.replication.specs.Queries.{places, placeOf}
 use Rattle.replication.proofs.RecordsInBytes.{whole-at}
 use Rattle.replication.proofs.RecordsTable.{place-end, place-found, place-on}
-use Rattle.records.specs.declared.Found.{Found}
 use Rattle.records.specs.declared.Found.the-variants as F
 use Rattle.records.specs.Method.{foundPlace, itemWords}
 use Rattle.records.proofs.Fields.{whole-past, item-words}

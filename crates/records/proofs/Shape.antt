@@ -1,7 +1,7 @@
 -- The check of a table's records, one after the other. A record is valid by tests of its ticks and tag, which the total reads give where it
 -- is whole. The whole check is the check of the records that are left, with the item above the last one as the lower bound: a record that
 -- passes takes one step, one that does not ends it, and with none left the place must be the end of the bytes.
-use Prim.Native.Nat.{ℕ, zero, suc, _+_, _-_, _≤_, _<_}
+use Prim.Native.Nat.{ℕ, suc, _+_, _-_, _≤_, _<_}
 use mathlib.Core.Path.{_≡_, refl, sym, ap, ap₂, _∙_}
 use mathlib.Core.Bool.{Bool, true, false}
 use mathlib.Core.List.{List}
@@ -17,7 +17,7 @@ use Rattle.replication.specs.Record.{Content, Rec}
 use Rattle.replication.specs.Reading.{behind, itemPlace, changeTickPlace, createTickPlace, tagPlace, contentAt, recAt, both, whole, tagKept, validRec}
 use Rattle.replication.specs.MethodRecords.{shapedAt}
 use Rattle.replication.proofs.RecordsInBytes.{whole-at, shaped-nil, shaped-on, shaped-stop, shaped-low, shaped-invalid}
-use Rattle.records.specs.Method.{itemWords, least}
+use Rattle.records.specs.Method.{least}
 use Rattle.records.proofs.Fields.{kind-read, item-words, change-tick-word, create-tick-word, tag-words}
 
 -- ---- the tag

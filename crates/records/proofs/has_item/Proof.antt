@@ -17,7 +17,9 @@ same3-requires : tie.Need-same3-requires
 same3-requires c κs = search needs
 
 returns : tie.Need-returns
-returns c = same-item _ _ _ _ _ _ (c .before .before .before .item-0 .ensures) (c .before .before .item-1 .ensures) (c .before .item-2 .ensures) _ (c .same3 .ensures)
+returns c =
+    same-item _ _ _ _ _ _ (c .before .before .before .item-0 .ensures) (c .before .before .item-1 .ensures)
+    (c .before .item-2 .ensures) _ (c .same3 .ensures)
 
 pub has-item-spec : {M : Type 1} → statement M
 has-item-spec =

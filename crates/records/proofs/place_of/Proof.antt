@@ -29,16 +29,24 @@ has-item-requires : tie.Need-has-item-requires Inv-loop μ-loop
 has-item-requires c κs = tt
 
 returns-2 : tie.Need-returns-2 Inv-loop μ-loop
-returns-2 c = search-found _ _ _ _ (c .before .before .before .before .before .loop .inv) _ (c .before .before .before .whole .ensures) (c .before .before .if1 .taken) _ (c .before .has-item .ensures) (c .if2 .taken)
+returns-2 c =
+    search-found _ _ _ _ (c .before .before .before .before .before .loop .inv) _
+    (c .before .before .before .whole .ensures) (c .before .before .if1 .taken) _ (c .before .has-item .ensures)
+    (c .if2 .taken)
 
 behind-requires : tie.Need-behind-requires Inv-loop μ-loop
 behind-requires c κs = tt
 
 loop-less : tie.Need-loop-less Inv-loop μ-loop
-loop-less c = omega (arith, search-later _ _ _ _ (c .before .before .before .before .whole .ensures) (c .before .before .before .if1 .taken) (c .behind .ensures))
+loop-less c =
+    omega
+    (arith, search-later _ _ _ _ (c .before .before .before .before .whole .ensures) (c .before .before .before .if1 .taken) (c .behind .ensures))
 
 loop-again : tie.Need-loop-again Inv-loop μ-loop
-loop-again c = search-on _ _ _ _ (c .before .before .before .before .before .before .loop .inv) _ (c .before .before .before .before .whole .ensures) (c .before .before .before .if1 .taken) _ (c .before .before .has-item .ensures) _ (c .behind .ensures) (c .before .if2 .left)
+loop-again c =
+    search-on _ _ _ _ (c .before .before .before .before .before .before .loop .inv) _
+    (c .before .before .before .before .whole .ensures) (c .before .before .before .if1 .taken) _
+    (c .before .before .has-item .ensures) _ (c .behind .ensures) (c .before .if2 .left)
 
 returns-3 : tie.Need-returns-3 Inv-loop μ-loop
 returns-3 c = search-past _ _ _ _ (c .before .loop .inv) (omega arith)

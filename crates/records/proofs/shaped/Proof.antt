@@ -21,7 +21,9 @@ whole-requires : tie.Need-whole-requires Inv-loop μ-loop
 whole-requires c κs = tt
 
 returns : tie.Need-returns Inv-loop μ-loop
-returns c = shape-stop _ _ _ _ _ _ (c .before .before .before .loop .inv) (c .before .before .loop-test .taken) _ (c .before .whole .ensures) (c .if1 .left)
+returns c =
+    shape-stop _ _ _ _ _ _ (c .before .before .before .loop .inv) (c .before .before .loop-test .taken) _
+    (c .before .whole .ensures) (c .if1 .left)
 
 item-0-requires : tie.Need-item-0-requires Inv-loop μ-loop
 item-0-requires c κs = tt
@@ -36,13 +38,30 @@ rises-requires : tie.Need-rises-requires Inv-loop μ-loop
 rises-requires c κs = tt
 
 returns-2 : tie.Need-returns-2 Inv-loop μ-loop
-returns-2 c = shape-low _ _ _ _ _ _ (c .before .before .before .before .before .before .before .before .loop .inv) (c .before .before .before .before .before .before .before .loop-test .taken) _ (c .before .before .before .before .before .before .whole .ensures) (c .before .before .before .before .before .if1 .taken) _ _ _ (c .before .before .before .before .item-0 .ensures) (c .before .before .before .item-1 .ensures) (c .before .before .item-2 .ensures) _ (c .before .rises .ensures) (c .if2 .left)
+returns-2 c =
+    shape-low _ _ _ _ _ _ (c .before .before .before .before .before .before .before .before .loop .inv)
+    (c .before .before .before .before .before .before .before .loop-test .taken) _
+    (c .before .before .before .before .before .before .whole .ensures)
+    (c .before .before .before .before .before .if1 .taken) _ _ _ (c .before .before .before .before .item-0 .ensures)
+    (c .before .before .before .item-1 .ensures) (c .before .before .item-2 .ensures) _ (c .before .rises .ensures)
+    (c .if2 .left)
 
 valid-requires : tie.Need-valid-requires Inv-loop μ-loop
-valid-requires c κs = sym (c .before .before .before .before .before .before .whole .ensures) ∙ c .before .before .before .before .before .if1 .taken
+valid-requires c κs =
+    sym (c .before .before .before .before .before .before .whole .ensures) ∙ c .before .before .before .before
+    .before .if1 .taken
 
 returns-3 : tie.Need-returns-3 Inv-loop μ-loop
-returns-3 c = shape-invalid _ _ _ _ _ _ (c .before .before .before .before .before .before .before .before .before .before .loop .inv) (c .before .before .before .before .before .before .before .before .before .loop-test .taken) _ (c .before .before .before .before .before .before .before .before .whole .ensures) (c .before .before .before .before .before .before .before .if1 .taken) _ _ _ (c .before .before .before .before .before .before .item-0 .ensures) (c .before .before .before .before .before .item-1 .ensures) (c .before .before .before .before .item-2 .ensures) _ (c .before .before .before .rises .ensures) (c .before .before .if2 .taken) _ (c .before .valid .ensures) (c .if3 .left)
+returns-3 c =
+    shape-invalid _ _ _ _ _ _
+    (c .before .before .before .before .before .before .before .before .before .before .loop .inv)
+    (c .before .before .before .before .before .before .before .before .before .loop-test .taken) _
+    (c .before .before .before .before .before .before .before .before .whole .ensures)
+    (c .before .before .before .before .before .before .before .if1 .taken) _ _ _
+    (c .before .before .before .before .before .before .item-0 .ensures)
+    (c .before .before .before .before .before .item-1 .ensures) (c .before .before .before .before .item-2 .ensures)
+    _ (c .before .before .before .rises .ensures) (c .before .before .if2 .taken) _ (c .before .valid .ensures)
+    (c .if3 .left)
 
 behind-requires : tie.Need-behind-requires Inv-loop μ-loop
 behind-requires c κs = tt
@@ -54,7 +73,17 @@ loop-less : tie.Need-loop-less Inv-loop μ-loop
 loop-less c = omega arith
 
 loop-again : tie.Need-loop-again Inv-loop μ-loop
-loop-again c = shape-on _ _ _ _ _ _ (c .before .before .before .before .before .before .before .before .before .before .before .loop .inv) (c .before .before .before .before .before .before .before .before .before .before .loop-test .taken) _ (c .before .before .before .before .before .before .before .before .before .whole .ensures) (c .before .before .before .before .before .before .before .before .if1 .taken) _ _ _ (c .before .before .before .before .before .before .before .item-0 .ensures) (c .before .before .before .before .before .before .item-1 .ensures) (c .before .before .before .before .before .item-2 .ensures) _ (c .before .before .before .before .rises .ensures) (c .before .before .before .if2 .taken) _ (c .before .before .valid .ensures) (c .before .if3 .taken) _ (c .behind .ensures)
+loop-again c =
+    shape-on _ _ _ _ _ _
+    (c .before .before .before .before .before .before .before .before .before .before .before .loop .inv)
+    (c .before .before .before .before .before .before .before .before .before .before .loop-test .taken) _
+    (c .before .before .before .before .before .before .before .before .before .whole .ensures)
+    (c .before .before .before .before .before .before .before .before .if1 .taken) _ _ _
+    (c .before .before .before .before .before .before .before .item-0 .ensures)
+    (c .before .before .before .before .before .before .item-1 .ensures)
+    (c .before .before .before .before .before .item-2 .ensures) _ (c .before .before .before .before .rises .ensures)
+    (c .before .before .before .if2 .taken) _ (c .before .before .valid .ensures) (c .before .if3 .taken) _
+    (c .behind .ensures)
 
 returns-4 : tie.Need-returns-4 Inv-loop μ-loop
 returns-4 c = shape-end _ _ _ _ _ _ (c .before .loop .inv) (omega arith)

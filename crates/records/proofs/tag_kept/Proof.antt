@@ -17,7 +17,10 @@ same2-requires : tie.Need-same2-requires
 same2-requires c κs = search needs
 
 returns : tie.Need-returns
-returns c = tag-dead _ _ _ (c .before .before .before .before .read1 .ensures .0) (c .before .before .before .before .before .before .pre) (c .before .before .before .if1 .taken) _ _ (c .before .before .tag-0 .ensures) (c .before .tag-1 .ensures) _ (c .same2 .ensures)
+returns c =
+    tag-dead _ _ _ (c .before .before .before .before .read1 .ensures .0)
+    (c .before .before .before .before .before .before .pre) (c .before .before .before .if1 .taken) _ _
+    (c .before .before .tag-0 .ensures) (c .before .tag-1 .ensures) _ (c .same2 .ensures)
 
 returns-2 : tie.Need-returns-2
 returns-2 c = tag-live _ _ _ (c .before .read1 .ensures .0) (c .if1 .left)

@@ -15,13 +15,16 @@ record-length-requires : tie.Need-record-length-requires
 record-length-requires c κs = search needs
 
 returns-2 : tie.Need-returns-2
-returns-2 c = whole-unknown _ _ _ _ (c .before .before .read1 .ensures .0) (c .before .record-length .ensures) (c .if2 .taken)
+returns-2 c =
+    whole-unknown _ _ _ _ (c .before .before .read1 .ensures .0) (c .before .record-length .ensures) (c .if2 .taken)
 
 sub-result : tie.Need-sub-result
 sub-result c = search needs
 
 returns-3 : tie.Need-returns-3
-returns-3 c = whole-known _ _ _ _ (c .before .before .read1 .ensures .0) (c .before .record-length .ensures) (c .if2 .left) (omega arith)
+returns-3 c =
+    whole-known _ _ _ _ (c .before .before .read1 .ensures .0) (c .before .record-length .ensures) (c .if2 .left)
+    (omega arith)
 
 pub whole-spec : {M : Type 1} → statement M
 whole-spec =
