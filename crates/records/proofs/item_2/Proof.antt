@@ -1,0 +1,19 @@
+-- `records::item_2` meets its contract: the word stands behind the ones before it.
+use mathlib.Core.Path.{refl}
+use Rattle.replication.specs.Reading.{itemPlace}
+use Rattle.records.proofs.Fields.{word-moved}
+use borrow.Author.Needs.{needs}
+use Rattle.records.proofs.item_2.Statement.{statement}
+use Rattle.records.proofs.item_2.Tie as tie
+
+add-word : tie.Need-add-word
+add-word c = search needs
+
+word-requires : tie.Need-word-requires
+word-requires c κs = search needs
+
+returns : tie.Need-returns
+returns c = word-moved _ _ _ _ itemPlace 16 refl (c .word .ensures)
+
+pub item-2-spec : {M : Type 1} → statement M
+item-2-spec = tie.close (tie.spec add-word word-requires returns)

@@ -1,0 +1,2 @@
+-- The method of the code that reads records.
+pub mod Method
