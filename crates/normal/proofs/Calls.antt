@@ -17,7 +17,7 @@ use Rattle.codec.proofs.Total.{brought-within}
 use Rattle.layout.specs.declared.Checked.{Checked}
 use Rattle.layout.specs.declared.Checked.the-variants.{Accepted, Refused}
 use Rattle.layout.specs.Knowledge.{Element, Rules, basic}
-use Rattle.layout.specs.Permitted.{mostCount, largestReplicas, largestRanges, largestRecords}
+use Rattle.layout.specs.Permitted.{mostCount, largestReplicas, largestRanges, base, rulesWithin}
 use Rattle.layout.specs.Decode.{elementsAt, rangesAt}
 use Rattle.layout.specs.MethodPlaces.{idsPlace, vectorsPlace, rangesPlace, wholeLength}
 use Rattle.layout.specs.Parse.{checked}
@@ -28,7 +28,7 @@ use Rattle.ticks.specs.Written.{eqVector}
 use Rattle.ticks.proofs.Equality.{exact-no, eqVector-exact}
 use Rattle.ticks.proofs.ForCode.{reading, refusing}
 use Rattle.lookup.specs.Method.{There}
-use Rattle.normal.specs.Normal.{normalRead, normalBytes, rulesOf}
+use Rattle.normal.specs.Normal.{normalRead, normalBytes}
 use Rattle.normal.specs.MethodNormal.{idsRise, markedBy, keysMarked, vectorHere, vectorsHere, numbered, standing}
 use Rattle.normal.specs.MethodNormal.{wordFrom, VectorsTaken, Worded, unlike, apart, noMarks, vectorsNormal}
 use Rattle.normal.specs.MethodNormal.{usedInOrder, rangesNormal, normalThere, roomy, RoomFor, normalIn}
@@ -237,18 +237,18 @@ module _ (s : List ℕ) (r v e g : ℕ) where
 module _ (s : List ℕ) (replicas ranges : ℕ) (c : Checked)
     (is : c ≡ checked (brought replicas largestReplicas) (brought ranges largestRanges) (basic .judge) s) where
   abbrev R : Rules
-  R = rulesOf replicas ranges
+  R = rulesWithin replicas ranges
 
   pub refused-normal : (n : ℕ) → c ≡ Refused n → false ≡ normalBytes R s
   refused-normal n e =
       sym (normal-refused R s n (refusing R s n (record {
-        permitted = within-permitted replicas ranges largestRecords;
+        permitted = within-permitted replicas ranges (base .records);
         refuses = sym is ∙ e;
       })))
 
   module _ (r v e g : ℕ) (bytes : Bytes s) (k : c ≡ Accepted r v e g) where
     read : Reading R s r v e g
-    read = record { permitted = within-permitted replicas ranges largestRecords; bytes = bytes; accepts = sym is ∙ k }
+    read = record { permitted = within-permitted replicas ranges (base .records); bytes = bytes; accepts = sym is ∙ k }
 
     room : Roomy r v
     room =

@@ -1,8 +1,7 @@
 -- Is a knowledge in normal form, asked of its bytes: they are accepted, and what they stand for is in normal form.
 use Rattle.codec.specs.Prelude.{ℕ, Bool, false, List}
 use Rattle.codec.specs.Parsed.{Parsed, accepted, refused}
-use Rattle.layout.specs.Knowledge.{Rules, anyId, Knowledge}
-use Rattle.layout.specs.Permitted.{largestRecords, within}
+use Rattle.layout.specs.Knowledge.{Rules, Knowledge}
 use Rattle.layout.specs.Parse.{parse}
 use Rattle.ticks.specs.Written.{isNormal}
 
@@ -12,7 +11,3 @@ normalRead (refused n) = false
 
 unfoldable pub normalBytes : Rules → List ℕ → Bool
 normalBytes R s = normalRead (parse R s)
-
--- the rules of two limits given as numbers. A knowledge has no records, so their limit plays no part
-abbrev pub rulesOf : ℕ → ℕ → Rules
-rulesOf replicas ranges = anyId (within replicas ranges largestRecords)

@@ -1,16 +1,14 @@
 -- A planned table, judged by the limits, is what the call's reply says: a plan has the sizes of the result, so 11 and 12 are found in
 -- it, and else what is written for it are the result's bytes. So a call that refuses, finds its buffer short or writes has ended as
 -- its reply says.
-use Prim.Native.Nat.{ℕ, suc, _+_, _≤_, _<_}
-use mathlib.Core.Path.{_≡_, refl, sym, ap, _∙_, subst}
+use Prim.Native.Nat.{ℕ, suc, _≤_, _<_}
+use mathlib.Core.Path.{_≡_, sym, ap, _∙_, subst}
 use mathlib.Core.List.{List}
 use native.Mathlib.Omega.{arith}
-use lib.Dec.{ltb}
 use lib.ListN.{length}
-use borrow.Author.Tests.{lt-ltb, le-ltb, le-leb}
+use borrow.Author.Tests.{lt-ltb, le-ltb}
 use mathlib.Core.Bool.{true}
-use Rattle.codec.specs.Part.{placed}
-use Rattle.codec.specs.Reply.{Reply, gives, refuses, answer, after}
+use Rattle.codec.specs.Reply.{Reply, refuses, answer, after}
 use Rattle.codec.specs.declared.Answer.{Answer}
 use Rattle.codec.specs.declared.Answer.the-variants as A
 use Rattle.codec.proofs.Calls.{refused-answer, refused-after, short-answer, short-after, written-answer, written-after}
@@ -22,6 +20,7 @@ use Rattle.tables.specs.declared.Sizes.{Sizes}
 use Rattle.tables.specs.MethodWords.{stride, mostRows, cell, idAt, boundAt, Words}
 use Rattle.tables.specs.MethodPlan.{page, lengthOf, Plans}
 use Rattle.plan.specs.Method.{fits}
+use Rattle.plan.proofs.Whole.{Fits, fits-holds}
 use Rattle.tables.specs.MethodPieces.{laid, pagePieces}
 use Rattle.loading.specs.MethodReply.{resultReply, Tabled}
 use Rattle.loading.proofs.Closing.{result-replicas, result-ranges, result-gives, tabled}
@@ -109,10 +108,6 @@ module _ (reply : Reply) (ids bounds t cols firsts numbers : List ℕ) (p : Prep
 
 -- A plan that was made
 
-pub fits-holds : (r n c f x : ℕ) → r ≤ stride → n < mostRows → r ≤ c → n < f → n ≤ x → fits r n c f x ≡ true
-unfolding fits
-fits-holds r n c f x a b d e g = rw (le-leb r stride a, lt-ltb n mostRows b, le-leb r c d, lt-ltb n f e, le-leb n x g, fits)
-
 pub planned-prepares :
     (L : Limits) (r n : ℕ) (ids bounds t c f x c' f' x' : List ℕ) (z : Sizes) (p : Prepared)
     → (fits r n (length c) (length f) (length x) ≡ true → Plans (idAt ids) (cell t) r n c f x c' f' x' z)
@@ -126,7 +121,9 @@ pub planned-prepares :
     → page (idAt ids) (boundAt bounds) (cell t) r n ≡ k
     → Prepares (resultReply L k) ids bounds t c' f' x' p
 planned-prepares L r n ids bounds t c f x c' f' x' z p plans a b room wi wb e k g =
-    let plan = plans (fits-holds r n (length c) (length f) (length x) a b (room .columns) (room .distinct) (room .rows)) in
+    let there : Fits r n (length c) (length f) (length x) =
+    record { columns = a; rows = b; toColumns = room .columns; toFirsts = room .distinct; toNumbers = room .rows } in
+    let plan = plans (fits-holds r n (length c) (length f) (length x) there) in
     subst (λ q. Prepares (resultReply L k) ids bounds t c' f' x' q) (sym e)
     (judged-prepares L k z ids bounds t n c' f' x' (tabled r n ids bounds t c f x c' f' x' z k plan wi wb g))
 

@@ -3,31 +3,30 @@
 -- field of a number is the piece with its bytes, the bytes of an id are those of its words, and the counts are the sizes of
 -- the plan. Past the end of the buffer no piece has room.
 use Prim.Native.Nat.{ℕ, zero, suc, _+_, _*_, _≤_, _<_}
-use mathlib.Core.Path.{_≡_, refl, sym, ap, ap₂, _∙_}
+use mathlib.Core.Path.{_≡_, refl, sym, ap, _∙_}
 use mathlib.Core.Bool.{Bool, true, false}
 use mathlib.Core.List.{List, [], _∷_, _++_, append-assoc}
 use native.Mathlib.Nat.{add-zero}
-use native.Mathlib.Numerals.{add-one}
 use native.Mathlib.Omega.{arith}
 use lib.Dec.{eqb}
-use lib.ListN.{length, getD, drop, length-append}
+use lib.ListN.{length, getD, length-append}
 use Rattle.codec.specs.Number.{put}
 use Rattle.codec.specs.Part.{placed, bytes}
 use Rattle.codec.specs.Words.{words2}
 use Rattle.codec.proofs.Numbers.{put-append}
 use Rattle.codec.proofs.Words.{put-words2, put-words3}
 use Rattle.codec.proofs.Writing.{nothing, placed-out, placed-length, placed-append, placed-swap}
-use Rattle.layout.specs.Answer.{elements}
 use Rattle.layout.specs.Knowledge.{Field, putFields, putIds, putElements, putVectors, putRanges, encode}
 use Rattle.layout.specs.Knowledge.{opening, beforeVectors, beforeElements, beforeRanges, closing}
-use Rattle.layout.proofs.Forward.{encode-length}
 use Rattle.tables.specs.declared.Sizes.{Sizes}
 use Rattle.tables.specs.MethodWords.{cell, idAt, boundAt, numbersAt, Words}
-use Rattle.tables.specs.MethodPlan.{rowsFrom, numbersFrom, firstsOf, numbersOf, columnsOf, idsOf, elementsFrom}
+use Rattle.tables.specs.MethodPlan.{firstsOf, numbersOf, columnsOf, idsOf, elementsFrom}
 use Rattle.tables.specs.MethodPlan.{vectorsIn, rangesFrom, rangesIn}
-use Rattle.tables.specs.MethodPlan.{pageOf, page, elementCount, rangeCount, sizesOf, lengthOf, Over, Plans}
+use Rattle.tables.specs.MethodPlan.{pageOf, page, rangeCount, sizesOf, lengthOf, Over, Plans}
 use Rattle.tables.specs.MethodPieces.{laid, joined, idPieces, elementPieces, vectorPieces, vectorsPieces}
 use Rattle.tables.specs.MethodPieces.{rangePieces, rangesPieces, pagePieces}
+use Rattle.tables.proofs.Clauses.{numbersAt-over}
+use Rattle.tables.proofs.PageSizes.{ids-length, vectors-in-length, ranges-from-length, page-length, numbers-of-length}
 
 -- ---- pieces, one after the other
 
@@ -161,40 +160,6 @@ module _ (bounds : List ℕ) (w : Words bounds) where
           ∙ range-put k x (rangesPieces bounds (k + 1) x xs ++ qs)
           ∙ ap (λ (t : List ℕ). put 24 (boundAt bounds k) (put 4 x t)) ih)
 
--- ---- the counts
-
-ids-count : (P : ℕ → ℕ) (cs : List ℕ) → length (idsOf P cs) ≡ length cs
-unfolding idsOf
-ids-count P [] = refl
-ids-count P (c ∷ cs) = ap suc (ids-count P cs)
-
-vectors-count : (T : ℕ → ℕ → ℕ) (cols ks : List ℕ) → length (vectorsIn T cols ks) ≡ length ks
-unfolding vectorsIn
-vectors-count T cols [] = refl
-vectors-count T cols (k ∷ ks) = ap suc (vectors-count T cols ks)
-
-elements-count : (T : ℕ → ℕ → ℕ) (cols ks : List ℕ) → elements (vectorsIn T cols ks) ≡ elementCount T cols ks
-unfolding vectorsIn elements elementCount
-elements-count T cols [] = refl
-elements-count T cols (k ∷ ks) = ap (λ (n : ℕ). length (elementsFrom (T k) 0 cols) + n) (elements-count T cols ks)
-
-ranges-count : (B : ℕ → ℕ) (k before : ℕ) (xs : List ℕ) → length (rangesFrom B k before xs) ≡ rangeCount before xs
-unfolding rangesFrom rangeCount
-ranges-count B k before [] = refl
-ranges-count B k before (x ∷ xs) = go (eqb x before) refl (ranges-count B (k + 1) x xs)
-  where
-    go : (t : Bool) → eqb x before ≡ t → length (rangesFrom B (k + 1) x xs) ≡ rangeCount x xs
-        → length (rangesFrom B k before (x ∷ xs)) ≡ rangeCount before (x ∷ xs)
-    go true e ih = unfold rangesFrom rangeCount in rw (e, rangesFrom, rangeCount) ih
-    go false e ih = unfold rangesFrom rangeCount in rw (e, rangesFrom, rangeCount) (ap suc ih)
-
-pub pieces-length : (P B : ℕ → ℕ) (T : ℕ → ℕ → ℕ) (cs fs xs : List ℕ)
-    → length (encode (pageOf P B T cs fs xs)) ≡ lengthOf (sizesOf T cs fs xs)
-unfolding pageOf sizesOf lengthOf rangesIn
-pieces-length P B T cs fs xs =
-    encode-length (pageOf P B T cs fs xs)
-    ∙ omega (arith, ids-count P cs, vectors-count T cs fs, elements-count T cs fs, ranges-count B 1 (length xs + 1) xs)
-
 -- ---- all of it
 
 page-put : (z : Sizes) (ids bounds t : List ℕ) (n : ℕ) (cols firsts numbers : List ℕ) → Words ids → Words bounds
@@ -241,7 +206,7 @@ encode-page : (P B : ℕ → ℕ) (T : ℕ → ℕ → ℕ) (cs fs xs : List ℕ
     ≡ encode (pageOf P B T cs fs xs)
 unfolding encode pageOf rangesIn
 encode-page P B T cs fs xs r v g n er ev eg en =
-    rw (er, ev, eg, en, ids-count P cs, vectors-count T cs fs, ranges-count B 1 (length xs + 1) xs)
+    rw (er, ev, eg, en, ids-length P cs, vectors-in-length T cs fs, ranges-from-length B 1 (length xs + 1) xs)
 
 -- with the sizes of what stands in the lists, the pieces are the bytes of that knowledge
 pub pieces-encode : (z : Sizes) (ids bounds t : List ℕ) (n : ℕ) (cols firsts numbers cs fs xs : List ℕ)
@@ -258,32 +223,8 @@ pieces-encode z ids bounds t n cols firsts numbers cs fs xs wi wb ez ec ef ex en
 
 -- ---- what a plan leaves in the lists
 
-numbers-shift : (y : ℕ) (l : List ℕ) (i n : ℕ) → numbersAt (y ∷ l) (i + 1) n ≡ numbersAt l i n
-unfolding numbersAt
-numbers-shift y l i zero = refl
-numbers-shift y l i (suc n) = ap₂ {C = List ℕ} (λ x r. x ∷ r) (ap (λ (k : ℕ). getD (y ∷ l) k 0) (add-one i)) (numbers-shift y l (i + 1) n)
-
-numbers-front : (vs w : List ℕ) → numbersAt (vs ++ w) 0 (length vs) ≡ vs
-unfolding numbersAt
-numbers-front [] w = refl
-numbers-front (v ∷ vs) w = ap (λ (r : List ℕ). v ∷ r) (numbers-shift v (vs ++ w) 0 (length vs) ∙ numbers-front vs w)
-
 numbers-over : (vs d u : List ℕ) (n : ℕ) → n ≡ length vs → Over vs d u → vs ≡ numbersAt u 0 n
-numbers-over vs d u n en e = sym (rw (e, en) (numbers-front vs (drop (length vs) d)))
-
-rows-count : (k n : ℕ) → length (rowsFrom k n) ≡ n
-unfolding rowsFrom
-rows-count k zero = refl
-rows-count k (suc n) = ap suc (rows-count (k + 1) n)
-
-numbers-from-count : (eq : ℕ → ℕ → Bool) (seen ks : List ℕ) → length (numbersFrom eq seen ks) ≡ length ks
-unfolding numbersFrom
-numbers-from-count eq seen [] = refl
-numbers-from-count eq seen (k ∷ ks) = ap suc (numbers-from-count eq _ ks)
-
-pub numbers-count : (T : ℕ → ℕ → ℕ) (r n : ℕ) → length (numbersOf T r n) ≡ n
-unfolding numbersOf
-numbers-count T r n = numbers-from-count _ (0 ∷ []) (rowsFrom 1 n) ∙ rows-count 1 n
+numbers-over vs d u n en e = sym (numbersAt-over vs d u e) ∙ ap (numbersAt u 0) (sym en)
 
 module _ (r n : ℕ) (ids bounds t c f x c' f' x' : List ℕ) (z : Sizes) (plans : Plans (idAt ids) (cell t) r n c f x c' f' x' z) where
   -- the planned knowledge is as long as its sizes say
@@ -291,7 +232,7 @@ module _ (r n : ℕ) (ids bounds t c f x c' f' x' : List ℕ) (z : Sizes) (plans
   unfolding page
   planned-length =
       let fs = firstsOf (cell t) r n in
-      pieces-length (idAt ids) (boundAt bounds) (cell t) (columnsOf (idAt ids) (cell t) r fs) fs (numbersOf (cell t) r n)
+      page-length (idAt ids) (boundAt bounds) (cell t) (columnsOf (idAt ids) (cell t) r fs) fs (numbersOf (cell t) r n)
       ∙ ap lengthOf (sym (plans .sizes))
 
   planned-joined : Words ids → Words bounds
@@ -304,8 +245,8 @@ module _ (r n : ℕ) (ids bounds t c f x c' f' x' : List ℕ) (z : Sizes) (plans
       pieces-encode z ids bounds t n c' f' x' cs fs xs wi wb (plans .sizes)
       (numbers-over cs c c' (z .replicas) (ap (λ (y : Sizes). y .replicas) (plans .sizes)) (plans .columns))
       (numbers-over fs f f' (z .vectors) (ap (λ (y : Sizes). y .vectors) (plans .sizes)) (plans .firsts))
-      (numbers-over xs x x' n (sym (numbers-count (cell t) r n)) (plans .numbers))
-      (sym (numbers-count (cell t) r n))
+      (numbers-over xs x x' n (sym (numbers-of-length (cell t) r n)) (plans .numbers))
+      (sym (numbers-of-length (cell t) r n))
 
   -- with room for it, what is written is the planned knowledge
   pub planned-written : (d : List ℕ) (at : ℕ) → Words ids → Words bounds → at + lengthOf z ≤ length d
