@@ -54,3 +54,4 @@ pub mod Runner
 pub mod RecordsInBytes
 pub mod RecordsTable
 pub mod Enough
+pub mod CallSteps
