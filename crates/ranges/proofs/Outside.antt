@@ -34,6 +34,7 @@ use Rattle.lookup.specs.declared.Cursor.{Cursor}
 use Rattle.lookup.specs.Method.{startAt, Opens}
 use Rattle.lookup.proofs.Leaf.{read-lawful, read-ranges, opens-reading}
 use Rattle.ranges.specs.Method.{endBefore, liesIn, insideBy, insideOf}
+use Rattle.ranges.proofs.Ranges.{only}
 
 -- The item before a bound
 
@@ -140,10 +141,6 @@ module _ (s : List ℕ) (c : Cursor) (first last : ℕ) where
       → b ≡ insideOf s c first last
   unfolding insideOf
   inside-there b h e = e ∙ sym (rw (le-leb (c .next + 28 * c .left) (length s) h, insideOf))
-
--- the second, only where the first holds
-unfoldable only : Bool → Bool → Bool
-only b z = elim b [ true ↦ z | false ↦ false ]
 
 inside-step : (s : List ℕ) (first last n next : ℕ)
     → insideBy s first last (suc n) next ≡ only (liesIn s first last n next) (insideBy s first last n (next + 28))
