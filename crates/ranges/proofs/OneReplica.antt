@@ -1,14 +1,13 @@
 -- The largest tick of one replica, range by range, for bytes that the check accepts: it bounds every tick that is known of the replica,
 -- and it is known for some item or 0, as every known tick is 0 or that at a bound. So another knowledge, whose tick of the replica is
 -- alike in all ranges, covers these bytes for that replica exactly where its tick is at least the largest (`top-key-covers`).
-use Prim.Native.Nat.{ℕ, zero, suc, _+_, _*_, _≤_, _<_, max}
-use mathlib.Core.Path.{_≡_, refl, sym, ap, ap₂, _∙_}
+use Prim.Native.Nat.{ℕ, zero, suc, _+_, _≤_, _<_, max}
+use mathlib.Core.Path.{_≡_, refl, sym, ap, _∙_}
 use mathlib.Core.Logic.{_⊎_, inl, inr, ⊎-elim}
 use mathlib.Core.Bool.{Bool, true, false}
 use mathlib.Core.List.{List, [], _∷_}
 use native.Mathlib.Omega.{arith}
 use lib.Dec.{leb}
-use lib.ListN.{length}
 use borrow.Author.Tests.{le-leb, lt-leb}
 use Rattle.codec.specs.Number.{beAt}
 use Rattle.layout.specs.declared.ReplicaKey.{ReplicaKey}
@@ -28,7 +27,7 @@ use Rattle.ticks.proofs.ForCode.{vector-indexed, known-place}
 use Rattle.ticks.proofs.ForRows.{index-own}
 use Rattle.ticks.proofs.ForCover.{covers-for-exact}
 use Rattle.lookup.specs.declared.Cursor.{Cursor}
-use Rattle.lookup.specs.Method.{keyAt, vectorFrom, startAt, elementsHere, tickOf, Opens}
+use Rattle.lookup.specs.Method.{keyAt, vectorFrom, startAt, tickOf, Opens}
 use Rattle.lookup.proofs.Leaf.{read-lawful, read-ranges, read-key, first-place, indices-below, opens-reading}
 use Rattle.ranges.specs.Method.{indexThere, topKeyBy, topKeyOf}
 use Rattle.ranges.proofs.Ranges.{keys-there, next-elements}

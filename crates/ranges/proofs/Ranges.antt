@@ -26,7 +26,8 @@ use Rattle.ticks.proofs.ForRows.{largest-rows, alike-rows}
 use Rattle.lookup.specs.declared.Cursor.{Cursor}
 use Rattle.lookup.specs.Method.{keyAt, vectorFrom, startAt, advanced, There, elementAt, elementsHere, tickOf, tickFrom, Opens}
 use Rattle.lookup.proofs.Loops.{elements-cons, elements-zero, here-is}
-use Rattle.lookup.proofs.Leaf.{read-lawful, read-ranges, read-key, first-place, next-place, vector-elements, indices-below, opens-reading, leaf-known}
+use Rattle.lookup.proofs.Leaf.{read-lawful, read-ranges, read-key, first-place, next-place, vector-elements}
+use Rattle.lookup.proofs.Leaf.{indices-below, opens-reading, leaf-known}
 use Rattle.ranges.specs.Method.{indexThere, topBy, topOf, topKeyBy, topKeyOf, alikeBy, alikeOf, alikeIn}
 
 -- The largest tick
