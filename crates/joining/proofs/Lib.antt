@@ -1,0 +1,4 @@
+-- The laws of joining two tables of records.
+pub mod Addresses
+pub mod JoinedTables
+pub mod Copies

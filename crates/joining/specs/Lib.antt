@@ -1,0 +1,2 @@
+-- The method of the code that joins two tables of records.
+pub mod MethodJoin
