@@ -12,7 +12,8 @@ use borrow.Author.Tests.{lt-ltb, le-ltb}
 use Rattle.layout.specs.Knowledge.{All}
 use Rattle.replication.specs.Record.{Rec}
 use Rattle.replication.specs.Reading.{recAt, whole}
-use Rattle.joining.specs.MethodJoin.{lengthAt, atAddress, recsFrom, sizeFrom, addresses, fronted}
+use Rattle.records.specs.Method.{lengthAt}
+use Rattle.joining.specs.MethodJoin.{atAddress, recsFrom, sizeFrom, addresses, fronted}
 
 module _ {A : Type 0} (f : List ℕ → ℕ → A) (s t : List ℕ) where
   pub at-first : (x : ℕ) → x < length s → atAddress f s t x ≡ f s x

@@ -2,3 +2,4 @@
 pub mod Addresses
 pub mod JoinedTables
 pub mod Copies
+pub mod Turning

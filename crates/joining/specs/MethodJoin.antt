@@ -1,19 +1,14 @@
 -- Two tables of records joined by addresses: a place of the store's bytes s or, from the length of s on, a place of the other bytes t. There
 -- is nothing to believe here: the laws `joined-table`, `joined-size` and `joined-copied` say what these are in the terms of
 -- `replication`.
-use Rattle.codec.specs.Prelude.{ℕ, _+_, _-_, true, false, List, [], _∷_, _++_, ltb, length, take, drop}
-use Rattle.codec.specs.Number.{beAt}
-use Rattle.codec.specs.Part.{placed, part}
+use Rattle.codec.specs.Prelude.{ℕ, _+_, _-_, true, false, _≤_, _≡_, List, [], _∷_, _++_, ltb, length, take, drop}
+use Rattle.codec.specs.Part.{placed}
 use Rattle.replication.specs.Record.{Rec}
-use Rattle.replication.specs.Reading.{recLength, whole, recAt}
+use Rattle.replication.specs.Reading.{recAt}
 use Rattle.replication.specs.Operate.{wins}
 use Rattle.replication.specs.Queries.{places}
-
-unfoldable pub lengthAt : List ℕ → ℕ → ℕ
-lengthAt s at = elim (whole s at) [ true ↦ recLength (beAt s 1 at) | false ↦ 0 ]
-
-unfoldable pub recordPart : List ℕ → ℕ → List ℕ
-recordPart s at = part s at (lengthAt s at)
+use Rattle.records.specs.Method.{lengthAt, recordPart}
+use Rattle.joining.specs.declared.Turned.{Turned}
 
 -- ---- addresses
 
@@ -61,6 +56,14 @@ joinPlaces s t (a ∷ us) bs = joinOn s t a us (joinPlaces s t us) bs
 -- the tables are those that a walker goes through from a place of s and from a place of t
 unfoldable pub joinAt : List ℕ → ℕ → List ℕ → ℕ → List ℕ
 joinAt s a t b = joinPlaces s t (places s a) (places t b)
+
+-- what a turn of the join comes to: the end of both tables, or the next address with the length of its record, and the places from
+-- which the rest is joined; and it takes the bytes that it passes
+pub record Turns (s : List ℕ) (a : ℕ) (t : List ℕ) (b : ℕ) (r : Turned) : Type 0 where
+  pub ends : r .size ≡ 0 → joinAt s a t b ≡ []
+  pub next : (r .size ≡ 0 → ⊥) → joinAt s a t b ≡ r .pick ∷ joinAt s (r .first) t (r .second)
+  pub sized : (r .size ≡ 0 → ⊥) → r .size ≡ atAddress lengthAt s t (r .pick)
+  pub left : r .size + ((length s - r .first) + (length t - r .second)) ≤ (length s - a) + (length t - b)
 
 -- ---- what is written
 
