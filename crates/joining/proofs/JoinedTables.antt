@@ -90,7 +90,7 @@ module _ (s t : List ℕ) where
 -- ---- the records at the addresses
 
 module _ (s t : List ℕ) where
-  recs-first : (us : List ℕ) → All (λ x. x < length s) us → recsFrom s t us ≡ recsOf s us
+  pub recs-first : (us : List ℕ) → All (λ x. x < length s) us → recsFrom s t us ≡ recsOf s us
   recs-first [] h = recs-none s t ∙ sym (recs-nil s)
   recs-first (a ∷ us) h =
       recs-more s t a us
@@ -172,11 +172,11 @@ module _ (s t : List ℕ) where
 
 -- ---- the walker's tables
 
-map-all : (P Q : ℕ → Type 0) → ((x : ℕ) → P x → Q x) → (xs : List ℕ) → All P xs → All Q xs
+pub map-all : (P Q : ℕ → Type 0) → ((x : ℕ) → P x → Q x) → (xs : List ℕ) → All P xs → All Q xs
 map-all P Q f [] h = tt
 map-all P Q f (x ∷ xs) h = (f x (h .0), map-all P Q f xs (h .1))
 
-whole-inside : (s : List ℕ) (x : ℕ) → whole s x ≡ true → x < length s
+pub whole-inside : (s : List ℕ) (x : ℕ) → whole s x ≡ true → x < length s
 whole-inside s x e = let w = whole-back s x e in omega (arith, w .later, w .inside)
 
 module _ (s : List ℕ) (a : ℕ) (t : List ℕ) (b : ℕ) where

@@ -100,7 +100,7 @@ fn turn(s: &[u8], a: usize, t: &[u8], b: usize) -> Turned
 }
 
 // A number of a list, where it has the place.
-fn put(l: &mut [usize], i: usize, x: usize)
+pub fn put(l: &mut [usize], i: usize, x: usize)
     ensures { λ _. ⌜ now (l .exit) ≡ set (now (l .entry)) i x ⌝ }
 {
     if l.len() <= i {
