@@ -73,9 +73,15 @@ module _ (s k : List ℕ) (r n at : ℕ) (c : Cursor) (f : Follows s k r n at c)
     follows-both b e = e ∙ both-in (f .rules) k r d s at follows-whole follows-stands follows-ticks
 
     -- a change version that is contained is not lacking
-    pub follows-lacks : (b : Bool) → b ≡ changeIn s at k r (d .vector) → not b ≡ lacksChange (decode k) (recAt s at)
+    follows-not : (b : Bool) → b ≡ changeIn s at k r (d .vector) → not b ≡ lacksChange (decode k) (recAt s at)
     unfolding lacksChange
-    follows-lacks b e = ap not (follows-change b e)
+    follows-not b e = ap not (follows-change b e)
+
+    pub follows-has : (b : Bool) → b ≡ changeIn s at k r (d .vector) → b ≡ true → false ≡ lacksChange (decode k) (recAt s at)
+    follows-has b e u = sym (ap not u) ∙ follows-not b e
+
+    pub follows-lacks : (b : Bool) → b ≡ changeIn s at k r (d .vector) → b ≡ false → true ≡ lacksChange (decode k) (recAt s at)
+    follows-lacks b e u = sym (ap not u) ∙ follows-not b e
 
 -- ---- a property of each record
 
