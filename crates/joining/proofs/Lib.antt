@@ -3,3 +3,4 @@ pub mod Addresses
 pub mod JoinedTables
 pub mod Copies
 pub mod Turning
+pub mod Written

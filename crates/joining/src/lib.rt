@@ -1,14 +1,45 @@
-// Two tables of records joined, the records chosen copied.
+// Two tables of records joined, the records chosen copied, and a record written.
 //
 // A table is what a walker goes through from a place of some bytes on. The join is decided once: a first pass finds the records of the
 // result, stores their addresses, and counts them and their bytes; a second pass copies them. An address is a place of the first bytes
-// or, from their length on, a place of the second. Every public function is total.
+// or, from their length on, a place of the second. Every public function is total: what has no room is not written.
+use records::ItemWords;
+use records::ReplicaWords;
 ghost use mathlib.Core.Path.{_≡_};
-ghost use Prim.Native.Nat.{_+_, _≤_, _<_};
+ghost use mathlib.Core.List.{[]};
+ghost use Prim.Native.Nat.{_+_, _^_, _≤_, _<_};
 ghost use lib.ListN.{length, take, set};
+ghost use Rattle.codec.specs.Number.{put};
 ghost use Rattle.codec.specs.Part.{placed};
+ghost use Rattle.codec.specs.Words.{words2, words3};
+ghost use Rattle.replication.specs.Formats.{kindOf, putRec};
 ghost use Rattle.records.specs.Method.{lengthAt, recordPart};
 ghost use Rattle.joining.specs.MethodJoin.{atAddress, sizeFrom, joinAt, Turns, fronted, copied};
+ghost use Rattle.joining.specs.MethodWritten.{recordOf, putVersion, Wrote};
+
+// the length of a record of either kind
+pub const RECORD_LENGTH: usize = 89;
+
+// The words of a content tag.
+pub struct TagWords {
+    pub high: u64,
+    pub low: u64,
+}
+
+// A change or create version, but for its item.
+pub struct VersionWords {
+    pub replica: ReplicaWords,
+    pub tick: u64,
+}
+
+// A record. A tombstone is deleted, and its tag is zeros.
+pub struct RecordWords {
+    pub item: ItemWords,
+    pub change: VersionWords,
+    pub create: VersionWords,
+    pub deleted: bool,
+    pub tag: TagWords,
+}
 
 // How many records there are, and how many bytes they have together.
 pub struct Extent {
@@ -18,11 +49,11 @@ pub struct Extent {
 
 // What a turn of the join comes to: the next address, the length of the record there, 0 at the end of both tables, and the
 // places behind what is passed.
-pub struct Turned {
-    pub pick: usize,
-    pub size: usize,
-    pub first: usize,
-    pub second: usize,
+struct Turned {
+    pick: usize,
+    size: usize,
+    first: usize,
+    second: usize,
 }
 
 // ---- the join
@@ -67,6 +98,7 @@ fn turn_both(s: &[u8], a: usize, m: usize, t: &[u8], b: usize, n: usize) -> Turn
     }
 }
 
+// The next turn, also where one table has ended, or both.
 fn turn(s: &[u8], a: usize, t: &[u8], b: usize) -> Turned
     ensures { λ r. ⌜ Turns (now (s .entry)) a (now (t .entry)) b r ⌝ }
 {
@@ -170,4 +202,73 @@ pub fn copy_picked(s: &[u8], t: &[u8], picks: &[usize], n: usize, out: &mut [u8]
         p += m;
         i += 1;
     }
+}
+
+// ---- a record written
+
+// An id of two words and one of three, and a version but for its item. Their contracts also say that words have 64 bits, which those of a
+// struct are not known to have.
+fn write_pair(out: &mut [u8], at: usize, high: u64, low: u64)
+    requires { ⌜ at + 16 < 2 ^ 64 ⌝ }
+    ensures { λ _. ⌜ (Wrote (now (out .entry)) at (put 16 (words2 high low)) (now (out .exit)) (at + 16))
+        × (high < 2 ^ 64) × (low < 2 ^ 64) ⌝ }
+{
+    codec::write8(out, at, high);
+    codec::write8(out, at + 8, low);
+}
+
+fn write_item(out: &mut [u8], at: usize, high: u64, middle: u64, low: u64)
+    requires { ⌜ at + 24 < 2 ^ 64 ⌝ }
+    ensures { λ _. ⌜ (Wrote (now (out .entry)) at (put 24 (words3 high middle low)) (now (out .exit)) (at + 24))
+        × (high < 2 ^ 64) × (middle < 2 ^ 64) × (low < 2 ^ 64) ⌝ }
+{
+    codec::write8(out, at, high);
+    codec::write8(out, at + 8, middle);
+    codec::write8(out, at + 16, low);
+}
+
+fn write_version(out: &mut [u8], at: usize, high: u64, low: u64, tick: u64)
+    requires { ⌜ at + 24 < 2 ^ 64 ⌝ }
+    ensures { λ _. ⌜ (Wrote (now (out .entry)) at (putVersion (words2 high low) tick) (now (out .exit)) (at + 24))
+        × (high < 2 ^ 64) × (low < 2 ^ 64) × (tick < 2 ^ 64) ⌝ }
+{
+    write_pair(out, at, high, low);
+    codec::write8(out, at + 16, tick);
+}
+
+// The kind of a record.
+fn kind_of(r: RecordWords) -> u64
+    ensures { λ k. ⌜ k ≡ kindOf (recordOf r .content) ⌝ }
+{
+    if r.deleted {
+        return 2;
+    }
+    1
+}
+
+// A record's bytes, from a place of an output on.
+pub fn write_record(out: &mut [u8], at: usize, r: RecordWords)
+    ensures { λ _. ⌜ now (out .exit) ≡ placed (now (out .entry)) at (putRec (recordOf r) []) ⌝ }
+{
+    if codec::beyond(out.len(), at, RECORD_LENGTH) {
+        return;
+    }
+    let kind = kind_of(r);
+    codec::write1(out, at, kind);
+    write_item(out, at + 1, r.item.high, r.item.middle, r.item.low);
+    write_version(
+        out,
+        at + 25,
+        r.change.replica.high,
+        r.change.replica.low,
+        r.change.tick,
+    );
+    write_version(
+        out,
+        at + 49,
+        r.create.replica.high,
+        r.create.replica.low,
+        r.create.tick,
+    );
+    write_pair(out, at + 73, r.tag.high, r.tag.low);
 }
