@@ -1,17 +1,14 @@
 -- Addresses: what is said at an address is said at a place of the first bytes or of the second. The records at addresses, their number and
 -- their bytes together are said one after the other. Numbers stored one after the other from the front of a list stand there, as many as it
 -- has room for, since a store past the end changes nothing.
-use Prim.Native.Nat.{ℕ, zero, suc, _+_, _-_, _*_, _≤_, _<_}
-use mathlib.Core.Path.{_≡_, refl, sym, ap, ap₂, subst, _∙_}
-use mathlib.Core.Bool.{Bool, true, false}
-use mathlib.Core.List.{List, [], _∷_, _++_, append-nil}
+use Prim.Native.Nat.{ℕ, suc, _+_, _-_, _≤_, _<_}
+use mathlib.Core.Path.{_≡_, refl, sym, ap, _∙_}
+use mathlib.Core.List.{List, [], _∷_, _++_}
 use native.Mathlib.Omega.{arith}
-use lib.ListN.{length, take, drop, set, length-set}
-use lib.Seq.{sets, set-out, take-nil, drop-nil, take-all, take-append-seam}
+use lib.ListN.{length, take, drop, set}
+use lib.Seq.{sets, drop-nil, take-all, take-append-seam}
 use borrow.Author.Tests.{lt-ltb, le-ltb}
-use Rattle.layout.specs.Knowledge.{All}
-use Rattle.replication.specs.Record.{Rec}
-use Rattle.replication.specs.Reading.{recAt, whole}
+use Rattle.replication.specs.Reading.{recAt}
 use Rattle.records.specs.Method.{lengthAt}
 use Rattle.joining.specs.MethodJoin.{atAddress, recsFrom, sizeFrom, addresses, fronted}
 

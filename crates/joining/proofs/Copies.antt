@@ -1,7 +1,7 @@
 -- The records at addresses, copied one after the other. Where at each address stands a whole record and there is room for all, what is
 -- written is the bytes of the records: for the addresses of two joined tables, the bytes of the join.
 use Prim.Native.Nat.{ℕ, zero, suc, _+_, _-_, _*_, _≤_, _<_}
-use mathlib.Core.Path.{_≡_, refl, sym, ap, ap₂, subst, _∙_}
+use mathlib.Core.Path.{_≡_, refl, sym, ap, ap₂, _∙_}
 use mathlib.Core.Bool.{Bool, true, false}
 use mathlib.Core.List.{List, [], _∷_, _++_}
 use native.Mathlib.Omega.{arith}
@@ -21,7 +21,7 @@ use Rattle.replication.specs.Operate.{join}
 use Rattle.replication.specs.MethodTable.{tableAt}
 use Rattle.replication.proofs.RecordBytes.{recSize, kind-length, whole-back, rec-length, rec-append}
 use Rattle.records.specs.Method.{lengthAt, recordPart}
-use Rattle.records.proofs.Fields.{length-whole, length-most, length-nothing, part-record}
+use Rattle.records.proofs.Fields.{length-whole, length-nothing, part-record}
 use Rattle.joining.specs.MethodJoin.{atAddress, recsFrom, sizeFrom, joinAt, fronted, copied}
 use Rattle.joining.proofs.Addresses.{at-first, at-later, recs-none, recs-more, recs-count, size-none, size-more, fronted-take}
 use Rattle.joining.proofs.JoinedTables.{joined-table, joined-whole}
@@ -69,7 +69,8 @@ module _ (s t : List ℕ) (x : ℕ) where
         ∙ (part-record s x b (sym (at-first whole s t x h) ∙ w) ∙ ap (λ (r : Rec). putRec r []) (sym (at-first recAt s t x h))))
         (λ h.
         at-later recordPart s t x h
-        ∙ (part-record t (x - length s) c (sym (at-later whole s t x h) ∙ w) ∙ ap (λ (r : Rec). putRec r []) (sym (at-later recAt s t x h))))
+        ∙ (part-record t (x - length s) c (sym (at-later whole s t x h) ∙ w)
+        ∙ ap (λ (r : Rec). putRec r []) (sym (at-later recAt s t x h))))
 
 -- ---- all of them
 
@@ -97,14 +98,16 @@ module _ (s t : List ℕ) where
   copied-past d at (x ∷ xs) h =
       let e : placed d at (atAddress recordPart s t x) ≡ d = sym (placed-out d at (atAddress recordPart s t x) (omega arith)) in
       copied-more d at x xs
-      ∙ (ap (λ (u : List ℕ). copied s t u (at + atAddress lengthAt s t x) xs) e ∙ copied-past d (at + atAddress lengthAt s t x) xs (omega arith))
+      ∙ (ap (λ (u : List ℕ). copied s t u (at + atAddress lengthAt s t x) xs) e
+      ∙ copied-past d (at + atAddress lengthAt s t x) xs (omega arith))
 
   -- a buffer keeps its length
   pub copied-length : (d : List ℕ) (at : ℕ) (xs : List ℕ) → length (copied s t d at xs) ≡ length d
   copied-length d at [] = ap length (copied-none d at)
   copied-length d at (x ∷ xs) =
       ap length (copied-more d at x xs)
-      ∙ (copied-length (placed d at (atAddress recordPart s t x)) (at + atAddress lengthAt s t x) xs ∙ placed-length d at (atAddress recordPart s t x))
+      ∙ (copied-length (placed d at (atAddress recordPart s t x)) (at + atAddress lengthAt s t x) xs
+      ∙ placed-length d at (atAddress recordPart s t x))
 
   -- all records have the same length
   pub size-whole : (xs : List ℕ) → All (λ x. atAddress whole s t x ≡ true) xs → sizeFrom s t xs ≡ recSize * length xs
@@ -124,7 +127,8 @@ module _ (s t : List ℕ) where
   pub copied-fits : (d : List ℕ) (at : ℕ) (xs : List ℕ) → Bytes s → Bytes t → All (λ x. atAddress whole s t x ≡ true) xs
       → at + sizeFrom s t xs ≤ length d → copied s t d at xs ≡ placed d at (putRecs (recsFrom s t xs) [])
   copied-fits d at [] b c w h =
-      copied-none d at ∙ (nothing d at ∙ sym (ap (λ (rs : List Rec). placed d at (putRecs rs [])) (recs-none s t) ∙ ap (placed d at) put-none))
+      copied-none d at ∙ (nothing d at ∙ sym (ap (λ (rs : List Rec). placed d at (putRecs rs [])) (recs-none s t)
+      ∙ ap (placed d at) put-none))
   copied-fits d at (x ∷ xs) b c w h =
       let r = atAddress recAt s t x in
       let rs = recsFrom s t xs in
@@ -135,7 +139,8 @@ module _ (s t : List ℕ) where
       let m : at + length (putRec r [] ++ putRecs rs []) ≤ length d =
       omega (arith, n, k, rec-length r [], rec-length r (putRecs rs []), ap length (rec-append r (putRecs rs [])), bytes-whole xs (w .1)) in
       copied-more d at x xs
-      ∙ (ap₂ {C = List ℕ} (λ (v : List ℕ) (i : ℕ). copied s t v i xs) (ap (placed d at) (from-part s t x (w .0) b c)) (ap (λ (i : ℕ). at + i) n)
+      ∙ (ap₂ {C = List ℕ} (λ (v : List ℕ) (i : ℕ). copied s t v i xs) (ap (placed d at) (from-part s t x (w .0) b c))
+      (ap (λ (i : ℕ). at + i) n)
       ∙ (copied-fits u (at + length (putRec r [])) xs b c (w .1) l
       ∙ (placed-append d at (putRec r []) (putRecs rs []) m
       ∙ ap (placed d at) (sym (ap (λ (qs : List Rec). putRecs qs []) (recs-more s t x xs) ∙ put-more r rs)))))
@@ -210,4 +215,5 @@ module _ (s t : List ℕ) (picks d : List ℕ) (at n : ℕ) where
         inv
         ∙ (ap₂ {C = List ℕ} (λ (c : ℕ) (l : List ℕ). copied s t u p (take c l)) k j
         ∙ (copied-more s t u p x (take (n - (i + 1)) (drop (i + 1) picks))
-        ∙ ap₂ {C = List ℕ} (λ (w : List ℕ) (q : ℕ). copied s t w q (take (n - (i + 1)) (drop (i + 1) picks))) (sym g) (ap (λ (q : ℕ). p + q) (sym f))))
+        ∙ ap₂ {C = List ℕ} (λ (w : List ℕ) (q : ℕ). copied s t w q (take (n - (i + 1)) (drop (i + 1) picks))) (sym g)
+        (ap (λ (q : ℕ). p + q) (sym f))))

@@ -1,6 +1,6 @@
--- The addresses of two joined tables. They are found by the same comparisons as the joined records, so that the records at them are the join;
--- at each of them stands a whole record; and they can be found in turns, each of which takes the next record of one table or of both.
-use Prim.Native.Nat.{ℕ, suc, _+_, _*_, _≤_, _<_}
+-- The addresses of two joined tables. They are found by the comparisons of the join, so that the records at them are the joined records; at
+-- each of them stands a whole record; and they are found in turns, each of which takes the next record of one table or of both.
+use Prim.Native.Nat.{ℕ, _+_, _≤_, _<_}
 use mathlib.Core.Path.{_≡_, refl, sym, ap, ap₂, subst, _∙_}
 use mathlib.Core.Bool.{Bool, true, false}
 use mathlib.Core.List.{List, [], _∷_}
@@ -90,11 +90,12 @@ module _ (s t : List ℕ) where
 -- ---- the records at the addresses
 
 module _ (s t : List ℕ) where
-  recs-first : (us : List ℕ) → All (λ x. x < length s) us → recsFrom s t us ≡ recsOf s us
+  pub recs-first : (us : List ℕ) → All (λ x. x < length s) us → recsFrom s t us ≡ recsOf s us
   recs-first [] h = recs-none s t ∙ sym (recs-nil s)
   recs-first (a ∷ us) h =
       recs-more s t a us
-      ∙ (ap₂ {C = List Rec} (λ (r : Rec) (rs : List Rec). r ∷ rs) (at-first recAt s t a (h .0)) (recs-first us (h .1)) ∙ sym (recs-cons s a us))
+      ∙ (ap₂ {C = List Rec} (λ (r : Rec) (rs : List Rec). r ∷ rs) (at-first recAt s t a (h .0)) (recs-first us (h .1))
+      ∙ sym (recs-cons s a us))
 
   recs-second : (vs : List ℕ) → recsFrom s t (addresses s vs) ≡ recsOf t vs
   recs-second [] = ap (recsFrom s t) (addresses-none s) ∙ (recs-none s t ∙ sym (recs-nil t))
@@ -112,7 +113,8 @@ module _ (s t : List ℕ) where
       go true e = ap (atAddress recAt s t) (winner-theirs s t a b e) ∙ (at-second recAt s t b ∙ rw (e, winnerOf))
       go false e = ap (atAddress recAt s t) (winner-mine s t a b e) ∙ (at-first recAt s t a h ∙ rw (e, winnerOf))
 
-  step : (x : ℕ) (xs ys : List ℕ) (r : Rec) (rs : List Rec) → ys ≡ x ∷ xs → atAddress recAt s t x ≡ r → recsFrom s t xs ≡ rs → recsFrom s t ys ≡ r ∷ rs
+  step : (x : ℕ) (xs ys : List ℕ) (r : Rec) (rs : List Rec) → ys ≡ x ∷ xs → atAddress recAt s t x ≡ r → recsFrom s t xs ≡ rs
+      → recsFrom s t ys ≡ r ∷ rs
   step x xs ys r rs e f g =
       ap (recsFrom s t) e ∙ (recs-more s t x xs ∙ ap₂ {C = List Rec} (λ (q : Rec) (qs : List Rec). q ∷ qs) f g)
 
@@ -134,7 +136,8 @@ module _ (s t : List ℕ) where
             (rest (b ∷ vs) ∙ ap (join xs) (recs-cons t b vs))
             ∙ sym (ap (join (x ∷ xs)) (recs-cons t b vs) ∙ join-left x xs y ys l)
         | same l ↦
-            step (winnerFrom s a t b) (joinPlaces s t us vs) _ (winnerOf x y) (join xs ys) (joined-same s t a us b vs l) (rec-winner a b h) (rest vs)
+            step (winnerFrom s a t b) (joinPlaces s t us vs) _ (winnerOf x y) (join xs ys) (joined-same s t a us b vs l)
+            (rec-winner a b h) (rest vs)
             ∙ sym (ap (join (x ∷ xs)) (recs-cons t b vs) ∙ join-same x xs y ys l)
         | more l ↦
             step (length s + b) (joinPlaces s t (a ∷ us) vs) _ y (join (x ∷ xs) ys) (joined-right s t a us b vs l) (at-second recAt s t b)
@@ -145,9 +148,11 @@ module _ (s t : List ℕ) where
   -- the records at the addresses are the joined tables
   pub joined-recs : (us vs : List ℕ) → All (λ x. x < length s) us → recsFrom s t (joinPlaces s t us vs) ≡ join (recsOf s us) (recsOf t vs)
   joined-recs [] vs h =
-      ap (recsFrom s t) (joined-none s t vs) ∙ (recs-second vs ∙ sym (ap (λ (rs : List Rec). join rs (recsOf t vs)) (recs-nil s) ∙ join-none (recsOf t vs)))
+      ap (recsFrom s t) (joined-none s t vs) ∙ (recs-second vs
+      ∙ sym (ap (λ (rs : List Rec). join rs (recsOf t vs)) (recs-nil s) ∙ join-none (recsOf t vs)))
   joined-recs (a ∷ us) vs h =
-      from-join a us (h .0) (h .1) (λ ws. joined-recs us ws (h .1)) vs ∙ sym (ap (λ (rs : List Rec). join rs (recsOf t vs)) (recs-cons s a us))
+      from-join a us (h .0) (h .1) (λ ws. joined-recs us ws (h .1)) vs
+      ∙ sym (ap (λ (rs : List Rec). join rs (recsOf t vs)) (recs-cons s a us))
 
   -- ---- what holds of the places of both tables holds of the addresses
 
@@ -156,7 +161,8 @@ module _ (s t : List ℕ) where
   all-second P [] h = tt
   all-second P (b ∷ vs) h = (h .0, all-second P vs (h .1))
 
-  from-all : (P : ℕ → Type 0) (a : ℕ) (us : List ℕ) → P a → All P us → ((vs : List ℕ) → All (λ b. P (length s + b)) vs → All P (joinPlaces s t us vs))
+  from-all : (P : ℕ → Type 0) (a : ℕ) (us : List ℕ) → P a → All P us
+      → ((vs : List ℕ) → All (λ b. P (length s + b)) vs → All P (joinPlaces s t us vs))
       → (vs : List ℕ) → All (λ b. P (length s + b)) vs → All P (joinPlaces s t (a ∷ us) vs)
   from-all P a us p ps rest [] q = subst (All P) (sym (joined-nil s t (a ∷ us))) (p, ps)
   from-all P a us p ps rest (b ∷ vs) q =
@@ -172,11 +178,11 @@ module _ (s t : List ℕ) where
 
 -- ---- the walker's tables
 
-map-all : (P Q : ℕ → Type 0) → ((x : ℕ) → P x → Q x) → (xs : List ℕ) → All P xs → All Q xs
+pub map-all : (P Q : ℕ → Type 0) → ((x : ℕ) → P x → Q x) → (xs : List ℕ) → All P xs → All Q xs
 map-all P Q f [] h = tt
 map-all P Q f (x ∷ xs) h = (f x (h .0), map-all P Q f xs (h .1))
 
-whole-inside : (s : List ℕ) (x : ℕ) → whole s x ≡ true → x < length s
+pub whole-inside : (s : List ℕ) (x : ℕ) → whole s x ≡ true → x < length s
 whole-inside s x e = let w = whole-back s x e in omega (arith, w .later, w .inside)
 
 module _ (s : List ℕ) (a : ℕ) (t : List ℕ) (b : ℕ) where
@@ -188,15 +194,18 @@ module _ (s : List ℕ) (a : ℕ) (t : List ℕ) (b : ℕ) where
   unfolding tableAt
   joined-table =
       ap (recsFrom s t) at-is
-      ∙ joined-recs s t (places s a) (places t b) (map-all (λ x. whole s x ≡ true) (λ x. x < length s) (whole-inside s) (places s a) (places-whole s a))
+      ∙ joined-recs s t (places s a) (places t b) (map-all (λ x. whole s x ≡ true) (λ x. x < length s) (whole-inside s) (places s a)
+      (places-whole s a))
 
   -- at each address stands a whole record
   pub joined-whole : All (λ x. atAddress whole s t x ≡ true) (joinAt s a t b)
   joined-whole =
       subst (All (λ x. atAddress whole s t x ≡ true)) (sym at-is)
       (joined-all s t (λ x. atAddress whole s t x ≡ true) (places s a) (places t b)
-      (map-all (λ x. whole s x ≡ true) (λ x. atAddress whole s t x ≡ true) (λ x e. at-first whole s t x (whole-inside s x e) ∙ e) (places s a) (places-whole s a))
-      (map-all (λ x. whole t x ≡ true) (λ x. atAddress whole s t (length s + x) ≡ true) (λ x e. at-second whole s t x ∙ e) (places t b) (places-whole t b)))
+      (map-all (λ x. whole s x ≡ true) (λ x. atAddress whole s t x ≡ true) (λ x e. at-first whole s t x (whole-inside s x e) ∙ e)
+      (places s a) (places-whole s a))
+      (map-all (λ x. whole t x ≡ true) (λ x. atAddress whole s t (length s + x) ≡ true) (λ x e. at-second whole s t x ∙ e) (places t b)
+      (places-whole t b)))
 
   -- ---- turns
 
@@ -223,7 +232,8 @@ module _ (s : List ℕ) (a : ℕ) (t : List ℕ) (b : ℕ) where
       two s a t b [] _ (places-end s a u) (places-step t b v)
       ∙ next a (behind t b) (length s + b) [] (places t (behind t b)) _
       (joined-none s t (b ∷ places t (behind t b))
-      ∙ (addresses-more s b (places t (behind t b)) ∙ ap (λ (l : List ℕ). (length s + b) ∷ l) (sym (joined-none s t (places t (behind t b))))))
+      ∙ (addresses-more s b (places t (behind t b)) ∙ ap (λ (l : List ℕ). (length s + b) ∷ l)
+      (sym (joined-none s t (places t (behind t b))))))
       (places-end s a u) refl
 
   module _ (u : whole s a ≡ true) (v : whole t b ≡ true) where

@@ -1,9 +1,10 @@
--- The join in turns. Each turn finds the next address of the result, since it makes the comparisons of the definition, and passes a whole
--- record of one table or of both, so that fewer bytes are left. What was counted and stored so far, with what is left to join, is the whole.
-use Prim.Native.Nat.{ℕ, zero, suc, _+_, _-_, _≤_, _<_}
-use mathlib.Core.Path.{_≡_, refl, sym, ap, ap₂, subst, _∙_}
+-- The join in turns, as the code makes them. Each finds the next address of the result, since it makes the comparisons of the definition,
+-- and passes a whole record of one table or of both, so that fewer bytes are left. What was counted and stored so far, with what is left
+-- to join, is the whole.
+use Prim.Native.Nat.{ℕ, _+_, _-_, _≤_, _<_}
+use mathlib.Core.Path.{_≡_, refl, sym, ap, ap₂, _∙_}
 use mathlib.Core.Bool.{Bool, true, false}
-use mathlib.Core.List.{List, [], _∷_}
+use mathlib.Core.List.{List, _∷_}
 use native.Mathlib.Omega.{arith}
 use native.Mathlib.Numerals.{add-one}
 use lib.Dec.{eqb, ltb}
@@ -13,12 +14,11 @@ use borrow.Author.Tests.{ltb-true, ltb-false, eqb-true, eqb-false}
 use Rattle.codec.specs.Total.{readAt}
 use Rattle.replication.specs.Reading.{behind, itemPlace, recAt, whole}
 use Rattle.replication.specs.Operate.{wins}
-use Rattle.replication.specs.MethodRecords.{WholeAt}
 use Rattle.records.specs.Method.{lengthAt, readRec}
 use Rattle.records.proofs.Fields.{length-ends, length-stands, length-behind, item-word, wins-whole}
 use Rattle.records.proofs.Finding.{length-at, length-inside}
 use Rattle.joining.specs.declared.Turned.{Turned}
-use Rattle.joining.specs.MethodJoin.{atAddress, sizeFrom, winnerFrom, joinAt, Turns, fronted}
+use Rattle.joining.specs.MethodJoin.{sizeFrom, winnerFrom, joinAt, Turns, fronted}
 use Rattle.joining.proofs.Addresses.{at-first, at-second, size-none, size-more, fronted-sets}
 use Rattle.joining.proofs.JoinedTables.{winner-theirs, winner-mine, turn-end, turn-first, turn-second, turn-left, turn-right, turn-same}
 
@@ -28,7 +28,8 @@ none-of m h z = omega arith
 
 module _ (s : List ℕ) (a m : ℕ) (t : List ℕ) (b n : ℕ) (e : m ≡ lengthAt s a) (f : n ≡ lengthAt t b) where
   -- a turn that passes a record of the first table, of the second, and of both
-  passes-first : (m ≡ 0 → ⊥) → joinAt s a t b ≡ a ∷ joinAt s (behind s a) t b → Turns s a t b (record { pick = a; size = m; first = a + m; second = b })
+  passes-first : (m ≡ 0 → ⊥) → joinAt s a t b ≡ a ∷ joinAt s (behind s a) t b
+      → Turns s a t b (record { pick = a; size = m; first = a + m; second = b })
   passes-first z h =
       let l : a + m ≤ length s = length-inside s a m e z in
       let k : a < length s = length-at s a m e z .first in

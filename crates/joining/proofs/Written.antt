@@ -1,22 +1,22 @@
--- A record written field by field. Each part is written where the one before it ended, so that with room for all what is written is the record's
--- bytes: those of its fields one after the other, as each field is read at its place. Read again, an array of one record so written is the
--- table of that record; so an edit is the join of a store's table with such an array.
-use Prim.Native.Nat.{ℕ, _+_, _*_, _^_, _≤_, _<_}
-use mathlib.Core.Path.{_≡_, refl, sym, ap, ap₂, subst, _∙_}
-use mathlib.Core.Bool.{Bool, true, false}
+-- A record written field by field. Each part is written where the one before it ended, so that with room for all what is written is the
+-- record's bytes: those of its fields one after the other, since each field is read at its place. Read again, an array of one record so
+-- written is the table of that record; so an edit is the join of a store's table with such an array.
+use Prim.Native.Nat.{ℕ, _+_, _^_, _≤_, _<_}
+use mathlib.Core.Path.{_≡_, sym, ap, ap₂, subst, _∙_}
+use mathlib.Core.Bool.{true, false}
 use mathlib.Core.List.{List, [], _∷_, _++_, append-nil}
 use mathlib.Core.Option.{some}
 use native.Mathlib.Omega.{arith}
 use lib.Arith.{digits-lt}
-use lib.ListN.{length, take, drop}
+use lib.ListN.{length, drop}
 use lib.Seq.{drop-length}
-use Rattle.codec.specs.Number.{Bytes, beAt, put}
+use Rattle.codec.specs.Number.{beAt, put}
 use Rattle.codec.specs.Part.{placed, bytes}
 use Rattle.codec.specs.Words.{words2, words3}
 use Rattle.codec.proofs.Numbers.{put-length, put-append, put-back}
 use Rattle.codec.proofs.Words.{put-words2, put-words3}
 use Rattle.codec.proofs.Writing.{placed-in, placed-out, placed-length, placed-append, nothing, bytes-length}
-use Rattle.layout.proofs.Chain.{Stands, stands-whole}
+use Rattle.layout.proofs.Chain.{stands-whole}
 use Rattle.replication.specs.Record.{Rec}
 use Rattle.replication.specs.Formats.{kindOf, putRec, putRecs, find}
 use Rattle.replication.specs.Reading.{contentAt, recAt}
@@ -73,13 +73,15 @@ pair-wrote d e u at x y h a b =
     (wrote-by d at (λ t. put 8 x (put 8 y t)) (put 16 (words2 x y)) (λ t. sym (put-words2 x y t h)) u (at + 8 + 8)
     (wrote-then d at (put 8 x) e (at + 8) (wrote-number d e at 8 x a) (put 8 y) u (at + 8 + 8) (wrote-number e u (at + 8) 8 y b)))
 
-pub item-wrote : (d e f u : List ℕ) (at x y z : ℕ) → y < 2 ^ 64 → z < 2 ^ 64 → e ≡ placed d at (bytes 8 x) → f ≡ placed e (at + 8) (bytes 8 y)
+pub item-wrote : (d e f u : List ℕ) (at x y z : ℕ) → y < 2 ^ 64 → z < 2 ^ 64 → e ≡ placed d at (bytes 8 x)
+    → f ≡ placed e (at + 8) (bytes 8 y)
     → u ≡ placed f (at + 16) (bytes 8 z) → Wrote d at (put 24 (words3 x y z)) u (at + 24)
 item-wrote d e f u at x y z h k a b c =
     wrote-to d at (put 24 (words3 x y z)) u (at + 16 + 8) (at + 24) (omega arith)
     (wrote-by d at (λ t. put 8 x (put 8 y (put 8 z t))) (put 24 (words3 x y z)) (λ t. sym (put-words3 x y z t h k)) u (at + 16 + 8)
     (wrote-then d at (put 8 x) e (at + 8) (wrote-number d e at 8 x a) (λ t. put 8 y (put 8 z t)) u (at + 16 + 8)
-    (wrote-then e (at + 8) (put 8 y) f (at + 16) (wrote-to e (at + 8) (put 8 y) f (at + 8 + 8) (at + 16) (omega arith) (wrote-number e f (at + 8) 8 y b))
+    (wrote-then e (at + 8) (put 8 y) f (at + 16) (wrote-to e (at + 8) (put 8 y) f (at + 8 + 8) (at + 16) (omega arith)
+    (wrote-number e f (at + 8) 8 y b))
     (put 8 z) u (at + 16 + 8) (wrote-number f u (at + 16) 8 z c))))
 
 pub version-wrote : (d e u : List ℕ) (at replica tick : ℕ) → Wrote d at (put 16 replica) e (at + 16) → u ≡ placed e (at + 16) (bytes 8 tick)

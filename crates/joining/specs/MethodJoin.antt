@@ -1,6 +1,6 @@
--- Two tables of records joined by addresses: a place of the store's bytes s or, from the length of s on, a place of the other bytes t. There
--- is nothing to believe here: the laws `joined-table`, `joined-size` and `joined-copied` say what these are in the terms of
--- `replication`.
+-- Two tables of records joined by addresses. An address is a place of the store's bytes s or, from the length of s on, a place of the
+-- other bytes t, counted from there. There is nothing to believe here: the laws `joined-table`, `joined-count`, `joined-size` and
+-- `joined-copied` say what these are in the terms of `replication`.
 use Rattle.codec.specs.Prelude.{ℕ, _+_, _-_, true, false, _≤_, _≡_, List, [], _∷_, _++_, ltb, length, take, drop}
 use Rattle.codec.specs.Part.{placed}
 use Rattle.replication.specs.Record.{Rec}
@@ -28,7 +28,7 @@ sizeFrom s t (x ∷ xs) = atAddress lengthAt s t x + sizeFrom s t xs
 -- the addresses of places of t
 unfoldable pub addresses : List ℕ → List ℕ → List ℕ
 addresses s [] = []
-addresses s (b ∷ bs) = (length s + b) ∷ addresses s bs
+addresses s (b ∷ vs) = (length s + b) ∷ addresses s vs
 
 -- ---- the join
 
@@ -39,19 +39,19 @@ winnerFrom s a t b = elim (wins (recAt s a) (recAt t b)) [ true ↦ length s + b
 -- the place a of s and those after it, joined with places of t, rest being what joins those after a
 unfoldable pub joinOn : List ℕ → List ℕ → ℕ → List ℕ → (List ℕ → List ℕ) → List ℕ → List ℕ
 joinOn s t a us rest [] = a ∷ us
-joinOn s t a us rest (b ∷ bs) =
+joinOn s t a us rest (b ∷ vs) =
     elim (ltb (recAt s a .item) (recAt t b .item)) [
-      | true ↦ a ∷ rest (b ∷ bs)
+      | true ↦ a ∷ rest (b ∷ vs)
       | false ↦ elim (ltb (recAt t b .item) (recAt s a .item)) [
-        | true ↦ (length s + b) ∷ joinOn s t a us rest bs
-        | false ↦ winnerFrom s a t b ∷ rest bs
+        | true ↦ (length s + b) ∷ joinOn s t a us rest vs
+        | false ↦ winnerFrom s a t b ∷ rest vs
       ]
     ]
 
 -- the addresses of the joined tables, whose records stand at places of s and of t
 unfoldable pub joinPlaces : List ℕ → List ℕ → List ℕ → List ℕ → List ℕ
-joinPlaces s t [] bs = addresses s bs
-joinPlaces s t (a ∷ us) bs = joinOn s t a us (joinPlaces s t us) bs
+joinPlaces s t [] vs = addresses s vs
+joinPlaces s t (a ∷ us) vs = joinOn s t a us (joinPlaces s t us) vs
 
 -- the tables are those that a walker goes through from a place of s and from a place of t
 unfoldable pub joinAt : List ℕ → ℕ → List ℕ → ℕ → List ℕ

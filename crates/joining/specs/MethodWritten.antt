@@ -1,5 +1,5 @@
--- A record that is written, by its words. There is nothing to believe here: the law `written-table` says that the bytes written are read as
--- the record.
+-- A record that is written, by its words, and what it means that a part of it was written. There is nothing to believe here: the law
+-- `written-table` says that the bytes written are read as the record.
 use Rattle.codec.specs.Prelude.{ℕ, _+_, _≤_, _≡_, List, length}
 use Rattle.codec.specs.Number.{put}
 use Rattle.codec.specs.Part.{placed}

@@ -49,11 +49,11 @@ pub struct Extent {
 
 // What a turn of the join comes to: the next address, the length of the record there, 0 at the end of both tables, and the
 // places behind what is passed.
-pub struct Turned {
-    pub pick: usize,
-    pub size: usize,
-    pub first: usize,
-    pub second: usize,
+struct Turned {
+    pick: usize,
+    size: usize,
+    first: usize,
+    second: usize,
 }
 
 // ---- the join
@@ -98,6 +98,7 @@ fn turn_both(s: &[u8], a: usize, m: usize, t: &[u8], b: usize, n: usize) -> Turn
     }
 }
 
+// The next turn, also where one table has ended, or both.
 fn turn(s: &[u8], a: usize, t: &[u8], b: usize) -> Turned
     ensures { λ r. ⌜ Turns (now (s .entry)) a (now (t .entry)) b r ⌝ }
 {
@@ -131,7 +132,7 @@ fn turn(s: &[u8], a: usize, t: &[u8], b: usize) -> Turned
 }
 
 // A number of a list, where it has the place.
-fn put(l: &mut [usize], i: usize, x: usize)
+pub fn put(l: &mut [usize], i: usize, x: usize)
     ensures { λ _. ⌜ now (l .exit) ≡ set (now (l .entry)) i x ⌝ }
 {
     if l.len() <= i {

@@ -15,7 +15,9 @@ same-length : tie.Need-same-length
 same-length c = search needs
 
 returns : tie.Need-returns
-returns c = first-copied _ _ _ _ _ _ _ (c .before .before .before .before .before .if1 .taken) (c .length-at .ensures) (c .before .before .before .copy-record .ensures)
+returns c =
+    first-copied _ _ _ _ _ _ _ (c .before .before .before .before .before .if1 .taken) (c .length-at .ensures)
+    (c .before .before .before .copy-record .ensures)
 
 sub-b : tie.Need-sub-b
 sub-b c = search needs

@@ -1,7 +1,7 @@
 -- `joining::copy_picked` meets its contract. The loop's invariant: copying all is copying what is left from the present place on. Past
 -- the last address there is nothing left, and past the end of the output nothing is written.
-use mathlib.Core.Path.{_≡_, refl, sym, ap, _∙_}
-use Prim.Native.Nat.{_+_, _-_}
+use mathlib.Core.Path.{_≡_, refl, ap, _∙_}
+use Prim.Native.Nat.{_-_}
 use native.Mathlib.Omega.{arith}
 use lib.ListN.{length, take, drop}
 use Rattle.codec.proofs.Writing.{placed-length}
@@ -18,19 +18,26 @@ abbrev μ-loop : tie.MeasureT-loop
 μ-loop s t picks n out₀ at p₀ i₀ out p i = n - i
 
 loop-holds : tie.Need-loop-holds Inv-loop μ-loop
-loop-holds c = (copying-all _ _ (c .before .before .before .before .args .picks .now) _ _ (c .before .before .before .before .args .n), refl)
+loop-holds c =
+    (copying-all _ _ (c .before .before .before .before .args .picks .now) _ _ (c .before .before .before .before .args .n), refl)
 
 same-length : tie.Need-same-length Inv-loop μ-loop
 same-length c = c .before .before .loop .inv .1
 
 returns : tie.Need-returns Inv-loop μ-loop
-returns c = copying-past _ _ (c .before .before .before .before .before .before .before .args .picks .now) _ _ (c .before .before .before .before .before .before .before .args .n) _ _ (c .before .before .loop .i) (c .before .before .loop .inv .0) (c .if1 .taken)
+returns c =
+    copying-past _ _ (c .before .before .before .before .before .before .before .args .picks .now) _ _
+    (c .before .before .before .before .before .before .before .args .n) _ _ (c .before .before .loop .i)
+    (c .before .before .loop .inv .0) (c .if1 .taken)
 
 same-length-2 : tie.Need-same-length-2 Inv-loop μ-loop
 same-length-2 c = c .before .before .before .loop .inv .1
 
 returns-2 : tie.Need-returns-2 Inv-loop μ-loop
-returns-2 c = copying-out _ _ (c .before .before .before .before .before .before .before .before .args .picks .now) _ _ (c .before .before .before .before .before .before .before .before .args .n) _ _ (c .before .before .before .loop .i) (c .before .before .before .loop .inv .0) (c .if2 .taken)
+returns-2 c =
+    copying-out _ _ (c .before .before .before .before .before .before .before .before .args .picks .now) _ _
+    (c .before .before .before .before .before .before .before .before .args .n) _ _ (c .before .before .before .loop .i)
+    (c .before .before .before .loop .inv .0) (c .if2 .taken)
 
 mul-copy-from : tie.Need-mul-copy-from Inv-loop μ-loop
 mul-copy-from c = omega arith
@@ -52,15 +59,23 @@ loop-less c = omega arith
 
 loop-again : tie.Need-loop-again Inv-loop μ-loop
 loop-again c = (
-  copying-more _ _ (c .before .before .before .before .before .before .before .before .before .before .before .before .before .args .picks .now) _ _ (c .before .before .before .before .before .before .before .before .before .before .before .before .before .args .n) _ _ (c .before .before .before .before .before .before .before .before .loop .i) (c .before .before .before .before .before .before .before .before .loop .inv .0) (c .before .before .before .before .before .before .before .loop-test .taken) (omega arith) _ _ _ refl (c .before .before .copy-from .ensures .0) (c .before .before .copy-from .ensures .1),
-  ap length (c .before .before .copy-from .ensures .1) ∙ (placed-length _ _ _ ∙ c .before .before .before .before .before .before .before .before .loop .inv .1),
+  copying-more _ _ (c .before .before .before .before .before .before .before .before .before .before .before .before .before .args
+      .picks .now) _ _ (c .before .before .before .before .before .before .before .before .before .before .before .before .before .args .n)
+      _ _ (c .before .before .before .before .before .before .before .before .loop .i)
+      (c .before .before .before .before .before .before .before .before .loop .inv .0)
+      (c .before .before .before .before .before .before .before .loop-test .taken) (omega arith) _ _ _ refl
+      (c .before .before .copy-from .ensures .0) (c .before .before .copy-from .ensures .1),
+  ap length (c .before .before .copy-from .ensures .1) ∙ (placed-length _ _ _
+      ∙ c .before .before .before .before .before .before .before .before .loop .inv .1),
 )
 
 same-length-3 : tie.Need-same-length-3 Inv-loop μ-loop
 same-length-3 c = c .before .loop .inv .1
 
 returns-3 : tie.Need-returns-3 Inv-loop μ-loop
-returns-3 c = copying-end _ _ (c .before .before .before .before .before .before .args .picks .now) _ _ (c .before .before .before .before .before .before .args .n) _ _ (c .before .loop .i) (c .before .loop .inv .0) (omega arith)
+returns-3 c =
+    copying-end _ _ (c .before .before .before .before .before .before .args .picks .now) _ _
+    (c .before .before .before .before .before .before .args .n) _ _ (c .before .loop .i) (c .before .loop .inv .0) (omega arith)
 
 pub copy-picked-spec : {M : Type 1} → statement M
 copy-picked-spec =

@@ -1,6 +1,6 @@
 -- `joining::join` meets its contract. The loop's invariant: what is counted and stored so far, with what is left to join from the present
 -- places on, is the whole. The measure is the bytes that are left on both sides.
-use mathlib.Core.Path.{_≡_, refl, sym, ap, _∙_}
+use mathlib.Core.Path.{_≡_, refl}
 use Prim.Native.Nat.{_+_, _-_}
 use native.Mathlib.Omega.{arith}
 use lib.ListN.{length}
@@ -36,17 +36,31 @@ put-requires : tie.Need-put-requires Inv-loop μ-loop
 put-requires c κs = tt
 
 add-count : tie.Need-add-count Inv-loop μ-loop
-add-count c = omega (arith, joining-room _ _ _ _ _ _ _ _ _ _ (c .before .before .before .before .before .before .before .loop .inv .0) _ (c .before .before .before .before .before .before .turn .ensures))
+add-count c =
+    omega (
+      arith,
+      joining-room _ _ _ _ _ _ _ _ _ _ (c .before .before .before .before .before .before .before .loop .inv .0) _
+          (c .before .before .before .before .before .before .turn .ensures),
+    )
 
 add-size : tie.Need-add-size Inv-loop μ-loop
-add-size c = omega (arith, joining-room _ _ _ _ _ _ _ _ _ _ (c .before .before .before .before .before .before .before .before .loop .inv .0) _ (c .before .before .before .before .before .before .before .turn .ensures))
+add-size c =
+    omega (
+      arith,
+      joining-room _ _ _ _ _ _ _ _ _ _ (c .before .before .before .before .before .before .before .before .loop .inv .0) _
+          (c .before .before .before .before .before .before .before .turn .ensures),
+    )
 
 loop-less : tie.Need-loop-less Inv-loop μ-loop
-loop-less c = joining-less _ _ _ _ _ _ _ _ _ _ (c .before .before .before .before .before .before .before .before .loop .inv .0) _ (c .before .before .before .before .before .before .before .turn .ensures) (c .before .before .before .before .before .if1 .left)
+loop-less c =
+    joining-less _ _ _ _ _ _ _ _ _ _ (c .before .before .before .before .before .before .before .before .loop .inv .0) _
+    (c .before .before .before .before .before .before .before .turn .ensures) (c .before .before .before .before .before .if1 .left)
 
 loop-again : tie.Need-loop-again Inv-loop μ-loop
 loop-again c = (
-  joining-more _ _ _ _ _ _ _ _ _ _ (c .before .before .before .before .before .before .before .before .loop .inv .0) _ (c .before .before .before .before .before .before .before .turn .ensures) (c .before .before .before .before .before .if1 .left) _ (c .before .before .before .put .ensures),
+  joining-more _ _ _ _ _ _ _ _ _ _ (c .before .before .before .before .before .before .before .before .loop .inv .0) _
+      (c .before .before .before .before .before .before .before .turn .ensures) (c .before .before .before .before .before .if1 .left) _
+      (c .before .before .before .put .ensures),
   omega (arith, c .before .before .picks .given, c .before .before .before .before .before .before .before .before .loop .inv .1),
 )
 

@@ -13,13 +13,17 @@ length-at-requires-2 : tie.Need-length-at-requires-2
 length-at-requires-2 c κs = search needs
 
 returns : tie.Need-returns
-returns c = turns-none _ _ _ _ _ _ (c .before .before .before .length-at .ensures) (c .before .before .length-at2 .ensures) (c .if2 .taken) (c .before .if1 .taken)
+returns c =
+    turns-none _ _ _ _ _ _ (c .before .before .before .length-at .ensures) (c .before .before .length-at2 .ensures) (c .if2 .taken)
+    (c .before .if1 .taken)
 
 add-t9 : tie.Need-add-t9
 add-t9 c = omega (arith, length-inside _ _ _ (c .before .before .before .length-at .ensures) (c .if2 .left))
 
 returns-2 : tie.Need-returns-2
-returns-2 c = turns-first _ _ _ _ _ _ (c .before .before .before .length-at .ensures) (c .before .before .length-at2 .ensures) (c .if2 .left) (c .before .if1 .taken)
+returns-2 c =
+    turns-first _ _ _ _ _ _ (c .before .before .before .length-at .ensures) (c .before .before .length-at2 .ensures) (c .if2 .left)
+    (c .before .if1 .taken)
 
 add-t11 : tie.Need-add-t11
 add-t11 c = omega (arith, length-inside _ _ _ (c .before .before .length-at2 .ensures) (c .before .if1 .left))
@@ -28,7 +32,9 @@ add-t12 : tie.Need-add-t12
 add-t12 c = omega (arith, length-inside _ _ _ (c .before .before .length-at2 .ensures) (c .before .if1 .left))
 
 returns-3 : tie.Need-returns-3
-returns-3 c = turns-second _ _ _ _ _ _ (c .before .before .before .length-at .ensures) (c .before .before .length-at2 .ensures) (c .if3 .taken) (c .before .if1 .left)
+returns-3 c =
+    turns-second _ _ _ _ _ _ (c .before .before .before .length-at .ensures) (c .before .before .length-at2 .ensures) (c .if3 .taken)
+    (c .before .if1 .left)
 
 turn-both-requires : tie.Need-turn-both-requires
 turn-both-requires c κs = (

@@ -1,5 +1,4 @@
 -- `joining::turn_both` meets its contract: the tests are those of the join, on the items as the records have them.
-use native.Mathlib.Omega.{arith}
 use borrow.Author.Needs.{needs}
 use Rattle.joining.proofs.Turning.{turns-left, turns-right, turns-theirs, turns-mine}
 use Rattle.joining.proofs.turn_both.Statement.{statement}
@@ -20,7 +19,8 @@ add-t10 c = search needs
 returns : tie.Need-returns
 returns c =
     let p = c .before .before .before .before .before .before .pre in
-    turns-left _ _ _ _ _ _ (p .0) (p .1) (p .2) (p .3) _ _ (c .before .before .before .item-of .ensures) (c .before .before .item-of2 .ensures) _ (c .before .less3 .ensures) (c .if1 .taken)
+    turns-left _ _ _ _ _ _ (p .0) (p .1) (p .2) (p .3) _ _ (c .before .before .before .item-of .ensures)
+    (c .before .before .item-of2 .ensures) _ (c .before .less3 .ensures) (c .if1 .taken)
 
 same3-requires : tie.Need-same3-requires
 same3-requires c κs = search needs
@@ -34,7 +34,8 @@ add-t14 c = search needs
 returns-2 : tie.Need-returns-2
 returns-2 c =
     let p = c .before .before .before .before .before .before .before .before .pre in
-    turns-right _ _ _ _ _ _ (p .0) (p .1) (p .2) (p .3) _ _ (c .before .before .before .before .before .item-of .ensures) (c .before .before .before .before .item-of2 .ensures) _ (c .before .before .before .less3 .ensures) (c .before .before .if1 .left) _
+    turns-right _ _ _ _ _ _ (p .0) (p .1) (p .2) (p .3) _ _ (c .before .before .before .before .before .item-of .ensures)
+    (c .before .before .before .before .item-of2 .ensures) _ (c .before .before .before .less3 .ensures) (c .before .before .if1 .left) _
     (c .before .same3 .ensures) (c .if2 .left)
 
 wins-requires : tie.Need-wins-requires
@@ -52,7 +53,10 @@ add-t19 c = search needs
 returns-3 : tie.Need-returns-3
 returns-3 c =
     let p = c .before .before .before .before .before .before .before .before .before .before .pre in
-    turns-theirs _ _ _ _ _ _ (p .0) (p .1) (p .2) (p .3) _ _ (c .before .before .before .before .before .before .before .item-of .ensures) (c .before .before .before .before .before .before .item-of2 .ensures) _ (c .before .before .before .before .before .less3 .ensures) (c .before .before .before .before .if1 .left) _
+    turns-theirs _ _ _ _ _ _ (p .0) (p .1) (p .2) (p .3) _ _
+    (c .before .before .before .before .before .before .before .item-of .ensures)
+    (c .before .before .before .before .before .before .item-of2 .ensures) _ (c .before .before .before .before .before .less3 .ensures)
+    (c .before .before .before .before .if1 .left) _
     (c .before .before .before .same3 .ensures) (c .before .before .if2 .taken) _ (c .before .wins .ensures) (c .if3 .taken)
 
 add-t20 : tie.Need-add-t20
@@ -64,7 +68,9 @@ add-t21 c = search needs
 returns-4 : tie.Need-returns-4
 returns-4 c =
     let p = c .before .before .before .before .before .before .before .before .before .before .pre in
-    turns-mine _ _ _ _ _ _ (p .0) (p .1) (p .2) (p .3) _ _ (c .before .before .before .before .before .before .before .item-of .ensures) (c .before .before .before .before .before .before .item-of2 .ensures) _ (c .before .before .before .before .before .less3 .ensures) (c .before .before .before .before .if1 .left) _
+    turns-mine _ _ _ _ _ _ (p .0) (p .1) (p .2) (p .3) _ _ (c .before .before .before .before .before .before .before .item-of .ensures)
+    (c .before .before .before .before .before .before .item-of2 .ensures) _ (c .before .before .before .before .before .less3 .ensures)
+    (c .before .before .before .before .if1 .left) _
     (c .before .before .before .same3 .ensures) (c .before .before .if2 .taken) _ (c .before .wins .ensures) (c .if3 .left)
 
 pub turn-both-spec : {M : Type 1} → statement M

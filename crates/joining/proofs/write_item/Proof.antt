@@ -1,5 +1,4 @@
 -- `joining::write_item` meets its contract: the bytes of an id are those of its words.
-use native.Mathlib.Omega.{arith}
 use Rattle.joining.proofs.Written.{item-wrote}
 use borrow.Author.Needs.{needs}
 use Rattle.joining.proofs.write_item.Statement.{statement}
@@ -26,7 +25,9 @@ same-length c = search needs
 returns : tie.Need-returns
 returns c =
     let h = c .before .before .before .before .before .before .before .before .before .before .before .before .before .fits in (
-      item-wrote _ _ _ _ _ _ _ _ (h .middle .fits) (h .low .fits) (c .before .before .before .before .before .before .before .before .before .before .write8 .ensures) (c .before .before .before .before .before .before .write82 .ensures) (c .before .before .write83 .ensures),
+      item-wrote _ _ _ _ _ _ _ _ (h .middle .fits) (h .low .fits)
+          (c .before .before .before .before .before .before .before .before .before .before .write8 .ensures)
+          (c .before .before .before .before .before .before .write82 .ensures) (c .before .before .write83 .ensures),
       h .high .fits,
       h .middle .fits,
       h .low .fits,

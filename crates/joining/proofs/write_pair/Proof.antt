@@ -1,5 +1,4 @@
 -- `joining::write_pair` meets its contract: the bytes of an id are those of its words.
-use native.Mathlib.Omega.{arith}
 use Rattle.joining.proofs.Written.{pair-wrote}
 use borrow.Author.Needs.{needs}
 use Rattle.joining.proofs.write_pair.Statement.{statement}
@@ -19,8 +18,12 @@ same-length c = search needs
 
 returns : tie.Need-returns
 returns c =
-    let h = c .before .before .before .before .before .before .before .before .before .fits in
-    (pair-wrote _ _ _ _ _ _ (h .low .fits) (c .before .before .before .before .before .before .write8 .ensures) (c .before .before .write82 .ensures), h .high .fits, h .low .fits)
+    let h = c .before .before .before .before .before .before .before .before .before .fits in (
+      pair-wrote _ _ _ _ _ _ (h .low .fits) (c .before .before .before .before .before .before .write8 .ensures)
+          (c .before .before .write82 .ensures),
+      h .high .fits,
+      h .low .fits,
+    )
 
 pub write-pair-spec : {M : Type 1} → statement M
 write-pair-spec =

@@ -1,5 +1,4 @@
 -- `joining::write_version` meets its contract: the tick stands behind the replica.
-use native.Mathlib.Omega.{arith}
 use Rattle.joining.proofs.Written.{version-wrote}
 use borrow.Author.Needs.{needs}
 use Rattle.joining.proofs.write_version.Statement.{statement}
@@ -19,8 +18,13 @@ same-length c = search needs
 
 returns : tie.Need-returns
 returns c =
-    let h = c .before .before .before .before .before .before .before .before .before .fits in
-    (version-wrote _ _ _ _ _ _ (c .before .before .before .before .before .before .write-pair .ensures .0) (c .before .before .write8 .ensures), h .high .fits, h .low .fits, h .tick .fits)
+    let h = c .before .before .before .before .before .before .before .before .before .fits in (
+      version-wrote _ _ _ _ _ _ (c .before .before .before .before .before .before .write-pair .ensures .0)
+          (c .before .before .write8 .ensures),
+      h .high .fits,
+      h .low .fits,
+      h .tick .fits,
+    )
 
 pub write-version-spec : {M : Type 1} → statement M
 write-version-spec =
