@@ -1,19 +1,18 @@
 -- What a walker gives, by the length of the record at its place: where a whole record stands the part is its bytes and the next place is
 -- behind it; elsewhere nothing is left to give, the part is empty and the place stays. A part that is given is never empty, so that
 -- the empty part tells the end.
-use Prim.Native.Nat.{ℕ, zero, suc, max, _+_, _-_, _≤_, _<_}
+use Prim.Native.Nat.{ℕ, zero, suc, max, _+_, _-_, _≤_}
 use mathlib.Core.Path.{_≡_, refl, sym, ap, _∙_}
 use mathlib.Core.Bool.{Bool, true, false}
 use mathlib.Core.List.{List, [], _∷_}
 use native.Mathlib.Omega.{arith}
-use lib.ListN.{length, take, drop, length-take, length-drop}
+use lib.ListN.{length, take, drop}
 use Rattle.codec.specs.Number.{beAt}
 use Rattle.replication.specs.Reading.{recLength, behind, whole}
 use Rattle.replication.specs.Queries.{toGive}
-use Rattle.replication.proofs.RecordBytes.{whole-exact, kind-length}
 use Rattle.replication.proofs.QueriesWalk.{give-step, give-end}
 use Rattle.records.specs.Method.{lengthAt, recordPart}
-use Rattle.records.proofs.Fields.{length-whole, length-nothing, length-stands, length-ends, length-behind, part-whole, part-nothing}
+use Rattle.records.proofs.Fields.{length-whole, length-size, length-stands, length-ends, length-behind, part-whole, part-nothing, part-length}
 use Rattle.records.proofs.Finding.{length-inside}
 use Rattle.walker.specs.Method.{afterAt}
 use Rattle.walker.specs.Given.{nextPart, laterParts, partPlace}
@@ -86,10 +85,8 @@ module _ (s : List ℕ) (at : ℕ) where
     where
       go : (t : Bool) → whole s at ≡ t → toGive s at ≡ []
       go true w =
-          let k = whole-exact s at .0 w in
-          let n = kind-length (beAt s 1 at) (k .0) in
-          let l : length (take (recLength (beAt s 1 at)) (drop at s)) ≡ 0 = ap length (sym (part-whole s at w) ∙ (sym next-record ∙ e)) in
-          absurd (omega (arith, l, n, k .1, length-take (recLength (beAt s 1 at)) (drop at s), length-drop at s))
+          let l : length (recordPart s at) ≡ 0 = ap length (sym next-record ∙ e) in
+          absurd (omega (arith, l, part-length s at, length-size s at w))
       go false w = ends w
 
   -- and a walker that has ended stays where it is
