@@ -7,7 +7,8 @@ use mathlib.Core.List.{List, []}
 use native.Mathlib.Omega.{arith}
 use lib.Dec.{leb}
 use lib.ListN.{length, take}
-use borrow.Author.Tests.{le-leb, lt-leb, leb-true, leb-false}
+use borrow.Author.Tests.{lt-ltb, le-ltb, le-leb, lt-leb, leb-true, leb-false}
+use Rattle.codec.specs.Number.{Bytes}
 use Rattle.codec.specs.Reply.{Reply, gives, refuses, answer, after}
 use Rattle.codec.specs.Part.{placed}
 use Rattle.codec.specs.declared.Answer.{Answer}
@@ -21,13 +22,18 @@ use Rattle.tables.specs.MethodPieces.{laid}
 use Rattle.replication.specs.Record.{Rec}
 use Rattle.replication.specs.Formats.{putRecs, Store, encodeStore}
 use Rattle.replication.specs.BatchFormat.{Batch, encodeBatch}
+use Rattle.replication.specs.Operate.{join}
+use Rattle.replication.specs.MethodTable.{tableAt}
 use Rattle.replication.specs.OpenStore.{storeKnowledge}
 use Rattle.replication.specs.OpenBatch.{batchNeeded}
 use Rattle.replication.proofs.Enough.{recs-size, store-size, batch-size}
-use Rattle.joining.specs.MethodJoin.{copied}
+use Rattle.joining.specs.MethodJoin.{copied, sizeFrom, joinAt, fronted}
+use Rattle.joining.proofs.Copies.{joined-count, joined-size, joined-copied}
+use Rattle.operations.specs.declared.Prepared.{Prepared}
+use Rattle.operations.specs.declared.Prepared.the-variants as P
 use Rattle.headers.specs.MethodHeaders.{storeHead, batchHead}
 use Rattle.headers.proofs.Headers.{store-placed, batch-placed}
-use Rattle.storing.specs.MethodStoring.{endsWith, leaves, pageAt, Pages, Chosen}
+use Rattle.storing.specs.MethodStoring.{endsWith, leaves, pageAt, Pages, Chosen, finishedAnswer, finishedOut, storeWritten}
 
 -- ---- room or not
 
@@ -200,3 +206,49 @@ module _ (m m2 extra : ℕ) (out written : List ℕ) (n n2 : ℕ) (e : n ≡ m) 
   batch-put w h f =
       let same : batchNeeded + n + n2 + extra ≡ whole = omega arith in
       (ap Written same ∙ ends-written whole (length out) (omega arith), leaves-written whole out written w (omega arith) f)
+
+-- ---- two tables joined
+
+pub joined-chosen : (s : List ℕ) (a : ℕ) (t : List ℕ) (b : ℕ) (d picks : List ℕ) (count size : ℕ) → Bytes s → Bytes t
+    → count ≡ length (joinAt s a t b) → size ≡ sizeFrom s t (joinAt s a t b) → picks ≡ fronted d (joinAt s a t b) → count ≤ length d
+    → Chosen s t picks count size (join (tableAt s a) (tableAt t b))
+joined-chosen s a t b d picks count size x y e f g l =
+    record {
+      counted = e ∙ joined-count s a t b;
+      sized = f ∙ joined-size s a t b;
+      copies = λ o at h.
+          ap (λ (p : List ℕ). copied s t o at (take count p)) g
+          ∙ joined-copied s a t b x y d count e l o at (omega (arith, f));
+    }
+
+-- ---- a store that was prepared
+
+module _ (most count size room : ℕ) where
+  pub finished-refused : (n : ℕ) → Refused n ≡ finishedAnswer (P.Refused n) most count size room
+  unfolding finishedAnswer
+  finished-refused n = refl
+
+  module _ (z : Sizes) (rows : ℕ) where
+    pub finished-over : most < count → Refused 13 ≡ finishedAnswer (P.Ready z rows) most count size room
+    unfolding finishedAnswer
+    finished-over h = sym (rw (lt-ltb most count h, finishedAnswer))
+
+    pub finished-put : (a : Answer) → count ≤ most → a ≡ endsWith (storeKnowledge + lengthOf z + size) room
+        → a ≡ finishedAnswer (P.Ready z rows) most count size room
+    unfolding finishedAnswer
+    finished-put a h e = e ∙ sym (rw (le-ltb most count h, finishedAnswer))
+
+module _ (most count size : ℕ) (out : List ℕ) (page : Sizes → ℕ → List ℕ) where
+  pub out-refused : (n : ℕ) → out ≡ finishedOut (P.Refused n) most count size out page
+  unfolding finishedOut
+  out-refused n = refl
+
+  module _ (z : Sizes) (rows : ℕ) where
+    pub out-over : most < count → out ≡ finishedOut (P.Ready z rows) most count size out page
+    unfolding finishedOut
+    out-over h = sym (rw (lt-ltb most count h, finishedOut))
+
+    pub out-put : (u : List ℕ) → count ≤ most → u ≡ leaves (storeKnowledge + lengthOf z + size) out (page z rows)
+        → u ≡ finishedOut (P.Ready z rows) most count size out page
+    unfolding finishedOut
+    out-put u h e = e ∙ sym (rw (le-ltb most count h, finishedOut))

@@ -4,18 +4,21 @@
 // Every public function is total.
 use codec::Answer;
 use joining::Extent;
+use operations::Prepared;
 use tables::Sizes;
 ghost use mathlib.Core.Path.{_≡_};
 ghost use Prim.Native.Nat.{_+_};
 ghost use lib.ListN.{length, take};
 ghost use Rattle.codec.specs.Part.{placed};
+ghost use Rattle.codec.specs.Total.{brought};
+ghost use Rattle.layout.specs.Permitted.{largestRecords};
 ghost use Rattle.codec.specs.Words.{words2, words3};
 ghost use Rattle.tables.specs.MethodPlan.{lengthOf};
 ghost use Rattle.replication.specs.OpenStore.{storeKnowledge};
 ghost use Rattle.replication.specs.OpenBatch.{batchNeeded};
-ghost use Rattle.joining.specs.MethodJoin.{copied};
+ghost use Rattle.joining.specs.MethodJoin.{copied, sizeFrom, joinAt, fronted};
 ghost use Rattle.headers.specs.MethodHeaders.{storeHead, batchHead};
-ghost use Rattle.storing.specs.MethodStoring.{endsWith, leaves, pageAt};
+ghost use Rattle.storing.specs.MethodStoring.{endsWith, leaves, pageAt, finishedAnswer, finishedOut, storeWritten};
 
 // Writes a store: own id, a planned table of so many rows, and the records at the addresses that were chosen of s and other.
 pub fn put_store(
@@ -148,4 +151,48 @@ pub fn put_batch(
     );
     joining::copy_picked(s, s, picks, e.count, out, end);
     Answer::Written(total)
+}
+
+// How a call ends that writes a store: with the number of its knowledge's refusal, with 13 for too many records, or with what is written. The
+// records are those of two tables joined, from place a of s and from place b of other on; their addresses are put into `picks`.
+pub fn finish_store(
+    out: &mut [u8],
+    p: Prepared,
+    p0: u64,
+    p1: u64,
+    records: u32,
+    ids: &[u64],
+    bounds: &[u64],
+    t: &[u64],
+    cols: &[u32],
+    firsts: &[u32],
+    numbers: &[u32],
+    s: &[u8],
+    a: usize,
+    other: &[u8],
+    b: usize,
+    picks: &mut [usize],
+) -> Answer
+    ensures { λ r. ⌜ r ≡ finishedAnswer p (brought records largestRecords) (length (joinAt (now (s .entry)) a (now (other .entry)) b))
+        (sizeFrom (now (s .entry)) (now (other .entry)) (joinAt (now (s .entry)) a (now (other .entry)) b)) (length (now (out .entry))) ⌝ }
+    ensures { λ _. ⌜ now (out .exit) ≡ finishedOut p (brought records largestRecords) (length (joinAt (now (s .entry)) a (now (other .entry)) b))
+        (sizeFrom (now (s .entry)) (now (other .entry)) (joinAt (now (s .entry)) a (now (other .entry)) b)) (now (out .entry))
+        (storeWritten (words2 p0 p1) (now (ids .entry)) (now (bounds .entry)) (now (t .entry))
+        (now (cols .entry)) (now (firsts .entry)) (now (numbers .entry)) (now (s .entry)) (now (other .entry))
+        (fronted (now (picks .entry)) (joinAt (now (s .entry)) a (now (other .entry)) b))
+        (length (joinAt (now (s .entry)) a (now (other .entry)) b)) (now (out .entry))) ⌝ }
+{
+    match p {
+        Prepared::Ready { sizes, rows } => {
+            let e = joining::join(s, a, other, b, picks);
+            let most = codec::brought(records, layout::LARGEST_RECORDS) as usize;
+            if most < e.count {
+                return Answer::Refused(13);
+            }
+            put_store(
+                out, p0, p1, sizes, rows, ids, bounds, t, cols, firsts, numbers, s, other, picks, e,
+            )
+        }
+        Prepared::Refused(n) => Answer::Refused(n),
+    }
 }
