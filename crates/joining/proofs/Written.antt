@@ -2,7 +2,7 @@
 -- record's bytes: those of its fields one after the other, since each field is read at its place. Read again, an array of one record so
 -- written is the table of that record; so an edit is the join of a store's table with such an array.
 use Prim.Native.Nat.{ℕ, _+_, _^_, _≤_, _<_}
-use mathlib.Core.Path.{_≡_, sym, ap, ap₂, subst, _∙_}
+use mathlib.Core.Path.{_≡_, refl, sym, ap, ap₂, subst, _∙_}
 use mathlib.Core.Bool.{true, false}
 use mathlib.Core.List.{List, [], _∷_, _++_, append-nil}
 use mathlib.Core.Option.{some}
@@ -129,6 +129,20 @@ module _ (r : Rec) (f : FitsRec r) where
       ∙ ap (put 16 (r .content .tag)) none-left))))))
 
 -- ---- the code's record
+
+-- the record that the words say
+pub record-of : (w : RecordWords) →
+    recordOf w ≡
+    record {
+      item = words3 (w .item .high) (w .item .middle) (w .item .low);
+      changeReplica = words2 (w .change .replica .high) (w .change .replica .low);
+      changeTick = w .change .tick;
+      createReplica = words2 (w .create .replica .high) (w .create .replica .low);
+      createTick = w .create .tick;
+      content = record { deleted = w .deleted; tag = words2 (w .tag .high) (w .tag .low) };
+    }
+unfolding recordOf
+record-of w = refl
 
 -- words of 64 bits
 pub record Words64 (w : RecordWords) : Type 0 where
