@@ -53,3 +53,4 @@ pub mod RefusalsSettled
 pub mod Runner
 pub mod RecordsInBytes
 pub mod RecordsTable
+pub mod Enough

@@ -8,6 +8,7 @@ pub mod ValidBatch
 pub mod Reading
 pub mod OpenStore
 pub mod OpenBatch
+pub mod Room
 pub mod MethodOpening
 pub mod Operate
 pub mod Calls
