@@ -1,7 +1,8 @@
--- What `open_batch` and the functions below it return, one law for each way that they go, as for a store in Store.antt. That learned lies inside
--- the span is that it knows nothing outside (`inside-ticks`), and in normal form that projecting leaves it as it is (`unchanged-ticks`).
+-- What `open_batch` and the functions below it return, one law for each way that they go, as for a store in Store.antt. That learned
+-- lies inside the span is that it knows nothing outside (`inside-ticks`), and in normal form that projecting leaves it as it is
+-- (`unchanged-ticks`).
 use Prim.Native.Nat.{ℕ, _+_, _-_, _≤_, _<_}
-use mathlib.Core.Path.{_≡_, refl, sym, ap, ap₂, _∙_}
+use mathlib.Core.Path.{_≡_, sym, ap, ap₂, _∙_}
 use mathlib.Core.Bool.{Bool, true, false}
 use mathlib.Core.List.{List}
 use native.Mathlib.Omega.{arith}
@@ -19,16 +20,14 @@ use Rattle.layout.specs.Decode.{decode}
 use Rattle.layout.specs.Parse.{checkedBy, parse}
 use Rattle.ticks.specs.Written.{isNormal}
 use Rattle.ticks.specs.Calls.{readAs}
-use Rattle.replication.specs.Record.{Rec}
 use Rattle.replication.specs.OpenStore.{versionsIn}
-use Rattle.replication.specs.OpenBatch.{firstId, lastId, neededLength, learnedLength, batchCount, batchNeeded, batchLearned, batchTable, lacksChange}
+use Rattle.replication.specs.OpenBatch.{firstId, lastId, neededLength, learnedLength, batchCount, batchNeeded, batchLearned, batchTable}
+use Rattle.replication.specs.OpenBatch.{lacksChange}
 use Rattle.replication.specs.MethodRecords.{recordsAt, shapedAt, each}
-use Rattle.replication.specs.MethodOpening.{isAccepted, neededRead, learnedRead, unchanged, isBatch}
+use Rattle.replication.specs.MethodOpening.{isAccepted, neededRead, learnedRead, unchanged}
 use Rattle.replication.proofs.PartBytes.{part-length}
-use Rattle.replication.proofs.OpeningTables.{fails}
 use Rattle.replication.proofs.OpeningBatch.{BatchTests, tests-batch, no-batch, NothingOutside, unchanged-ticks}
 use Rattle.lookup.specs.declared.Cursor.{Cursor}
-use Rattle.lookup.specs.declared.Opened.{Opened}
 use Rattle.lookup.specs.Method.{startAt, openOf}
 use Rattle.ranges.specs.Method.{insideOf}
 use Rattle.ranges.proofs.Outside.{inside-ticks}
@@ -64,7 +63,8 @@ module _ (s : List ℕ) (f0 f1 f2 l0 l1 l2 : ℕ) (first : words3 f0 f1 f2 ≡ f
   pub span-less : t ≡ ltb (words3 l0 l1 l2) (words3 f0 f1 f2) → t ≡ ltb (lastId s) (firstId s)
   span-less is = is ∙ ap₂ ltb last first
 
-  pub span-inside : (k : List ℕ) (c : Cursor) → t ≡ insideOf k c (words3 f0 f1 f2) (words3 l0 l1 l2) → t ≡ insideOf k c (firstId s) (lastId s)
+  pub span-inside : (k : List ℕ) (c : Cursor) → t ≡ insideOf k c (words3 f0 f1 f2) (words3 l0 l1 l2)
+      → t ≡ insideOf k c (firstId s) (lastId s)
   span-inside k c is = is ∙ ap₂ (insideOf k c) first last
 
 -- ---- up to the knowledges
@@ -241,7 +241,9 @@ module _ (a b m : ℕ) (s k l : List ℕ) (n : ℕ) (h : BatchHeader s k l n) (f
             count = omega (arith, h .count, few);
             span = h .span;
             ordered = h .ordered;
-            neededAccepted = ap (λ (x : Parsed Knowledge). isAccepted x) (sym read-needed) ∙ normal-accepted L k (p .r) (o .v) (o .e) (o .g) (o .normal m);
+            neededAccepted =
+                ap (λ (x : Parsed Knowledge). isAccepted x) (sym read-needed)
+                ∙ normal-accepted L k (p .r) (o .v) (o .e) (o .g) (o .normal m);
             neededNormal = ap isNormal needed-is ∙ o .normal m .normal;
             learnedAccepted = ap (λ (x : Parsed Knowledge). isAccepted x) (sym read-learned) ∙ normal-accepted L l r v e g q;
             learnedNormal = ap isNormal learned-is ∙ q .normal;

@@ -1,15 +1,15 @@
 -- What the records of a batch must meet. A record whose change version is contained in learned has a tick there, and learned knows nothing
 -- outside the span: so its item is inside the span, with no test of its own. What is left is that both of its versions are contained in
 -- learned and that needed lacks the change version; each is asked in a pass of its own.
-use Prim.Native.Nat.{ℕ, zero, suc, _≤_, _<_}
-use mathlib.Core.Path.{_≡_, refl, sym, ap, _∙_}
+use Prim.Native.Nat.{ℕ, zero, suc, _≤_}
+use mathlib.Core.Path.{_≡_, sym, ap, ap₂, _∙_}
 use mathlib.Core.Logic.{inl, inr}
-use mathlib.Core.Bool.{Bool, true, false}
+use mathlib.Core.Bool.{Bool, true}
 use mathlib.Core.List.{List}
 use native.Mathlib.Omega.{arith}
 use Rattle.codec.specs.Number.{Bytes}
 use Rattle.layout.specs.Knowledge.{Limits, Knowledge}
-use Rattle.ticks.specs.Meaning.{known, contains}
+use Rattle.ticks.specs.Meaning.{contains}
 use Rattle.ticks.specs.Table.{inSpan}
 use Rattle.ticks.specs.Calls.{readAs}
 use Rattle.ticks.proofs.Lists.{less, same, more, order, in-span}
@@ -70,13 +70,13 @@ known-inside first last k none s b at e =
 
 -- ---- the records of a batch
 
-module _ (L : Limits) (s : List ℕ) (needed learned : Knowledge) (k : readAs (neededRead L s) ≡ needed) (l : readAs (learnedRead L s) ≡ learned) where
+module _ (L : Limits) (s : List ℕ) (needed learned : Knowledge) (k : readAs (neededRead L s) ≡ needed)
+    (l : readAs (learnedRead L s) ≡ learned) where
   carried-here : (r : Rec) → carried (batchAt L s) r
       ≡ both (inSpan (firstId s) (lastId s) (r .item)) (both (versionsIn learned r) (lacksChange needed r))
   carried-here r =
       carried-is L s r
-      ∙ ap (λ (x : Knowledge). both (inSpan (firstId s) (lastId s) (r .item)) (both (versionsIn x r) (lacksChange (readAs (neededRead L s)) r))) l
-      ∙ ap (λ (x : Knowledge). both (inSpan (firstId s) (lastId s) (r .item)) (both (versionsIn learned r) (lacksChange x r))) k
+      ∙ ap₂ (λ (x y : Knowledge). both (inSpan (firstId s) (lastId s) (r .item)) (both (versionsIn x r) (lacksChange y r))) l k
 
   module _ (n at : ℕ) where
     pub carried-contained : each (carried (batchAt L s)) (recordsAt s n at) ≡ true → each (versionsIn learned) (recordsAt s n at) ≡ true

@@ -1,13 +1,12 @@
 -- The check of a knowledge and of its normal form. Accepted bytes are read as what they decode to, and there the test by places is
 -- the test of normal form (`normal-by-places`); refused bytes are not read. From sizes in normal form lookup goes on (`normal-open`).
-use Prim.Native.Nat.{ℕ, _≤_}
-use mathlib.Core.Path.{_≡_, refl, sym, ap, _∙_}
+use Prim.Native.Nat.{ℕ}
+use mathlib.Core.Path.{_≡_, sym, ap, _∙_}
 use mathlib.Core.Bool.{Bool, true, false}
 use mathlib.Core.List.{List}
 use native.Mathlib.Omega.{arith}
 use lib.ListN.{length}
 use Rattle.codec.specs.Number.{Bytes}
-use Rattle.codec.specs.Parsed.{accepted}
 use Rattle.codec.specs.Total.{brought}
 use Rattle.codec.proofs.Total.{brought-within}
 use Rattle.layout.specs.declared.Checked.{Checked}

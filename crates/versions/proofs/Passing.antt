@@ -1,25 +1,24 @@
 -- A pass over rising records with a cursor that is moved on from record to record. While records are left, the cursor has passed just the
 -- ranges below the next item (`Follows`): so at the start, and again after each record. What holds of each record of a table holds of the
 -- first and of each of the rest: the answer for the whole table is the answer for what is left.
-use Prim.Native.Nat.{ℕ, suc, _+_, _-_, _≤_, _<_}
+use Prim.Native.Nat.{ℕ, suc, _-_, _≤_, _<_}
 use mathlib.Core.Path.{_≡_, refl, sym, ap, _∙_, subst}
 use mathlib.Core.Bool.{Bool, true, false, not}
 use mathlib.Core.List.{List, _∷_}
 use native.Mathlib.Omega.{arith}
-use lib.ListN.{length}
 use borrow.Author.Tests.{leb-true}
 use Rattle.layout.specs.Knowledge.{Rules}
 use Rattle.layout.specs.Decode.{decode}
 use Rattle.ticks.specs.Meaning.{contains}
 use Rattle.replication.specs.Record.{Rec}
-use Rattle.replication.specs.Reading.{behind, recAt, both, validRec}
+use Rattle.replication.specs.Reading.{behind, recAt}
 use Rattle.replication.specs.MethodRecords.{recordsAt, shapedAt, each, WholeAt}
 use Rattle.replication.specs.OpenStore.{versionsIn}
 use Rattle.replication.specs.OpenBatch.{lacksChange}
 use Rattle.replication.proofs.RecordsInBytes.{whole-at, each-nil, each-on, each-stop, records-nil, records-cons}
 use Rattle.replication.proofs.OpeningTables.{OrderedMore, ordered-parts}
 use Rattle.lookup.specs.declared.Cursor.{Cursor}
-use Rattle.lookup.specs.Method.{Opens, Open}
+use Rattle.lookup.specs.Method.{Open}
 use Rattle.lookup.proofs.Leaf.{Stands, stands-start}
 use Rattle.versions.specs.Method.{movedTo, changeIn, bothIn}
 use Rattle.versions.proofs.Versions.{SomeTicks, valid-ticks, moved-stands, change-in, both-in}

@@ -16,14 +16,23 @@ enum-told : tie.Need-enum-told
 enum-told c = search needs
 
 returns : tie.Need-returns
-returns c = λ m few. batch-needed _ _ m _ _ _ _ (c .before .before .before .before .before .before .pre) few _ (c .before .before .normal-sizes .ensures m) (c .enum-told .given .1)
+returns c =
+    let c5 = c .before .before .before .before .before in
+    λ m few. batch-needed _ _ m _ _ _ _ (c5 .before .pre) few _ (c .before .before .normal-sizes .ensures m)
+    (c .enum-told .given .1)
 
 start-requires : tie.Need-start-requires
 start-requires c κs = tt
 
 batch-learned-requires : tie.Need-batch-learned-requires
-batch-learned-requires c κs = let a = c .before .before .before .before .before .before .before .before .args in
-    (c .before .before .before .before .before .before .before .before .pre, part-of (a .replicas) (a .ranges) _ _ (c .before .before .before .before .normal-sizes .ensures) _ _ _ _ (c .before .before .r .given .1) _ (c .start .ensures) _ refl)
+batch-learned-requires c κs =
+    let c5 = c .before .before .before .before .before in
+    let a = c5 .before .before .before .args in (
+      c5 .before .before .before .pre,
+      part-of (a .replicas) (a .ranges) _ _
+          (c .before .before .before .before .normal-sizes .ensures) _ _ _ _ (c .before .before .r .given .1) _ (c .start .ensures) _
+          refl,
+    )
 
 returns-2 : tie.Need-returns-2
 returns-2 c = c .batch-learned .ensures

@@ -24,7 +24,8 @@ change-in-requires c κs = tt
 returns : tie.Need-returns Inv-loop μ-loop
 returns c = let i = c .before .before .before .before .loop .inv in
     passes-stop _ _ _ _ _ _ _ _ _ i (c .before .before .before .loop-test .taken)
-    (follows-has _ _ _ _ _ _ (i .follows) (c .before .before .before .loop-test .taken) _ (c .before .before .move-to .ensures) _ (c .before .change-in .ensures) (c .if1 .taken))
+    (follows-has _ _ _ _ _ _ (i .follows) (c .before .before .before .loop-test .taken) _ (c .before .before .move-to .ensures) _
+    (c .before .change-in .ensures) (c .if1 .taken))
 
 behind-requires : tie.Need-behind-requires Inv-loop μ-loop
 behind-requires c κs = tt
@@ -36,9 +37,13 @@ loop-less : tie.Need-loop-less Inv-loop μ-loop
 loop-less c = omega arith
 
 loop-again : tie.Need-loop-again Inv-loop μ-loop
-loop-again c = let i = c .before .before .before .before .before .loop .inv in
-    passes-on _ _ _ _ _ _ _ _ _ i (c .before .before .before .before .loop-test .taken) _ (c .before .before .before .move-to .ensures)
-    (follows-lacks _ _ _ _ _ _ (i .follows) (c .before .before .before .before .loop-test .taken) _ (c .before .before .before .move-to .ensures) _ (c .before .before .change-in .ensures) (c .before .if1 .left)) _
+loop-again c =
+    let c5 = c .before .before .before .before .before in
+    let i = c5 .loop .inv in
+    passes-on _ _ _ _ _ _ _ _ _ i (c .before .before .before .before .loop-test .taken) _
+    (c .before .before .before .move-to .ensures)
+    (follows-lacks _ _ _ _ _ _ (i .follows) (c .before .before .before .before .loop-test .taken) _
+    (c .before .before .before .move-to .ensures) _ (c .before .before .change-in .ensures) (c .before .if1 .left)) _
     (c .behind .ensures)
 
 returns-2 : tie.Need-returns-2 Inv-loop μ-loop

@@ -14,7 +14,8 @@ inside-requires : tie.Need-inside-requires
 inside-requires c κs = tt
 
 returns : tie.Need-returns
-returns c = span-inside _ _ _ _ _ _ _ (c .before .before .item-id .ensures) (c .before .item-id2 .ensures) _ _ _ (c .inside .ensures)
+returns c =
+    span-inside _ _ _ _ _ _ _ (c .before .before .item-id .ensures) (c .before .item-id2 .ensures) _ _ _ (c .inside .ensures)
 
 pub inside-span-spec : {M : Type 1} → statement M
 inside-span-spec = tie.close (tie.spec item-id-requires item-id-requires-2 inside-requires returns)

@@ -20,7 +20,9 @@ read8-requires-3 : tie.Need-read8-requires-3
 read8-requires-3 c κs = tt
 
 returns : tie.Need-returns
-returns c = id-words _ _ _ _ _ (c .before .before .before .before .pre) (c .before .before .read8 .ensures .0) (c .before .read82 .ensures .0) (c .read83 .ensures .0)
+returns c =
+    id-words _ _ _ _ _ (c .before .before .before .before .pre) (c .before .before .read8 .ensures .0)
+    (c .before .read82 .ensures .0) (c .read83 .ensures .0)
 
 pub item-id-spec : {M : Type 1} → statement M
 item-id-spec =

@@ -26,7 +26,8 @@ add-if3 : tie.Need-add-if3
 add-if3 c = omega arith
 
 returns-3 : tie.Need-returns-3
-returns-3 c = batch-over _ (omega arith) _ _ (c .before .before .read4 .ensures .0) (c .before .read42 .ensures .0) _ (c .if3 .taken)
+returns-3 c =
+    batch-over _ (omega arith) _ _ (c .before .before .read4 .ensures .0) (c .before .read42 .ensures .0) _ (c .if3 .taken)
 
 read4-requires-3 : tie.Need-read4-requires-3
 read4-requires-3 c κs = tt
@@ -38,7 +39,10 @@ brought-requires : tie.Need-brought-requires
 brought-requires c κs = tt
 
 returns-4 : tie.Need-returns-4
-returns-4 c = batch-many _ (omega arith) _ _ (c .before .before .before .before .before .read4 .ensures .0) (c .before .before .before .before .read42 .ensures .0) _ (c .before .before .read43 .ensures .0) _ _
+returns-4 c =
+    let c5 = c .before .before .before .before .before in
+    batch-many _ (omega arith) _ _ (c5 .read4 .ensures .0) (c .before .before .before .before .read42 .ensures .0) _
+    (c .before .before .read43 .ensures .0) _ _
     (c .before .brought .ensures) (c .if4 .taken)
 
 span-falls-requires : tie.Need-span-falls-requires
@@ -57,7 +61,10 @@ shaped-requires : tie.Need-shaped-requires
 shaped-requires c κs = tt
 
 returns-6 : tie.Need-returns-6
-returns-6 c = batch-unshaped _ (omega arith) _ _ (c .before .before .before .before .before .before .before .before .before .read4 .ensures .0) (c .before .before .before .before .before .before .before .before .read42 .ensures .0) _ (c .before .before .before .before .before .before .read43 .ensures .0) _
+returns-6 c =
+    let c5 = c .before .before .before .before .before in
+    batch-unshaped _ (omega arith) _ _ (c5 .before .before .before .before .read4 .ensures .0)
+    (c5 .before .before .before .read42 .ensures .0) _ (c5 .before .read43 .ensures .0) _
     (c .before .shaped .ensures) _ (c .if6 .left)
 
 sub-batch-needed : tie.Need-sub-batch-needed
@@ -79,12 +86,23 @@ part-batch-needed-end-2 : tie.Need-part-batch-needed-end-2
 part-batch-needed-end-2 c = omega arith
 
 batch-needed-requires : tie.Need-batch-needed-requires
-batch-needed-requires c κs = batch-header _ (omega arith) _ _ (c .before .before .before .before .before .before .before .before .before .before .before .read4 .ensures .0) (c .before .before .before .before .before .before .before .before .before .before .read42 .ensures .0) _ (c .before .before .before .before .before .before .before .before .read43 .ensures .0) _
-    (c .before .before .before .shaped .ensures) (record { below = λ i. omega (arith, c .before .before .before .before .before .before .before .before .before .before .before .before .before .before .before .shared-slice-known .given i) }) _ (c .before .before .before .before .before .before .before .before .before .before .before .before .before .read1 .ensures .0)
-    (c .before .before .before .before .before .before .before .before .before .before .before .before .if2 .left) _ (c .before .before .before .before .before .span-falls .ensures) (c .before .before .before .before .if5 .left) (omega arith) (c .before .before .if6 .taken)
+batch-needed-requires c κs =
+    let c5 = c .before .before .before .before .before in
+    let c10 = c5 .before .before .before .before .before in
+    let c15 = c10 .before .before .before .before .before in
+    batch-header _ (omega arith) _ _ (c10 .before .read4 .ensures .0) (c10 .read42 .ensures .0) _
+    (c5 .before .before .before .read43 .ensures .0) _
+    (c .before .before .before .shaped .ensures) (record { below = λ i. omega (arith, c15 .shared-slice-known .given i) }) _
+    (c10 .before .before .before .read1 .ensures .0)
+    (c10 .before .before .if2 .left) _ (c5 .span-falls .ensures) (c .before .before .before .before .if5 .left) (omega arith)
+    (c .before .before .if6 .taken)
 
 returns-7 : tie.Need-returns-7
-returns-7 c = c .batch-needed .ensures (c .before .before .before .before .before .before .before .before .before .before .before .before .before .before .before .before .before .args .records) (omega (arith, c .before .before .before .before .before .before .before .before .brought .ensures))
+returns-7 c =
+    let c5 = c .before .before .before .before .before in
+    let c10 = c5 .before .before .before .before .before in
+    let c15 = c10 .before .before .before .before .before in
+    c .batch-needed .ensures (c15 .before .before .args .records) (omega (arith, c5 .before .before .before .brought .ensures))
 
 pub open-batch-spec : {M : Type 1} → statement M
 open-batch-spec =
