@@ -1,21 +1,22 @@
 -- How a call that writes a store or a batch ends once its parts are ready. The length of the whole is the sum of the parts' lengths; with room for it
 -- the parts stand one behind the other, which are the bytes of the store or batch; without, 14 is answered and the buffer stays.
 use Prim.Native.Nat.{ℕ, _+_, _≤_, _<_}
-use mathlib.Core.Path.{_≡_, refl, sym, ap, ap₂, _∙_}
+use mathlib.Core.Path.{_≡_, refl, sym, ap, ap₂, subst, _∙_}
 use mathlib.Core.Bool.{Bool, true, false}
 use mathlib.Core.List.{List, []}
 use native.Mathlib.Omega.{arith}
-use lib.Dec.{leb}
+use lib.Dec.{ltb, leb}
 use lib.ListN.{length, take}
-use borrow.Author.Tests.{lt-ltb, le-ltb, le-leb, lt-leb, leb-true, leb-false}
+use borrow.Author.Tests.{lt-ltb, le-ltb, ltb-true, ltb-false, le-leb, lt-leb, leb-true, leb-false}
 use Rattle.codec.specs.Number.{Bytes}
-use Rattle.codec.specs.Reply.{Reply, gives, refuses, answer, after}
+use Rattle.codec.specs.Reply.{Reply, gives, refuses, answer, after, firstFault}
 use Rattle.codec.specs.Part.{placed}
 use Rattle.codec.specs.declared.Answer.{Answer}
 use Rattle.codec.specs.declared.Answer.the-variants.{Written, Refused}
 use Rattle.codec.proofs.Writing.{placed-length}
-use Rattle.codec.proofs.Calls.{short-answer, short-after, written-answer, written-after}
+use Rattle.codec.proofs.Calls.{refused-answer, refused-after, short-answer, short-after, written-answer, written-after}
 use Rattle.layout.specs.Knowledge.{Limits, Knowledge, encode}
+use Rattle.ticks.specs.Calls.{resultLines}
 use Rattle.tables.specs.declared.Sizes.{Sizes}
 use Rattle.tables.specs.MethodPlan.{lengthOf}
 use Rattle.tables.specs.MethodPieces.{laid}
@@ -26,9 +27,14 @@ use Rattle.replication.specs.Operate.{join}
 use Rattle.replication.specs.MethodTable.{tableAt}
 use Rattle.replication.specs.OpenStore.{storeKnowledge}
 use Rattle.replication.specs.OpenBatch.{batchNeeded}
+use Rattle.replication.specs.MethodReplies.{storeReply}
+use Rattle.replication.proofs.CallSteps.{store-result, store-over, store-fits, store-given}
 use Rattle.replication.proofs.Enough.{recs-size, store-size, batch-size}
 use Rattle.joining.specs.MethodJoin.{copied, sizeFrom, joinAt, fronted}
 use Rattle.joining.proofs.Copies.{joined-count, joined-size, joined-copied}
+use Rattle.loading.specs.MethodReply.{resultReply}
+use Rattle.loading.proofs.Closing.{result-is}
+use Rattle.operations.specs.MethodCalls.{Holds, Prepares, Ended}
 use Rattle.operations.specs.declared.Prepared.{Prepared}
 use Rattle.operations.specs.declared.Prepared.the-variants as P
 use Rattle.headers.specs.MethodHeaders.{storeHead, batchHead}
@@ -252,3 +258,128 @@ module _ (most count size : ℕ) (out : List ℕ) (page : Sizes → ℕ → List
         → u ≡ finishedOut (P.Ready z rows) most count size out page
     unfolding finishedOut
     out-put u h e = e ∙ sym (rw (le-ltb most count h, finishedOut))
+
+pub written-is : (own : ℕ) (ids bounds t cols firsts numbers s other picks : List ℕ) (count : ℕ) (out : List ℕ) (z : Sizes) (rows : ℕ)
+    → storeWritten own ids bounds t cols firsts numbers s other picks count out z rows
+    ≡ copied s other (pageAt (placed out 0 (storeHead own (lengthOf z) count)) storeKnowledge z ids bounds t rows cols firsts numbers)
+    (storeKnowledge + lengthOf z) (take count picks)
+unfolding storeWritten
+written-is own ids bounds t cols firsts numbers s other picks count out z rows = refl
+
+-- the call ends as the reply of the resulting store says: 11 or 12 where its knowledge was refused, then 13, then its bytes or 14
+module _ (L : Limits) (st : Store) (own : ℕ) (mine : own ≡ st .own) (ids bounds t cols firsts numbers : List ℕ) (s : List ℕ) (a : ℕ)
+    (other : List ℕ) (b : ℕ) (bytes : Bytes s) (others : Bytes other) (joins : join (tableAt s a) (tableAt other b) ≡ st .records)
+    (picks : List ℕ) (most : ℕ) (limit : most ≡ L .records) (room : most ≤ length picks) (out out' : List ℕ) (r : Answer) where
+  abbrev xs : List ℕ
+  xs = joinAt s a other b
+
+  abbrev page : Sizes → ℕ → List ℕ
+  page = storeWritten own ids bounds t cols firsts numbers s other (fronted picks xs) (length xs) out
+
+  counts : length xs ≡ length (st .records)
+  counts = joined-count s a other b ∙ ap length joins
+
+  refused-ends : (n : ℕ) → storeReply L st ≡ refuses n → r ≡ Refused n → out' ≡ out → Ended (storeReply L st) out out' r
+  refused-ends n e f g = record {
+    answers = f ∙ refused-answer (storeReply L st) out n e;
+    leaves = g ∙ refused-after (storeReply L st) out n e;
+  }
+
+  pub finish-ends : (p : Prepared) → Prepares (resultReply L (st .knowledge)) ids bounds t cols firsts numbers p
+      → r ≡ finishedAnswer p most (length xs) (sizeFrom s other xs) (length out)
+      → out' ≡ finishedOut p most (length xs) (sizeFrom s other xs) out page
+      → Ended (storeReply L st) out out' r
+  finish-ends (P.Refused n) w e f =
+      refused-ends n (store-result L st n (sym (result-is L (st .knowledge)) ∙ w .is))
+      (e ∙ sym (finished-refused most (length xs) (sizeFrom s other xs) (length out) n))
+      (f ∙ sym (out-refused most (length xs) (sizeFrom s other xs) out page n))
+  finish-ends (P.Ready z rows) w e f = go (ltb most (length xs)) refl
+    where
+      held : Holds (resultReply L (st .knowledge)) ids bounds t cols firsts numbers z rows
+      held = w .is
+
+      given : firstFault refuses (resultLines L (st .knowledge)) (gives (encode (st .knowledge))) ≡ gives (held .bs)
+      given = sym (result-is L (st .knowledge)) ∙ held .is
+
+      pages : Pages z ids bounds t rows cols firsts numbers (st .knowledge)
+      pages = record {
+        size = ap length (store-given L st (held .bs) given) ∙ held .size;
+        writes = λ d at h. held .writes d at h ∙ ap (placed d at) (sym (store-given L st (held .bs) given));
+      }
+
+      chosen : length xs ≤ most → Chosen s other (fronted picks xs) (length xs) (sizeFrom s other xs) (st .records)
+      chosen l =
+          subst (Chosen s other (fronted picks xs) (length xs) (sizeFrom s other xs)) joins
+          (joined-chosen s a other b picks (fronted picks xs) (length xs) (sizeFrom s other xs) bytes others refl refl refl (omega arith))
+
+      go : (over : Bool) → ltb most (length xs) ≡ over → Ended (storeReply L st) out out' r
+      go true h =
+          let l = ltb-true most (length xs) h in
+          refused-ends 13 (store-over L st (held .bs) given (omega (arith, counts, limit)))
+          (e ∙ sym (finished-over most (length xs) (sizeFrom s other xs) (length out) z rows l))
+          (f ∙ sym (out-over most (length xs) (sizeFrom s other xs) out page z rows l))
+      go false h =
+          let l = ltb-false most (length xs) h in
+          let n = storeKnowledge + lengthOf z + sizeFrom s other xs in
+          let done = ends (storeReply L st) (encodeStore st) out (page z rows) n
+          (store-fits L st (held .bs) given (omega (arith, counts, limit)))
+          (store-whole st z ids bounds t rows cols firsts numbers pages s other (fronted picks xs) (length xs) (sizeFrom s other xs) (chosen l) own mine)
+          (λ k. written-is own ids bounds t cols firsts numbers s other (fronted picks xs) (length xs) out z rows ∙ store-written st z ids bounds t rows cols firsts numbers pages s other (fronted picks xs) (length xs)
+          (sizeFrom s other xs) (chosen l) own mine out k) in
+          record {
+            answers = e ∙ sym (finished-put most (length xs) (sizeFrom s other xs) (length out) z rows (endsWith n (length out)) l refl) ∙ done .0;
+            leaves = f ∙ sym (out-put most (length xs) (sizeFrom s other xs) out page z rows (leaves n out (page z rows)) l refl) ∙ done .1;
+          }
+
+-- the returns of the code, by what was prepared
+module _ (p : Prepared) (most : ℕ) (own : ℕ) (ids bounds t cols firsts numbers : List ℕ) (s : List ℕ) (a : ℕ) (other : List ℕ) (b : ℕ)
+    (picks out : List ℕ) where
+  abbrev chosen-at : List ℕ
+  chosen-at = joinAt s a other b
+
+  abbrev written-at : Sizes → ℕ → List ℕ
+  written-at = storeWritten own ids bounds t cols firsts numbers s other (fronted picks chosen-at) (length chosen-at) out
+
+  abbrev Finished : Answer → List ℕ → Type 0
+  Finished r u =
+      (r ≡ finishedAnswer p most (length chosen-at) (sizeFrom s other chosen-at) (length out))
+      × (u ≡ finishedOut p most (length chosen-at) (sizeFrom s other chosen-at) out written-at)
+
+  by-case : (q : Prepared) (r : Answer) (u : List ℕ) → p ≡ q
+      → r ≡ finishedAnswer q most (length chosen-at) (sizeFrom s other chosen-at) (length out)
+      → u ≡ finishedOut q most (length chosen-at) (sizeFrom s other chosen-at) out written-at → Finished r u
+  by-case q r u e f g = (
+    f ∙ ap (λ (x : Prepared). finishedAnswer x most (length chosen-at) (sizeFrom s other chosen-at) (length out)) (sym e),
+    g ∙ ap (λ (x : Prepared). finishedOut x most (length chosen-at) (sizeFrom s other chosen-at) out written-at) (sym e),
+  )
+
+  pub finish-refused : (n : ℕ) → p ≡ P.Refused n → Finished (Refused n) out
+  finish-refused n e =
+      by-case (P.Refused n) (Refused n) out e (finished-refused most (length chosen-at) (sizeFrom s other chosen-at) (length out) n)
+      (out-refused most (length chosen-at) (sizeFrom s other chosen-at) out written-at n)
+
+  module _ (z : Sizes) (rows : ℕ) (e : p ≡ P.Ready z rows) (count m : ℕ) (f : count ≡ length chosen-at) (g : m ≡ most) where
+    pub finish-over : m < count → Finished (Refused 13) out
+    finish-over h =
+        by-case (P.Ready z rows) (Refused 13) out e
+        (finished-over most (length chosen-at) (sizeFrom s other chosen-at) (length out) z rows (omega arith))
+        (out-over most (length chosen-at) (sizeFrom s other chosen-at) out written-at z rows (omega arith))
+
+    pub finish-put : (size : ℕ) (picks' : List ℕ) (r : Answer) (u : List ℕ) → size ≡ sizeFrom s other chosen-at → picks' ≡ fronted picks chosen-at
+        → count ≤ m → r ≡ endsWith (storeKnowledge + lengthOf z + size) (length out)
+        → u ≡ leaves (storeKnowledge + lengthOf z + size) out
+        (copied s other (pageAt (placed out 0 (storeHead own (lengthOf z) count)) storeKnowledge z ids bounds t rows cols firsts numbers)
+        (storeKnowledge + lengthOf z) (take count picks'))
+        → Finished r u
+    finish-put size picks' r u i j h k l =
+        let page : List ℕ → ℕ → List ℕ = λ x c.
+        copied s other (pageAt (placed out 0 (storeHead own (lengthOf z) c)) storeKnowledge z ids bounds t rows cols firsts numbers)
+        (storeKnowledge + lengthOf z) (take c x) in
+        by-case (P.Ready z rows) r u e
+        (finished-put most (length chosen-at) (sizeFrom s other chosen-at) (length out) z rows r (omega arith)
+        (k ∙ ap (λ (n : ℕ). endsWith (storeKnowledge + lengthOf z + n) (length out)) i))
+        (out-put most (length chosen-at) (sizeFrom s other chosen-at) out written-at z rows u (omega arith)
+        (l
+        ∙ ap₂ (λ (n : ℕ) (x : List ℕ). leaves (storeKnowledge + lengthOf z + n) out x) i
+        (ap₂ page j f
+        ∙ sym (written-is own ids bounds t cols firsts numbers s other (fronted picks chosen-at) (length chosen-at) out z rows))))

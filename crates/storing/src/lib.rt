@@ -190,7 +190,21 @@ pub fn finish_store(
                 return Answer::Refused(13);
             }
             put_store(
-                out, p0, p1, sizes, rows, ids, bounds, t, cols, firsts, numbers, s, other, picks, e,
+                out,
+                p0,
+                p1,
+                sizes,
+                rows,
+                ids,
+                bounds,
+                t,
+                cols,
+                firsts,
+                numbers,
+                s,
+                other,
+                picks,
+                e,
             )
         }
         Prepared::Refused(n) => Answer::Refused(n),
