@@ -209,7 +209,7 @@ no-part p e = record {
   size = λ old. ap (λ (q : Part). partLength q old) e;
 }
 
-store-part : (s : List ℕ) (p : Part) (at n : ℕ) → p ≡ P.OfStore at n → at + n ≤ length s → StorePart s at n p
+pub store-part : (s : List ℕ) (p : Part) (at n : ℕ) → p ≡ P.OfStore at n → at + n ≤ length s → StorePart s at n p
 unfolding partBytes partNumber partSide partAtPlace partLength
 store-part s p at n e l = record {
   is = e;
@@ -233,7 +233,7 @@ batch-part t p at n e l = record {
   size = λ old. ap (λ (q : Part). partLength q old) e;
 }
 
-part-refused : (n : ℕ) (p : Part) → p ≡ P.Refused n → NoPartBut n p
+pub part-refused : (n : ℕ) (p : Part) → p ≡ P.Refused n → NoPartBut n p
 unfolding partBytes partNumber partSide partAtPlace partLength
 part-refused n p e = record {
   is = e;
