@@ -1,0 +1,102 @@
+-- A pass over rising records with a cursor that is moved on from record to record. While records are left, the cursor has passed just the
+-- ranges below the next item (`Follows`): so at the start, and again after each record. What holds of each record of a table holds of the
+-- first and of each of the rest: the answer for the whole table is the answer for what is left.
+use Prim.Native.Nat.{ℕ, suc, _+_, _-_, _≤_, _<_}
+use mathlib.Core.Path.{_≡_, refl, sym, ap, _∙_, subst}
+use mathlib.Core.Bool.{Bool, true, false, not}
+use mathlib.Core.List.{List}
+use native.Mathlib.Omega.{arith}
+use lib.ListN.{length}
+use borrow.Author.Tests.{leb-true}
+use Rattle.layout.specs.Knowledge.{Rules}
+use Rattle.layout.specs.Decode.{decode}
+use Rattle.ticks.specs.Meaning.{contains}
+use Rattle.replication.specs.Record.{Rec}
+use Rattle.replication.specs.Reading.{behind, recAt, both, validRec}
+use Rattle.replication.specs.MethodRecords.{recordsAt, shapedAt, each, WholeAt}
+use Rattle.replication.specs.OpenStore.{versionsIn}
+use Rattle.replication.specs.OpenBatch.{lacksChange}
+use Rattle.replication.proofs.RecordsInBytes.{whole-at, each-nil, each-on, each-stop, records-nil, records-cons}
+use Rattle.replication.proofs.OpeningTables.{OrderedMore, ordered-parts}
+use Rattle.lookup.specs.declared.Cursor.{Cursor}
+use Rattle.lookup.specs.Method.{Opens, Open}
+use Rattle.lookup.proofs.Leaf.{Stands, stands-start}
+use Rattle.versions.specs.Method.{movedTo, changeIn, bothIn}
+use Rattle.versions.proofs.Versions.{SomeTicks, valid-ticks, moved-stands, change-in, both-in}
+
+-- n records of s from a place on, whole, valid and rising, none with an item before the one that a cursor of k has come to
+pub record Follows (s k : List ℕ) (r n at : ℕ) (c : Cursor) : Type 0 where
+  pub rules : Rules
+  pub low : ℕ
+  pub ordered : shapedAt s low n at ≡ true
+  pub stands : Stands rules k r c low
+
+pub follows-start : (s k : List ℕ) (r n at : ℕ) (c : Cursor) → Open k r c → shapedAt s 0 n at ≡ true → Follows s k r n at c
+follows-start s k r n at c o h =
+    record { rules = o .rules; low = 0; ordered = h; stands = stands-start (o .rules) k r c (o .opens) }
+
+module _ (s k : List ℕ) (r n at : ℕ) (c : Cursor) (f : Follows s k r n at c) (some : 0 < n) where
+  parts : OrderedMore s (f .low) (n - 1) at
+  parts =
+      let z : n ≡ suc (n - 1) = omega arith in
+      ordered-parts s (f .low) (n - 1) at (ap (λ m. shapedAt s (f .low) m at) (sym z) ∙ f .ordered)
+
+  pub follows-whole : WholeAt s at
+  follows-whole = whole-at s at (parts .whole)
+
+  pub follows-ticks : SomeTicks (recAt s at)
+  follows-ticks = valid-ticks (recAt s at) (parts .valid)
+
+  module _ (d : Cursor) (moved : d ≡ movedTo s at k r c) where
+    -- moved on, the cursor stands at the item of the next record
+    pub follows-stands : Stands (f .rules) k r d (suc (recAt s at .item))
+    follows-stands =
+        let l = leb-true (f .low) (recAt s at .item) (parts .low) in
+        subst (λ x. Stands (f .rules) k r x (suc (recAt s at .item))) (sym moved)
+        (moved-stands (f .rules) k r c s at follows-whole (f .low) (f .stands) (omega arith))
+
+    pub follows-next : (next : ℕ) → next ≡ behind s at → Follows s k r (n - 1) next d
+    follows-next next e =
+        record {
+          rules = f .rules;
+          low = suc (recAt s at .item);
+          ordered = ap (shapedAt s (suc (recAt s at .item)) (n - 1)) e ∙ parts .rest;
+          stands = follows-stands;
+        }
+
+    -- there the record's versions are looked up
+    pub follows-change : (b : Bool) → b ≡ changeIn s at k r (d .vector)
+        → b ≡ contains (decode k) (recAt s at .item) (recAt s at .changeReplica) (recAt s at .changeTick)
+    follows-change b e = e ∙ change-in (f .rules) k r d s at follows-whole follows-stands follows-ticks
+
+    pub follows-both : (b : Bool) → b ≡ bothIn s at k r (d .vector) → b ≡ versionsIn (decode k) (recAt s at)
+    follows-both b e = e ∙ both-in (f .rules) k r d s at follows-whole follows-stands follows-ticks
+
+    -- a change version that is contained is not lacking
+    pub follows-lacks : (b : Bool) → b ≡ changeIn s at k r (d .vector) → not b ≡ lacksChange (decode k) (recAt s at)
+    unfolding lacksChange
+    follows-lacks b e = ap not (follows-change b e)
+
+-- ---- a property of each record
+
+pub each-starts : (P : Rec → Bool) (s : List ℕ) (n at : ℕ) → each P (recordsAt s n at) ≡ each P (recordsAt s n at)
+each-starts P s n at = refl
+
+module _ (P : Rec → Bool) (s : List ℕ) (whole : Bool) (n at : ℕ) (inv : whole ≡ each P (recordsAt s n at)) where
+  pub each-ends : n ≤ 0 → true ≡ whole
+  each-ends l =
+      let z : n ≡ 0 = omega arith in
+      sym (inv ∙ ap (λ m. each P (recordsAt s m at)) z ∙ ap (each P) (records-nil s at) ∙ each-nil P)
+
+  module _ (some : 0 < n) where
+    one : whole ≡ each P (recordsAt s (suc (n - 1)) at)
+    one = let z : n ≡ suc (n - 1) = omega arith in inv ∙ ap (λ m. each P (recordsAt s m at)) z
+
+    pub each-fails : P (recAt s at) ≡ false → false ≡ whole
+    each-fails e =
+        sym (one ∙ ap (each P) (records-cons s (n - 1) at) ∙ each-stop P (recAt s at) (recordsAt s (n - 1) (behind s at)) e)
+
+    pub each-next : P (recAt s at) ≡ true → (next : ℕ) → next ≡ behind s at → whole ≡ each P (recordsAt s (n - 1) next)
+    each-next e next f =
+        one ∙ ap (each P) (records-cons s (n - 1) at) ∙ each-on P (recAt s at) (recordsAt s (n - 1) (behind s at)) e
+        ∙ ap (λ p. each P (recordsAt s (n - 1) p)) (sym f)
