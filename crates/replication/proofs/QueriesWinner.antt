@@ -417,6 +417,16 @@ winner-exact L s t item st b o q l =
     ∙ told-found s t item st b (length-exact 24 item .1 l)
     ∙ ap (found s t) (id-is 24 item))
 
+-- the same by the places of the item's records, for code
+pub winner-found : (L : Limits) (s t item : List ℕ) (st : Store) (b : Batch) → openStore L s ≡ accepted st → openBatch L t ≡ accepted b
+    → length item ≡ 24 → (i : ℕ) → i ≡ beAt item 24 0
+    → winnerPart L s t item ≡ winnerAt s t (placeOf s i (places s (storeTable s))) (placeOf t i (places t (batchTable t)))
+unfolding found
+winner-found L s t item st b o q l i e =
+    told-is L s t item (accepted st) (accepted b) o q
+    ∙ told-found s t item st b (length-exact 24 item .1 l)
+    ∙ ap (found s t) (id-is 24 item ∙ sym e)
+
 -- the part's bytes are those of the record
 pub store-record-bytes : (s : List ℕ) (rs : List Rec) (x : Rec) (p : Part) (batch : List ℕ) → Bytes s → StoreRecord s rs x p → partBytes p s batch ≡ putRec x []
 store-record-bytes s rs x p batch b h = h .part .part batch ∙ (rec-part s (h .at) b (h .whole) ∙ ap (λ (r : Rec). putRec r []) (h .reads))

@@ -1,0 +1,3 @@
+-- The laws of the calls that write nothing.
+pub mod Parts
+pub mod Winner
