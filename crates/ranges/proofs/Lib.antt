@@ -1,2 +1,3 @@
 -- The laws of going range by range.
 pub mod Ranges
+pub mod Outside

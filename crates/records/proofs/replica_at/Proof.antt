@@ -31,8 +31,11 @@ eight-requires-2 c κs = omega (arith, c .before .before .beyond .ensures .1 (c 
 
 returns-2 : tie.Need-returns-2
 returns-2 c =
-    replica-total _ _ (omega (arith, c .before .before .before .beyond .ensures .1
-    (c .before .before .if1 .left))) _ _ (c .before .eight .ensures .0) (c .eight2 .ensures .0)
+    replica-total _ _ (omega (
+      arith,
+      c .before .before .before .beyond .ensures .1
+          (c .before .before .if1 .left),
+    )) _ _ (c .before .eight .ensures .0) (c .eight2 .ensures .0)
 
 pub replica-at-spec : {M : Type 1} → statement M
 replica-at-spec =

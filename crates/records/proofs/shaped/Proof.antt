@@ -57,8 +57,11 @@ returns-3 c =
 
 add-p : tie.Need-add-p Inv-loop μ-loop
 add-p c =
-    omega (arith, length-inside _ _ _ (c .before .before .before .before .before .before .length-at .ensures)
-    (c .before .before .before .before .before .if1 .left))
+    omega (
+      arith,
+      length-inside _ _ _ (c .before .before .before .before .before .before .length-at .ensures)
+          (c .before .before .before .before .before .if1 .left),
+    )
 
 sub-left : tie.Need-sub-left Inv-loop μ-loop
 sub-left c = omega arith
