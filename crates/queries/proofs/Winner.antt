@@ -6,8 +6,10 @@ use mathlib.Core.Bool.{Bool, true, false}
 use mathlib.Core.List.{List}
 use mathlib.Core.Option.{Option, none, some}
 use native.Mathlib.Omega.{arith}
+use lib.Dec.{eqb}
 use lib.ListN.{length}
-use Rattle.codec.specs.Number.{beAt}
+use borrow.Author.Tests.{eqb-true, eqb-false}
+use Rattle.codec.specs.Number.{Bytes, beAt}
 use Rattle.codec.specs.Parsed.{Parsed, accepted, refused}
 use Rattle.codec.specs.Total.{readAt}
 use Rattle.codec.specs.Words.{words3}
@@ -20,8 +22,8 @@ use Rattle.replication.specs.declared.Part.the-variants as P
 use Rattle.replication.specs.Formats.{Store}
 use Rattle.replication.specs.BatchFormat.{Batch}
 use Rattle.replication.specs.Reading.{recLength, behind, recAt, whole}
-use Rattle.replication.specs.OpenStore.{storeTable, openStore}
-use Rattle.replication.specs.OpenBatch.{batchTable, openBatch}
+use Rattle.replication.specs.OpenStore.{storeKnowledge, storeTable, openStore}
+use Rattle.replication.specs.OpenBatch.{batchNeeded, batchTable, openBatch}
 use Rattle.replication.specs.Operate.{wins}
 use Rattle.replication.specs.Queries.{places, placeOf, ofStore, ofBatch, winnerAt, winnerPart}
 use Rattle.replication.proofs.RecordsInBytes.{whole-at}
@@ -32,6 +34,13 @@ use Rattle.records.specs.declared.Found.the-variants as F
 use Rattle.records.specs.Method.{foundPlace, readRec}
 use Rattle.records.proofs.Fields.{kind-read, wins-whole}
 use Rattle.records.proofs.Finding.{found-at, found-nothing}
+use Rattle.stores.specs.declared.KnowledgePart.{KnowledgePart}
+use Rattle.stores.specs.declared.OpenedStore.{OpenedStore}
+use Rattle.stores.specs.declared.OpenedStore.the-variants as S
+use Rattle.stores.specs.declared.OpenedBatch.{OpenedBatch}
+use Rattle.stores.specs.declared.OpenedBatch.the-variants as B
+use Rattle.stores.specs.Method.{storeOpened, batchOpened}
+use Rattle.stores.proofs.Opened.{StoreOpen, BatchOpen, store-open, store-closed, batch-open, batch-closed}
 use Rattle.queries.specs.Method.{Inside}
 
 -- ---- the record at a place
@@ -101,3 +110,118 @@ module _ (s t : List ℕ) (i x y : ℕ) (m n : Found) (e : foundPlace m ≡ plac
       winner-stays j q =
           let z : wins (recAt s a) (recAt t b) ≡ false = sym won ∙ j in
           q ∙ sym (on-both (some a) (some b) (mine-at a g) (theirs-at b h) ∙ rw (z, winnerAt))
+
+-- ---- the call, by what the checks answered
+
+module _ (a b n : ℕ) (s t item : List ℕ) (r : OpenedStore) (e : r ≡ storeOpened (within a b n) s) where
+  pub winner-not-store : r ≡ S.NotValid → P.Refused 15 ≡ winnerPart (within a b n) s t item
+  winner-not-store f = sym (winner-store (within a b n) s t item 15 (store-closed a b n s (sym e ∙ f)) .is)
+
+  module _ (y : Bytes s) (k : KnowledgePart) (m : ℕ) (f : r ≡ S.Valid k m) (q : OpenedBatch) (g : q ≡ batchOpened (within a b n) t) where
+    opened : StoreOpen (within a b n) s k m
+    opened = store-open a b n s y k m (sym e ∙ f)
+
+    pub winner-not-batch : q ≡ B.NotValid → P.Refused 16 ≡ winnerPart (within a b n) s t item
+    winner-not-batch h = sym (winner-batch (within a b n) s t item _ 16 (opened .value) (batch-closed a b n t (sym g ∙ h)) .is)
+
+    module _ (z : Bytes t) (l j : KnowledgePart) (c : ℕ) (h : q ≡ B.Valid l j c) where
+      opened-too : BatchOpen (within a b n) t l j c
+      opened-too = batch-open a b n t z l j c (sym g ∙ h)
+
+      pub winner-no-item : (length item ≡ 24 → ⊥) → P.Refused 17 ≡ winnerPart (within a b n) s t item
+      winner-no-item w = sym (winner-17 (within a b n) s t item _ _ (opened .value) (opened-too .value) w .is)
+
+      -- the tables begin inside the bytes
+      pub winner-tables : (storeKnowledge + k .length ≤ length s) × (batchNeeded + l .length + j .length ≤ length t)
+      winner-tables =
+          (omega (arith, opened .length, opened .tests .inside), omega (arith, opened-too .neededSize, opened-too .learnedSize, opened-too .tests .inside))
+
+      pub winner-is : length item ≡ 24 → (i0 i1 i2 : ℕ) → i0 ≡ readAt item 8 0 → i1 ≡ readAt item 8 8 → i2 ≡ readAt item 8 16 → (p : Part)
+          → p ≡ winnerAt s t (placeOf s (words3 i0 i1 i2) (places s (storeKnowledge + k .length)))
+          (placeOf t (words3 i0 i1 i2) (places t (batchNeeded + l .length + j .length))) → p ≡ winnerPart (within a b n) s t item
+      winner-is w i0 i1 i2 d0 d1 d2 p is =
+          let i = words3 i0 i1 i2 in
+          let id : i ≡ beAt item 24 0 = cc (read-id3 item 0 (omega arith)) in
+          let x : storeKnowledge + k .length ≡ storeTable s = omega (arith, opened .length) in
+          let v : batchNeeded + l .length + j .length ≡ batchTable t = omega (arith, opened-too .neededSize, opened-too .learnedSize) in
+          is
+          ∙ ap₂ {C = Part} (λ (x v : ℕ). winnerAt s t (placeOf s i (places s x)) (placeOf t i (places t v))) x v
+          ∙ sym (winner-found (within a b n) s t item _ _ (opened .value) (opened-too .value) w i id)
+
+-- document 01's limits
+pub winner-base : (s t item : List ℕ) (p : Part) → p ≡ winnerPart (within (base .replicas) (base .ranges) (base .records)) s t item
+    → p ≡ winnerPart base s t item
+winner-base s t item p e = e ∙ ap (λ (L : Limits). winnerPart L s t item) base-within
+
+-- ---- the part is inside
+
+module _ (s t : List ℕ) where
+  inside-none : Inside P.Nothing s t
+  inside-none = record {
+    ofStore = λ at n f. absurd (let z : _≡_ {A = ℕ} 0 1 = cc in omega arith);
+    ofBatch = λ at n f. absurd (let z : _≡_ {A = ℕ} 0 1 = cc in omega arith);
+  }
+
+  pub inside-refused : (k : ℕ) → Inside (P.Refused k) s t
+  inside-refused k = record {
+    ofStore = λ at n f. absurd (let z : _≡_ {A = ℕ} 0 1 = cc in omega arith);
+    ofBatch = λ at n f. absurd (let z : _≡_ {A = ℕ} 0 1 = cc in omega arith);
+  }
+
+  pub inside-store : (x m : ℕ) → x + m ≤ length s → Inside (P.OfStore x m) s t
+  inside-store x m l = record {
+    ofStore = λ at n f. let g : x ≡ at = cc in let h : m ≡ n = cc in omega (arith, l, g, h);
+    ofBatch = λ at n f. absurd (let z : _≡_ {A = ℕ} 0 1 = cc in omega arith);
+  }
+
+  pub inside-batch : (x m : ℕ) → x + m ≤ length t → Inside (P.OfBatch x m) s t
+  inside-batch x m l = record {
+    ofStore = λ at n f. absurd (let z : _≡_ {A = ℕ} 0 1 = cc in omega arith);
+    ofBatch = λ at n f. let g : x ≡ at = cc in let h : m ≡ n = cc in omega (arith, l, g, h);
+  }
+
+  -- the record at a place
+  record-inside : (u : List ℕ) (at : ℕ) → whole u at ≡ true → at + recLength (beAt u 1 at) ≤ length u
+  unfolding behind
+  record-inside u at w = whole-at u at w .inside
+
+  store-inside : (at : ℕ) → whole s at ≡ true → Inside (ofStore s at) s t
+  unfolding ofStore
+  store-inside at w = inside-store at (recLength (beAt s 1 at)) (record-inside s at w)
+
+  batch-inside : (at : ℕ) → whole t at ≡ true → Inside (ofBatch t at) s t
+  unfolding ofBatch
+  batch-inside at w = inside-batch at (recLength (beAt t 1 at)) (record-inside t at w)
+
+  found-inside : (o q : Option ℕ) → ((a : ℕ) → o ≡ some a → whole s a ≡ true) → ((b : ℕ) → q ≡ some b → whole t b ≡ true)
+      → Inside (winnerAt s t o q) s t
+  unfolding winnerAt
+  found-inside none none f g = inside-none
+  found-inside none (some b) f g = batch-inside b (g b refl)
+  found-inside (some a) none f g = store-inside a (f a refl)
+  found-inside (some a) (some b) f g = go (wins (recAt s a) (recAt t b))
+    where
+      go : (w : Bool) → Inside (elim w [ true ↦ ofBatch t b | false ↦ ofStore s a ]) s t
+      go true = batch-inside b (g b refl)
+      go false = store-inside a (f a refl)
+
+  at-inside : (i x y : ℕ) → Inside (winnerAt s t (placeOf s i (places s x)) (placeOf t i (places t y))) s t
+  at-inside i x y =
+      found-inside (placeOf s i (places s x)) (placeOf t i (places t y)) (λ a e. found-place s i x a e .0) (λ b e. found-place t i y b e .0)
+
+  module _ (L : Limits) (item : List ℕ) where
+    inside-as : (p : Part) → winnerPart L s t item ≡ p → Inside p s t → Inside (winnerPart L s t item) s t
+    inside-as p e h = subst (λ (q : Part). Inside q s t) (sym e) h
+
+    pub winner-inside : Inside (winnerPart L s t item) s t
+    winner-inside = go (openStore L s) refl (openBatch L t) refl (eqb (length item) 24) refl
+      where
+        go : (o : Parsed Store) → openStore L s ≡ o → (q : Parsed Batch) → openBatch L t ≡ q → (w : Bool) → eqb (length item) 24 ≡ w
+            → Inside (winnerPart L s t item) s t
+        go (refused n) e q f w g = inside-as _ (winner-store L s t item n e .is) (inside-refused n)
+        go (accepted st) e (refused n) f w g = inside-as _ (winner-batch L s t item st n e f .is) (inside-refused n)
+        go (accepted st) e (accepted b) f true g =
+            inside-as _ (winner-found L s t item st b e f (eqb-true (length item) 24 g) (beAt item 24 0) refl)
+            (at-inside (beAt item 24 0) (storeTable s) (batchTable t))
+        go (accepted st) e (accepted b) f false g =
+            inside-as _ (winner-17 L s t item st b e f (eqb-false (length item) 24 g) .is) (inside-refused 17)

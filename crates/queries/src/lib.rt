@@ -1,9 +1,33 @@
 // The calls on stores and batches that write nothing: winner, learned, a store's own knowledge, and coverage.
+//
+// For a part one function finds side, place and length. The public calls hand out the part itself, of the lent slices, with the number
+// beside it, or tell its place.
+use lookup::Cursor;
+use lookup::Opened;
+use records::Found;
+use replication::Coverage;
 use replication::Part;
+use stores::OpenedBatch;
+use stores::OpenedStore;
 ghost use mathlib.Core.Path.{_≡_};
-ghost use Rattle.replication.specs.Queries.{partBytes, partNumber};
+ghost use mathlib.Core.Bool.{true};
+ghost use Prim.Native.Nat.{_≤_};
+ghost use Rattle.codec.specs.Words.{words3};
+ghost use Rattle.layout.specs.Knowledge.{anyId, basic};
+ghost use Rattle.layout.specs.Permitted.{base, within};
+ghost use Rattle.layout.specs.Decode.{decode};
+ghost use Rattle.replication.specs.Queries.{partBytes, partNumber, places, placeOf, ofStore, ofBatch, winnerAt, winnerPart, learnedPart};
+ghost use Rattle.replication.specs.Queries.{knowledgePart, countIn, thousandths, coverageAnswer};
+ghost use Rattle.replication.specs.MethodRecords.{recordsAt, shapedAt};
+ghost use Rattle.lookup.specs.Method.{Open};
+ghost use Rattle.versions.specs.Method.{changeIn};
 ghost use Rattle.queries.specs.Lent.{PartOf};
-ghost use Rattle.queries.specs.Method.{Inside};
+ghost use Rattle.queries.specs.Method.{Inside, tally};
+
+// the places of a store's knowledge and of a batch's first one
+const STORE_KNOWLEDGE: usize = 25;
+
+const BATCH_NEEDED: usize = 61;
 
 // ---- parts
 
@@ -32,4 +56,86 @@ fn part_of<'a>(p: Part, store: &'a [u8], batch: &'a [u8], number: &mut u32) -> &
             &store[0..0]
         }
     }
+}
+
+// The part of the store's bytes that the record at a place is, and of the batch's.
+fn of_store(s: &[u8], at: usize) -> Part
+    ensures { λ p. ⌜ p ≡ ofStore (now (s .entry)) at ⌝ }
+{
+    let kind = codec::read1(s, at);
+    Part::OfStore(at, records::record_length(kind))
+}
+
+fn of_batch(s: &[u8], at: usize) -> Part
+    ensures { λ p. ⌜ p ≡ ofBatch (now (s .entry)) at ⌝ }
+{
+    let kind = codec::read1(s, at);
+    Part::OfBatch(at, records::record_length(kind))
+}
+
+// ---- winner
+
+// The winner of an item among the store's records from a place on and the batch's from a place on.
+fn winner_in(s: &[u8], x: usize, t: &[u8], y: usize, i0: u64, i1: u64, i2: u64) -> Part
+    ensures { λ p. ⌜ p ≡ winnerAt (now (s .entry)) (now (t .entry))
+        (placeOf (now (s .entry)) (words3 i0 i1 i2) (places (now (s .entry)) x))
+        (placeOf (now (t .entry)) (words3 i0 i1 i2) (places (now (t .entry)) y)) ⌝ }
+{
+    let mine = records::place_of(s, x, i0, i1, i2);
+    let theirs = records::place_of(t, y, i0, i1, i2);
+    match mine {
+        Found::At(a) => match theirs {
+            Found::At(b) => {
+                if records::wins(s, a, t, b) {
+                    return of_batch(t, b);
+                }
+                of_store(s, a)
+            }
+            Found::Nothing => of_store(s, a),
+        },
+        Found::Nothing => match theirs {
+            Found::At(b) => of_batch(t, b),
+            Found::Nothing => Part::Nothing,
+        },
+    }
+}
+
+// ---- coverage
+
+// 1 where the change version of the record at a place is in a clock vector of the knowledge, else 0.
+fn counted(s: &[u8], at: usize, k: &[u8], r: u32, vector: usize) -> u32
+    ensures { λ n. ⌜ (n ≡ tally (changeIn (now (s .entry)) at (now (k .entry)) r vector)) × (n ≤ 1) ⌝ }
+{
+    if versions::change_in(s, at, k, r, vector) {
+        return 1;
+    }
+    0
+}
+
+// How many of the n records from a place on have a change version that the knowledge contains.
+fn count_in(s: &[u8], n: u32, at: usize, k: &[u8], r: u32, start: Cursor) -> u32
+    requires { ⌜ (Open (now k) r start) × (shapedAt (now s) 0 n at ≡ true) ⌝ }
+    ensures { λ m. ⌜ m ≡ countIn (decode (now (k .entry))) (recordsAt (now (s .entry)) n at) ⌝ }
+{
+    let mut contained: u32 = 0;
+    let mut left = n;
+    let mut p = at;
+    let mut c = start;
+    while 0 < left {
+        c = versions::move_to(s, p, k, r, c);
+        contained += counted(s, p, k, r, c.vector);
+        p = records::behind(s, p);
+        left -= 1;
+    }
+    contained
+}
+
+// 1000 times those contained by all, rounded down; 1000 for no records.
+fn thousandths(contained: u32, all: u32) -> usize
+    ensures { λ r. ⌜ r ≡ thousandths contained all ⌝ }
+{
+    if all == 0 {
+        return 1000;
+    }
+    1000 * (contained as usize) / (all as usize)
 }
