@@ -1,2 +1,4 @@
 -- The laws of the check of a store and of a batch.
 pub mod Opened
+pub mod Normality
+pub mod Store

@@ -87,15 +87,15 @@ pub record StoreOpen (L : Limits) (s : List ℕ) (k : KnowledgePart) (n : ℕ) :
   pub knowledge : storeAt L s .knowledge ≡ decode (take (knowledgeLength s) (drop storeKnowledge s))
   pub small : k .r ≤ largestReplicas
 
-if-true : (b : Bool) (x : OpenedStore) → b ≡ true → storeIf b x ≡ x
+pub if-true : (b : Bool) (x : OpenedStore) → b ≡ true → storeIf b x ≡ x
 unfolding storeIf
 if-true b x e = ap (λ (t : Bool). storeIf t x) e
 
-if-false : (b : Bool) (x : OpenedStore) → b ≡ false → storeIf b x ≡ S.NotValid
+pub if-false : (b : Bool) (x : OpenedStore) → b ≡ false → storeIf b x ≡ S.NotValid
 unfolding storeIf
 if-false b x e = ap (λ (t : Bool). storeIf t x) e
 
-from-at : (s : List ℕ) (r : ℕ) (c : Cursor) → storeFrom s (O.At r c) ≡ S.Valid (knowledgePart (knowledgeLength s) r c) (storeCount s)
+pub from-at : (s : List ℕ) (r : ℕ) (c : Cursor) → storeFrom s (O.At r c) ≡ S.Valid (knowledgePart (knowledgeLength s) r c) (storeCount s)
 unfolding storeFrom
 from-at s r c = refl
 
@@ -163,15 +163,15 @@ pub record BatchOpen (L : Limits) (s : List ℕ) (k l : KnowledgePart) (n : ℕ)
   pub neededSmall : k .r ≤ largestReplicas
   pub learnedSmall : l .r ≤ largestReplicas
 
-if-batch : (b : Bool) (x : OpenedBatch) → b ≡ true → batchIf b x ≡ x
+pub if-batch : (b : Bool) (x : OpenedBatch) → b ≡ true → batchIf b x ≡ x
 unfolding batchIf
 if-batch b x e = ap (λ (t : Bool). batchIf t x) e
 
-if-not : (b : Bool) (x : OpenedBatch) → b ≡ false → batchIf b x ≡ B.NotValid
+pub if-not : (b : Bool) (x : OpenedBatch) → b ≡ false → batchIf b x ≡ B.NotValid
 unfolding batchIf
 if-not b x e = ap (λ (t : Bool). batchIf t x) e
 
-from-both : (s : List ℕ) (r : ℕ) (c : Cursor) (m : ℕ) (d : Cursor) → batchFrom s (O.At r c) (O.At m d)
+pub from-both : (s : List ℕ) (r : ℕ) (c : Cursor) (m : ℕ) (d : Cursor) → batchFrom s (O.At r c) (O.At m d)
     ≡ B.Valid (knowledgePart (neededLength s) r c) (knowledgePart (learnedLength s) m d) (batchCount s)
 unfolding batchFrom
 from-both s r c m d = refl

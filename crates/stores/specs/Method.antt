@@ -1,12 +1,19 @@
 -- What the check of a store or a batch answers: the tests of opening, then its sizes by places. There is nothing to believe here: the laws
 -- `store-open`, `store-closed`, `batch-open` and `batch-closed` say what these answers are in the terms of specs/OpenStore.antt and
 -- specs/OpenBatch.antt of `replication`.
-use Rattle.codec.specs.Prelude.{ℕ, _+_, Bool, true, false, List, length, take, drop}
+use Rattle.codec.specs.Prelude.{ℕ, _≤_, _≡_, Bool, true, false, List, length, take, drop}
+use Rattle.codec.specs.Number.{Bytes, beAt}
+use Rattle.layout.specs.declared.Checked.the-variants as A
 use Rattle.layout.specs.Knowledge.{Limits, anyId}
-use Rattle.layout.specs.Parse.{checkedBy}
-use Rattle.replication.specs.OpenStore.{knowledgeLength, storeCount, storeKnowledge}
-use Rattle.replication.specs.OpenBatch.{neededLength, learnedLength, batchCount, batchNeeded, batchLearned}
-use Rattle.replication.specs.MethodOpening.{isStore, isBatch}
+use Rattle.layout.specs.Permitted.{Permitted}
+use Rattle.layout.specs.Decode.{decode}
+use Rattle.layout.specs.Parse.{checkedBy, parse}
+use Rattle.ticks.specs.Written.{isNormal}
+use Rattle.ticks.specs.Calls.{readAs}
+use Rattle.replication.specs.OpenStore.{knowledgeLength, storeCount, storeKnowledge, storeTable}
+use Rattle.replication.specs.OpenBatch.{firstId, lastId, neededLength, learnedLength, batchCount, batchNeeded, batchLearned, batchTable}
+use Rattle.replication.specs.MethodRecords.{shapedAt}
+use Rattle.replication.specs.MethodOpening.{isAccepted, isStore, isBatch}
 use Rattle.lookup.specs.declared.Cursor.{Cursor}
 use Rattle.lookup.specs.declared.Opened.{Opened}
 use Rattle.lookup.specs.declared.Opened.the-variants as O
@@ -16,10 +23,28 @@ use Rattle.stores.specs.declared.OpenedStore.{OpenedStore}
 use Rattle.stores.specs.declared.OpenedStore.the-variants as S
 use Rattle.stores.specs.declared.OpenedBatch.{OpenedBatch}
 use Rattle.stores.specs.declared.OpenedBatch.the-variants as B
+use Rattle.stores.specs.declared.Sizes.{Sizes}
+use Rattle.stores.specs.declared.Sizes.the-variants as Z
 
 -- a knowledge of n bytes
 abbrev pub knowledgePart : ℕ → ℕ → Cursor → KnowledgePart
 knowledgePart n r c = record { length = n; r = r; start = c }
+
+-- bytes that the check accepts with these sizes, in normal form
+pub record NormalOf (L : Limits) (k : List ℕ) (r v e g : ℕ) : Type 0 where
+  pub permitted : Permitted L
+  pub bytes : Bytes k
+  pub accepts : checkedBy (anyId L) k ≡ A.Accepted r v e g
+  pub normal : isNormal (decode k) ≡ true
+
+-- bytes that the check does not accept, or that are not in normal form
+abbrev pub NotNormal : Limits → List ℕ → Type 0
+NotNormal L k = isAccepted (parse (anyId L) k) ≡ true → isNormal (readAs (parse (anyId L) k)) ≡ true → ⊥
+
+-- what the check of a knowledge and of its normal form came to
+pub record SizesOf (L : Limits) (k : List ℕ) (z : Sizes) : Type 0 where
+  pub normal : (r v e g : ℕ) → z ≡ Z.Normal r v e g → NormalOf L k r v e g
+  pub other : z ≡ Z.Other → NotNormal L k
 
 -- ---- stores
 
@@ -38,6 +63,15 @@ storeIf false x = S.NotValid
 
 unfoldable pub storeOpened : Limits → List ℕ → OpenedStore
 storeOpened L s = storeIf (isStore L s) (storeFrom s (openOf (checkedBy (anyId L) (ownPart s))))
+
+-- the tests before the knowledge hold, but for the limit of records; k is the knowledge's bytes, and n the count of records
+pub record StoreHeader (s k : List ℕ) (n : ℕ) : Type 0 where
+  pub header : storeKnowledge ≤ length s
+  pub kind : beAt s 1 0 ≡ 3
+  pub inside : storeTable s ≤ length s
+  pub ordered : shapedAt s 0 (storeCount s) (storeTable s) ≡ true
+  pub part : k ≡ ownPart s
+  pub count : n ≡ storeCount s
 
 -- ---- batches
 
@@ -61,3 +95,14 @@ unfoldable pub batchOpened : Limits → List ℕ → OpenedBatch
 batchOpened L s =
     batchIf (isBatch L s)
     (batchFrom s (openOf (checkedBy (anyId L) (neededPart s))) (openOf (checkedBy (anyId L) (learnedPart s))))
+
+-- the same for a batch: k and l are the bytes of the needed and of the learned knowledge
+pub record BatchHeader (s k l : List ℕ) (n : ℕ) : Type 0 where
+  pub header : batchNeeded ≤ length s
+  pub kind : beAt s 1 0 ≡ 4
+  pub inside : batchTable s ≤ length s
+  pub span : firstId s ≤ lastId s
+  pub ordered : shapedAt s 0 (batchCount s) (batchTable s) ≡ true
+  pub needed : k ≡ neededPart s
+  pub learned : l ≡ learnedPart s
+  pub count : n ≡ batchCount s

@@ -4,7 +4,7 @@
 use Prim.Native.Nat.{ℕ, suc, _+_, _-_, _≤_, _<_}
 use mathlib.Core.Path.{_≡_, refl, sym, ap, _∙_, subst}
 use mathlib.Core.Bool.{Bool, true, false, not}
-use mathlib.Core.List.{List}
+use mathlib.Core.List.{List, _∷_}
 use native.Mathlib.Omega.{arith}
 use lib.ListN.{length}
 use borrow.Author.Tests.{leb-true}
@@ -79,24 +79,35 @@ module _ (s k : List ℕ) (r n at : ℕ) (c : Cursor) (f : Follows s k r n at c)
 
 -- ---- a property of each record
 
-pub each-starts : (P : Rec → Bool) (s : List ℕ) (n at : ℕ) → each P (recordsAt s n at) ≡ each P (recordsAt s n at)
-each-starts P s n at = refl
+-- the answer for n records from a place on is the answer for those that are left, which the cursor follows
+pub record Passes (P : Rec → Bool) (s k : List ℕ) (r n at left p : ℕ) (c : Cursor) : Type 0 where
+  pub is : each P (recordsAt s n at) ≡ each P (recordsAt s left p)
+  pub follows : Follows s k r left p c
 
-module _ (P : Rec → Bool) (s : List ℕ) (whole : Bool) (n at : ℕ) (inv : whole ≡ each P (recordsAt s n at)) where
-  pub each-ends : n ≤ 0 → true ≡ whole
-  each-ends l =
-      let z : n ≡ 0 = omega arith in
-      sym (inv ∙ ap (λ m. each P (recordsAt s m at)) z ∙ ap (each P) (records-nil s at) ∙ each-nil P)
+pub passes-start : (P : Rec → Bool) (s k : List ℕ) (r n at : ℕ) (c : Cursor) → shapedAt s 0 n at ≡ true → Open k r c
+    → Passes P s k r n at n at c
+passes-start P s k r n at c h o = record { is = refl; follows = follows-start s k r n at c o h }
 
-  module _ (some : 0 < n) where
-    one : whole ≡ each P (recordsAt s (suc (n - 1)) at)
-    one = let z : n ≡ suc (n - 1) = omega arith in inv ∙ ap (λ m. each P (recordsAt s m at)) z
+module _ (P : Rec → Bool) (s k : List ℕ) (r n at left p : ℕ) (c : Cursor) (inv : Passes P s k r n at left p c) where
+  pub passes-end : left ≤ 0 → true ≡ each P (recordsAt s n at)
+  passes-end l =
+      let z : left ≡ 0 = omega arith in
+      sym (inv .is ∙ ap (λ m. each P (recordsAt s m p)) z ∙ ap (each P) (records-nil s p) ∙ each-nil P)
 
-    pub each-fails : P (recAt s at) ≡ false → false ≡ whole
-    each-fails e =
-        sym (one ∙ ap (each P) (records-cons s (n - 1) at) ∙ each-stop P (recAt s at) (recordsAt s (n - 1) (behind s at)) e)
+  module _ (some : 0 < left) where
+    one : each P (recordsAt s n at) ≡ each P (recAt s p ∷ recordsAt s (left - 1) (behind s p))
+    one =
+        let z : left ≡ suc (left - 1) = omega arith in
+        inv .is ∙ ap (λ m. each P (recordsAt s m p)) z ∙ ap (each P) (records-cons s (left - 1) p)
 
-    pub each-next : P (recAt s at) ≡ true → (next : ℕ) → next ≡ behind s at → whole ≡ each P (recordsAt s (n - 1) next)
-    each-next e next f =
-        one ∙ ap (each P) (records-cons s (n - 1) at) ∙ each-on P (recAt s at) (recordsAt s (n - 1) (behind s at)) e
-        ∙ ap (λ p. each P (recordsAt s (n - 1) p)) (sym f)
+    pub passes-stop : false ≡ P (recAt s p) → false ≡ each P (recordsAt s n at)
+    passes-stop e = sym (one ∙ each-stop P (recAt s p) (recordsAt s (left - 1) (behind s p)) (sym e))
+
+    pub passes-on : (d : Cursor) → d ≡ movedTo s p k r c → true ≡ P (recAt s p) → (next : ℕ) → next ≡ behind s p
+        → Passes P s k r n at (left - 1) next d
+    passes-on d e f next g = record {
+      is =
+          one ∙ each-on P (recAt s p) (recordsAt s (left - 1) (behind s p)) (sym f)
+          ∙ ap (λ q. each P (recordsAt s (left - 1) q)) (sym g);
+      follows = follows-next s k r left p c (inv .follows) some d e next g;
+    }

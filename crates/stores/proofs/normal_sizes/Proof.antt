@@ -1,0 +1,76 @@
+-- `stores::normal_sizes` meets its contract, in each of the check's answers. The sizes of accepted bytes fit four bytes.
+use native.Mathlib.Omega.{arith}
+use Rattle.normal.proofs.Calls.{sizes}
+use Rattle.stores.proofs.Normality.{sizes-refused, sizes-normal, sizes-other}
+use borrow.Author.Needs.{needs}
+use Rattle.stores.proofs.normal_sizes.Statement.{statement}
+use Rattle.stores.proofs.normal_sizes.Tie as tie
+
+check-within-requires : tie.Need-check-within-requires
+check-within-requires c κs = tt
+
+enum-known-r : tie.Need-enum-known-r
+enum-known-r c = search needs
+
+enum-told : tie.Need-enum-told
+enum-told c = search needs
+
+returns : tie.Need-returns
+returns c = sizes-refused _ _ _ _ (c .before .before .check-within .ensures) _ (c .enum-told .given .1)
+
+cast-r : tie.Need-cast-r
+cast-r c = omega (
+  arith,
+  sizes _ _ _ _ (c .before .before .before .check-within .ensures) _ _ _ _ (record { below = λ i. omega (arith, c .before .before .before .before .shared-slice-known .given i) })
+      (c .before .r .given .1),
+)
+
+cast-v : tie.Need-cast-v
+cast-v c = omega (
+  arith,
+  sizes _ _ _ _ (c .before .before .before .check-within .ensures) _ _ _ _ (record { below = λ i. omega (arith, c .before .before .before .before .shared-slice-known .given i) })
+      (c .before .r .given .1),
+)
+
+cast-e : tie.Need-cast-e
+cast-e c = omega (
+  arith,
+  sizes _ _ _ _ (c .before .before .before .check-within .ensures) _ _ _ _ (record { below = λ i. omega (arith, c .before .before .before .before .shared-slice-known .given i) })
+      (c .before .r .given .1),
+)
+
+cast-g : tie.Need-cast-g
+cast-g c = omega (
+  arith,
+  sizes _ _ _ _ (c .before .before .before .check-within .ensures) _ _ _ _ (record { below = λ i. omega (arith, c .before .before .before .before .shared-slice-known .given i) })
+      (c .before .r .given .1),
+)
+
+normal-in-requires : tie.Need-normal-in-requires
+normal-in-requires c κs = tt
+
+returns-2 : tie.Need-returns-2
+returns-2 c = λ n.
+    sizes-normal _ _ _ _ (c .before .before .before .before .before .check-within .ensures) _ _ _ _ (record { below = λ i. omega (arith, c .before .before .before .before .before .before .shared-slice-known .given i) })
+    (c .before .before .before .r .given .1) _ (c .before .normal-in .ensures) n (c .if1 .taken)
+
+returns-3 : tie.Need-returns-3
+returns-3 c = λ n.
+    sizes-other _ _ _ _ (c .before .before .before .before .before .check-within .ensures) _ _ _ _ (record { below = λ i. omega (arith, c .before .before .before .before .before .before .shared-slice-known .given i) })
+    (c .before .before .before .r .given .1) _ (c .before .normal-in .ensures) n (c .if1 .left)
+
+pub normal-sizes-spec : {M : Type 1} → statement M
+normal-sizes-spec =
+    tie.close
+    (tie.spec
+    check-within-requires
+    enum-known-r
+    enum-told
+    returns
+    cast-r
+    cast-v
+    cast-e
+    cast-g
+    normal-in-requires
+    returns-2
+    returns-3)
