@@ -26,7 +26,7 @@ use Rattle.stores.specs.declared.OpenedBatch.the-variants as B
 use Rattle.stores.specs.Method.{storeOpened, batchOpened}
 use Rattle.stores.proofs.Opened.{StoreOpen, BatchOpen, store-open, store-closed, batch-open, batch-closed}
 use Rattle.queries.specs.Method.{Inside}
-use Rattle.queries.proofs.Winner.{inside-refused, inside-store, inside-batch}
+use Rattle.queries.proofs.Winning.{inside-refused, inside-store, inside-batch}
 
 -- ---- learned
 
@@ -51,8 +51,8 @@ pub learned-base : (t : List ℕ) (p : Part) → p ≡ learnedPart (within (base
     → p ≡ learnedPart base t
 learned-base t p e = e ∙ ap (λ (L : Limits). learnedPart L t) base-within
 
-pub learned-inside : (L : Limits) (t : List ℕ) → Inside (learnedPart L t) t t
-learned-inside L t = go (openBatch L t) refl
+pub learned-inside : (L : Limits) (t : List ℕ) (p : Part) → p ≡ learnedPart L t → Inside p t t
+learned-inside L t p is = subst (λ (q : Part). Inside q t t) (sym is) (go (openBatch L t) refl)
   where
     go : (o : Parsed Batch) → openBatch L t ≡ o → Inside (learnedPart L t) t t
     go (refused n) e = subst (λ (q : Part). Inside q t t) (sym (learned-batch L t n e .is)) (inside-refused t t n)
@@ -76,8 +76,8 @@ pub knowledge-base : (s : List ℕ) (p : Part) → p ≡ knowledgePart (within (
     → p ≡ knowledgePart base s
 knowledge-base s p e = e ∙ ap (λ (L : Limits). knowledgePart L s) base-within
 
-pub knowledge-inside : (L : Limits) (s : List ℕ) → Inside (knowledgePart L s) s s
-knowledge-inside L s = go (openStore L s) refl
+pub knowledge-inside : (L : Limits) (s : List ℕ) (p : Part) → p ≡ knowledgePart L s → Inside p s s
+knowledge-inside L s p is = subst (λ (q : Part). Inside q s s) (sym is) (go (openStore L s) refl)
   where
     go : (o : Parsed Store) → openStore L s ≡ o → Inside (knowledgePart L s) s s
     go (refused n) e = subst (λ (q : Part). Inside q s s) (sym (knowledge-store L s n e .is)) (inside-refused s s n)

@@ -1,5 +1,5 @@
 -- The laws of the calls that write nothing.
 pub mod Parts
-pub mod Winner
+pub mod Winning
 pub mod Handed
-pub mod Coverage
+pub mod Counting

@@ -1,6 +1,6 @@
 -- The part that is handed out, for each answer: its bytes, its place in the lent slices, and the number beside it.
 use Prim.Native.Nat.{ℕ, _+_, _-_, _≤_}
-use mathlib.Core.Path.{_≡_, refl, sym, ap, ap₂, _∙_}
+use mathlib.Core.Path.{_≡_, sym, ap, subst, _∙_}
 use mathlib.Core.List.{List, []}
 use native.Mathlib.Omega.{arith}
 use lib.ListN.{length, take, drop}
@@ -11,7 +11,7 @@ use Rattle.replication.specs.Queries.{partBytes, partNumber}
 use Rattle.queries.specs.Lent.{PartOf}
 
 -- what `part_of` ensures
-abbrev Handed : Part → RefT (List ℕ) → RefT (List ℕ) → RefT (List ℕ) → ℕ → Type 0
+abbrev pub Handed : Part → RefT (List ℕ) → RefT (List ℕ) → RefT (List ℕ) → ℕ → Type 0
 Handed p s t r number = (now r ≡ partBytes p (now s) (now t)) × (PartOf p s t r × (number ≡ partNumber p))
 
 -- a slice from a place on for so many bytes
@@ -75,3 +75,7 @@ module _ (p : Part) (s t r : RefT (List ℕ)) where
         sym (ap partNumber e),
       ),
     )
+
+-- what is handed out for an answer, by what the answer is
+pub handed-as : (p q : Part) → p ≡ q → (s t r : RefT (List ℕ)) (number : ℕ) → Handed p s t r number → Handed q s t r number
+handed-as p q e s t r number h = subst (λ (x : Part). Handed x s t r number) e h

@@ -139,3 +139,84 @@ fn thousandths(contained: u32, all: u32) -> usize
     }
     1000 * (contained as usize) / (all as usize)
 }
+
+// Coverage with limits of the caller's.
+fn coverage_within(
+    store: &[u8],
+    knowledge: &[u8],
+    replicas: u32,
+    ranges: u32,
+    records: u32,
+) -> Coverage
+    ensures { λ a. ⌜ a ≡ coverageAnswer (anyId (within replicas ranges records)) (now (store .entry)) (now (knowledge .entry)) ⌝ }
+{
+    let OpenedStore::Valid { own, count } = stores::open_store(
+        &store[..],
+        replicas,
+        ranges,
+        records,
+    ) else {
+        return Coverage::Refused(15);
+    };
+    match lookup::open_within(&knowledge[..], replicas, ranges) {
+        Opened::At { r, start } => {
+            let n = count_in(
+                store,
+                count,
+                STORE_KNOWLEDGE + own.length,
+                knowledge,
+                r,
+                start,
+            );
+            Coverage::Covered {
+                contained: n as usize,
+                all: count as usize,
+                thousandths: thousandths(n, count),
+            }
+        }
+        Opened::Refused(n) => Coverage::Refused(n),
+    }
+}
+
+// How many of a store's records have a change version that the knowledge contains, how many records there are, and the first
+// as thousandths of the second.
+pub fn coverage(store: &[u8], knowledge: &[u8]) -> Coverage
+    ensures { λ a. ⌜ a ≡ coverageAnswer basic (now (store .entry)) (now (knowledge .entry)) ⌝ }
+{
+    coverage_within(
+        store,
+        knowledge,
+        layout::REPLICAS,
+        layout::RANGES,
+        layout::RECORDS,
+    )
+}
+
+// ---- a store's own knowledge
+
+// The part of a store's bytes that is its own knowledge, with limits of the caller's.
+fn knowledge_within(store: &[u8], replicas: u32, ranges: u32, records: u32) -> Part
+    ensures { λ p. ⌜ p ≡ knowledgePart (within replicas ranges records) (now (store .entry)) ⌝ }
+{
+    match stores::open_store(&store[..], replicas, ranges, records) {
+        OpenedStore::Valid { own, count: _ } => Part::OfStore(STORE_KNOWLEDGE, own.length),
+        OpenedStore::NotValid => Part::Refused(15),
+    }
+}
+
+// Where a store's own knowledge stands.
+pub fn knowledge_part(store: &[u8]) -> Part
+    ensures { λ p. ⌜ p ≡ knowledgePart base (now (store .entry)) ⌝ }
+{
+    knowledge_within(store, layout::REPLICAS, layout::RANGES, layout::RECORDS)
+}
+
+// A store's own knowledge, as a part of the store, and the number beside it: 0, or the refusal's, and then the part is empty.
+pub fn own_knowledge<'a>(store: &'a [u8], number: &mut u32) -> &'a [u8]
+    ensures part { λ r. ⌜ now r ≡ partBytes (knowledgePart base (now (store .entry))) (now (store .entry)) (now (store .entry)) ⌝ }
+    ensures place { λ r. ⌜ PartOf (knowledgePart base (now (store .entry))) (store .entry) (store .entry) r ⌝ }
+    ensures number { λ _. ⌜ now (number .exit) ≡ partNumber (knowledgePart base (now (store .entry))) ⌝ }
+{
+    let p = knowledge_part(store);
+    part_of(p, store, store, number)
+}

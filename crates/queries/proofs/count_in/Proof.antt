@@ -7,7 +7,7 @@ use Rattle.layout.specs.Decode.{decode}
 use Rattle.replication.specs.Queries.{countIn}
 use Rattle.replication.specs.MethodRecords.{recordsAt}
 use Rattle.versions.proofs.Passing.{Follows, follows-start, follows-next}
-use Rattle.queries.proofs.Coverage.{count-ends, count-next}
+use Rattle.queries.proofs.Counting.{count-ends, count-next}
 use Rattle.queries.proofs.count_in.Statement.{statement}
 use Rattle.queries.proofs.count_in.Tie as tie
 use Rattle.queries.proofs.counted.Reads as counted-reads

@@ -1,5 +1,5 @@
 -- `queries::counted` meets its contract, in both cases of the test.
-use Rattle.queries.proofs.Coverage.{tally-yes, tally-no}
+use Rattle.queries.proofs.Counting.{tally-yes, tally-no}
 use borrow.Author.Needs.{needs}
 use Rattle.queries.proofs.counted.Statement.{statement}
 use Rattle.queries.proofs.counted.Tie as tie

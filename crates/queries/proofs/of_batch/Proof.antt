@@ -1,5 +1,5 @@
 -- `queries::of_batch` meets its contract: the length comes from the kind.
-use Rattle.queries.proofs.Winner.{batch-record}
+use Rattle.queries.proofs.Winning.{batch-record}
 use borrow.Author.Needs.{needs}
 use Rattle.queries.proofs.of_batch.Statement.{statement}
 use Rattle.queries.proofs.of_batch.Tie as tie

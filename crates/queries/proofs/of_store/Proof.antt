@@ -1,5 +1,5 @@
 -- `queries::of_store` meets its contract: the length comes from the kind.
-use Rattle.queries.proofs.Winner.{store-record}
+use Rattle.queries.proofs.Winning.{store-record}
 use borrow.Author.Needs.{needs}
 use Rattle.queries.proofs.of_store.Statement.{statement}
 use Rattle.queries.proofs.of_store.Tie as tie

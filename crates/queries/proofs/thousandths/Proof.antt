@@ -1,5 +1,5 @@
 -- `queries::thousandths` meets its contract, with records and without.
-use Rattle.queries.proofs.Coverage.{rate-none, rate-some}
+use Rattle.queries.proofs.Counting.{rate-none, rate-some}
 use borrow.Author.Needs.{needs}
 use Rattle.queries.proofs.thousandths.Statement.{statement}
 use Rattle.queries.proofs.thousandths.Tie as tie

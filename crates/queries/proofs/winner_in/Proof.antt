@@ -1,5 +1,5 @@
 -- `queries::winner_in` meets its contract, in each of the ways that the two searches go.
-use Rattle.queries.proofs.Winner.{winner-nobody, winner-theirs, winner-mine, winner-wins, winner-stays}
+use Rattle.queries.proofs.Winning.{winner-nobody, winner-theirs, winner-mine, winner-wins, winner-stays}
 use borrow.Author.Needs.{needs}
 use Rattle.queries.proofs.winner_in.Statement.{statement}
 use Rattle.queries.proofs.winner_in.Tie as tie

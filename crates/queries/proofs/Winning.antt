@@ -213,8 +213,9 @@ module _ (s t : List ℕ) where
     inside-as : (p : Part) → winnerPart L s t item ≡ p → Inside p s t → Inside (winnerPart L s t item) s t
     inside-as p e h = subst (λ (q : Part). Inside q s t) (sym e) h
 
-    pub winner-inside : Inside (winnerPart L s t item) s t
-    winner-inside = go (openStore L s) refl (openBatch L t) refl (eqb (length item) 24) refl
+    pub winner-inside : (p : Part) → p ≡ winnerPart L s t item → Inside p s t
+    winner-inside p is =
+        subst (λ (q : Part). Inside q s t) (sym is) (go (openStore L s) refl (openBatch L t) refl (eqb (length item) 24) refl)
       where
         go : (o : Parsed Store) → openStore L s ≡ o → (q : Parsed Batch) → openBatch L t ≡ q → (w : Bool) → eqb (length item) 24 ≡ w
             → Inside (winnerPart L s t item) s t
