@@ -2,3 +2,5 @@
 pub mod Opened
 pub mod Normality
 pub mod Store
+pub mod Carried
+pub mod Batch

@@ -1,12 +1,12 @@
 -- The check of a knowledge and of its normal form. Accepted bytes are read as what they decode to, and there the test by places is
 -- the test of normal form (`normal-by-places`); refused bytes are not read. From sizes in normal form lookup goes on (`normal-open`).
-use Prim.Native.Nat.{ℕ, _≤_}
-use mathlib.Core.Path.{_≡_, refl, sym, ap, _∙_}
+use Prim.Native.Nat.{ℕ}
+use mathlib.Core.Path.{_≡_, sym, ap, _∙_}
 use mathlib.Core.Bool.{Bool, true, false}
 use mathlib.Core.List.{List}
 use native.Mathlib.Omega.{arith}
+use lib.ListN.{length}
 use Rattle.codec.specs.Number.{Bytes}
-use Rattle.codec.specs.Parsed.{accepted}
 use Rattle.codec.specs.Total.{brought}
 use Rattle.codec.proofs.Total.{brought-within}
 use Rattle.layout.specs.declared.Checked.{Checked}
@@ -26,9 +26,10 @@ use Rattle.lookup.specs.declared.Cursor.{Cursor}
 use Rattle.lookup.specs.Method.{startAt, Opens, Open}
 use Rattle.normal.specs.MethodNormal.{normalIn}
 use Rattle.normal.proofs.ByPlaces.{within-roomy, normal-by-places}
+use Rattle.stores.specs.declared.KnowledgePart.{KnowledgePart}
 use Rattle.stores.specs.declared.Sizes.{Sizes}
 use Rattle.stores.specs.declared.Sizes.the-variants as Z
-use Rattle.stores.specs.Method.{NormalOf, NotNormal, SizesOf}
+use Rattle.stores.specs.Method.{knowledgePart, NormalOf, NotNormal, SizesOf, PartOf}
 
 sizes-are : (L : Limits) (k : List ℕ) (r v e g : ℕ) → NormalOf L k r v e g → SizesOf L k (Z.Normal r v e g)
 sizes-are L k r v e g q = record {
@@ -78,6 +79,14 @@ module _ (a b : ℕ) (k : List ℕ) where
               brought-within a largestReplicas (omega arith) .1,
             );
       }
+
+  pub part-of : (z : Sizes) → ((n : ℕ) → SizesOf (within a b n) k z) → (r v e g : ℕ) → z ≡ Z.Normal r v e g → (c : Cursor)
+      → c ≡ startAt r v e g → (size : ℕ) → size ≡ length k → PartOf a b k (knowledgePart size r c)
+  part-of z f r v e g h c is size l =
+      record { v = v; e = e; g = g; normal = λ n. f n .normal r v e g h; length = l; start = is }
+
+  pub part-opens : (p : KnowledgePart) → PartOf a b k p → Open k (p .r) (p .start)
+  part-opens p o = normal-open 0 (p .r) (o .v) (o .e) (o .g) (o .normal 0) (p .start) (o .start)
 
   module _ (c : Checked) (is : c ≡ checked (brought a largestReplicas) (brought b largestRanges) (basic .judge) k) where
     pub sizes-refused : (m : ℕ) → c ≡ A.Refused m → (n : ℕ) → SizesOf (within a b n) k Z.Other

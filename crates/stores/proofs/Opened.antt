@@ -1,25 +1,23 @@
--- What the answers of the check mean, for callers. An answer `Valid` holds what a caller goes on from (`store-open`, `batch-open`): the tests
--- of opening, the value at its places, and each knowledge opened for lookup. An answer `NotValid` is the refusal (`store-closed`,
+-- What the answers of the check mean, for callers. An answer `Valid` holds what a caller goes on from (`store-open`, `batch-open`): the
+-- tests of opening, the value at its places, and each knowledge opened for lookup. An answer `NotValid` is the refusal (`store-closed`,
 -- `batch-closed`). The check of a knowledge that was accepted gave sizes, so the answers cannot be mixed up.
-use Prim.Native.Nat.{ℕ, _+_, _≤_}
-use mathlib.Core.Path.{_≡_, refl, sym, ap, ap₂, _∙_, subst}
+use Prim.Native.Nat.{ℕ, _≤_}
+use mathlib.Core.Path.{_≡_, refl, sym, ap, _∙_, subst}
 use mathlib.Core.Bool.{Bool, true, false}
 use mathlib.Core.List.{List}
 use native.Mathlib.Omega.{arith}
 use lib.ListN.{length, take, drop}
 use Rattle.codec.specs.Number.{Bytes}
-use Rattle.codec.specs.Parsed.{Parsed, accepted, refused}
-use Rattle.codec.specs.Total.{brought}
+use Rattle.codec.specs.Parsed.{accepted, refused}
 use Rattle.codec.proofs.Total.{brought-within}
-use Rattle.layout.specs.declared.Checked.{Checked}
-use Rattle.layout.specs.Knowledge.{Limits, anyId, Knowledge}
-use Rattle.layout.specs.Permitted.{Permitted, largestReplicas, within}
+use Rattle.layout.specs.Knowledge.{Limits, anyId}
+use Rattle.layout.specs.Permitted.{largestReplicas, within}
 use Rattle.layout.specs.Decode.{decode}
 use Rattle.layout.specs.Parse.{checkedBy, parse}
-use Rattle.layout.proofs.Places.{Reading, places}
+use Rattle.layout.proofs.Places.{places}
 use Rattle.layout.proofs.Within.{within-permitted}
-use Rattle.ticks.proofs.ForCode.{Refusing, refusing}
-use Rattle.replication.specs.OpenStore.{ownId, knowledgeLength, storeCount, storeKnowledge, openStore}
+use Rattle.ticks.proofs.ForCode.{refusing}
+use Rattle.replication.specs.OpenStore.{knowledgeLength, storeCount, storeKnowledge, openStore}
 use Rattle.replication.specs.OpenBatch.{firstId, lastId, neededLength, learnedLength, batchCount, batchNeeded, batchLearned, openBatch}
 use Rattle.replication.specs.MethodOpening.{isAccepted, storeAt, isStore, batchAt, isBatch}
 use Rattle.replication.proofs.PartBytes.{part-bytes}
@@ -112,7 +110,8 @@ module _ (a b m : ℕ) (s : List ℕ) where
         let part = ownPart s in
         let g = sym (from-at s r c) ∙ f in
         let is : knowledgePart (knowledgeLength s) r c ≡ k = cc in
-        let p = subst (PartOpen L part) is (opened-part a b m part (part-bytes s (knowledgeLength s) storeKnowledge bytes) (knowledgeLength s) r c e) in
+        let part-is = part-bytes s (knowledgeLength s) storeKnowledge bytes in
+        let p = subst (PartOpen L part) is (opened-part a b m part part-is (knowledgeLength s) r c e) in
         let o = p .opens in
         record {
           tests = store-tests-hold L s t;

@@ -1,12 +1,11 @@
 -- What `open_store` and the function below it return, one law for each way that they go. The tests are made one after the other; where one
 -- fails there is no valid store (`no-store`), and where all hold the answer has the sizes that the check of the knowledge gave.
 use Prim.Native.Nat.{ℕ, _+_, _-_, _≤_, _<_}
-use mathlib.Core.Path.{_≡_, refl, sym, ap, ap₂, _∙_}
+use mathlib.Core.Path.{_≡_, sym, ap, ap₂, _∙_}
 use mathlib.Core.Bool.{Bool, true, false}
 use mathlib.Core.List.{List}
 use native.Mathlib.Omega.{arith}
 use lib.ListN.{length, take, drop}
-use Rattle.codec.specs.Number.{Bytes, beAt}
 use Rattle.codec.specs.Total.{readAt, brought}
 use Rattle.codec.specs.Words.{words2}
 use Rattle.codec.specs.Parsed.{Parsed}
@@ -22,7 +21,7 @@ use Rattle.ticks.specs.Calls.{readAs}
 use Rattle.replication.specs.Record.{Rec}
 use Rattle.replication.specs.OpenStore.{ownId, knowledgeLength, storeCount, storeKnowledge, storeTable, versionsIn}
 use Rattle.replication.specs.MethodRecords.{recordsAt, shapedAt, each}
-use Rattle.replication.specs.MethodOpening.{isAccepted, storeRead, isStore}
+use Rattle.replication.specs.MethodOpening.{isAccepted, storeRead}
 use Rattle.replication.proofs.PartBytes.{part-length}
 use Rattle.replication.proofs.OpeningStore.{StoreTests, tests-store, no-store}
 use Rattle.lookup.specs.declared.Cursor.{Cursor}

@@ -5,7 +5,7 @@ use Rattle.codec.specs.Prelude.{ℕ, _≤_, _≡_, Bool, true, false, List, len
 use Rattle.codec.specs.Number.{Bytes, beAt}
 use Rattle.layout.specs.declared.Checked.the-variants as A
 use Rattle.layout.specs.Knowledge.{Limits, anyId}
-use Rattle.layout.specs.Permitted.{Permitted}
+use Rattle.layout.specs.Permitted.{Permitted, within}
 use Rattle.layout.specs.Decode.{decode}
 use Rattle.layout.specs.Parse.{checkedBy, parse}
 use Rattle.ticks.specs.Written.{isNormal}
@@ -17,7 +17,7 @@ use Rattle.replication.specs.MethodOpening.{isAccepted, isStore, isBatch}
 use Rattle.lookup.specs.declared.Cursor.{Cursor}
 use Rattle.lookup.specs.declared.Opened.{Opened}
 use Rattle.lookup.specs.declared.Opened.the-variants as O
-use Rattle.lookup.specs.Method.{openOf}
+use Rattle.lookup.specs.Method.{startAt, openOf}
 use Rattle.stores.specs.declared.KnowledgePart.{KnowledgePart}
 use Rattle.stores.specs.declared.OpenedStore.{OpenedStore}
 use Rattle.stores.specs.declared.OpenedStore.the-variants as S
@@ -45,6 +45,15 @@ NotNormal L k = isAccepted (parse (anyId L) k) ≡ true → isNormal (readAs (pa
 pub record SizesOf (L : Limits) (k : List ℕ) (z : Sizes) : Type 0 where
   pub normal : (r v e g : ℕ) → z ≡ Z.Normal r v e g → NormalOf L k r v e g
   pub other : z ≡ Z.Other → NotNormal L k
+
+-- a knowledge in normal form with its length, count of replicas and start, by whichever limit of records
+pub record PartOf (replicas ranges : ℕ) (k : List ℕ) (p : KnowledgePart) : Type 0 where
+  pub v : ℕ
+  pub e : ℕ
+  pub g : ℕ
+  pub normal : (n : ℕ) → NormalOf (within replicas ranges n) k (p .r) v e g
+  pub length : p .length ≡ length k
+  pub start : p .start ≡ startAt (p .r) v e g
 
 -- ---- stores
 
@@ -98,6 +107,7 @@ batchOpened L s =
 
 -- the same for a batch: k and l are the bytes of the needed and of the learned knowledge
 pub record BatchHeader (s k l : List ℕ) (n : ℕ) : Type 0 where
+  pub bytes : Bytes s
   pub header : batchNeeded ≤ length s
   pub kind : beAt s 1 0 ≡ 4
   pub inside : batchTable s ≤ length s

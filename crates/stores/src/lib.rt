@@ -4,16 +4,23 @@
 // functions go on from, so that nothing is checked again.
 use layout::Checked;
 use lookup::Cursor;
+use records::ItemWords;
 ghost use mathlib.Core.Path.{_≡_};
 ghost use mathlib.Core.Bool.{true};
-ghost use Prim.Native.Nat.{ℕ, _≤_};
+ghost use Prim.Native.Nat.{ℕ, _+_, _≤_};
+ghost use lib.Dec.{ltb};
+ghost use lib.ListN.{length};
+ghost use Rattle.codec.specs.Number.{beAt};
 ghost use Rattle.codec.specs.Total.{brought};
+ghost use Rattle.codec.specs.Words.{words3};
 ghost use Rattle.layout.specs.Permitted.{largestRecords, within};
 ghost use Rattle.layout.specs.Decode.{decode};
 ghost use Rattle.replication.specs.OpenStore.{versionsIn};
+ghost use Rattle.replication.specs.OpenBatch.{firstId, lastId, batchNeeded, lacksChange};
 ghost use Rattle.replication.specs.MethodRecords.{recordsAt, shapedAt, each};
 ghost use Rattle.lookup.specs.Method.{Open};
-ghost use Rattle.stores.specs.Method.{SizesOf, StoreHeader, storeOpened};
+ghost use Rattle.ranges.specs.Method.{insideOf};
+ghost use Rattle.stores.specs.Method.{SizesOf, StoreHeader, storeOpened, PartOf, BatchHeader, batchOpened};
 
 // the places of a store's own id, of the knowledge's length, of the count of records, and of the knowledge
 const OWN: usize = 1;
@@ -23,6 +30,19 @@ const OWN_LENGTH: usize = 17;
 const STORE_COUNT: usize = 21;
 
 const STORE_KNOWLEDGE: usize = 25;
+
+// the places of a batch's first and last id, of the lengths of its knowledges, of the count of records, and of the needed knowledge
+const FIRST: usize = 1;
+
+const LAST: usize = 25;
+
+const NEEDED_LENGTH: usize = 49;
+
+const LEARNED_LENGTH: usize = 53;
+
+const BATCH_COUNT: usize = 57;
+
+const BATCH_NEEDED: usize = 61;
 
 // A knowledge inside a store or batch: the length of its bytes, the count of its replicas, and the cursor before any of its ranges.
 pub struct KnowledgePart {
@@ -94,6 +114,25 @@ fn each_contained(s: &[u8], n: u32, at: usize, k: &[u8], r: u32, start: Cursor) 
     true
 }
 
+// Does a knowledge lack the change version of each of the n records from a place on.
+fn each_lacking(s: &[u8], n: u32, at: usize, k: &[u8], r: u32, start: Cursor) -> bool
+    requires { ⌜ (shapedAt (now s) 0 n at ≡ true) × (Open (now k) r start) ⌝ }
+    ensures { λ b. ⌜ b ≡ each (lacksChange (decode (now (k .entry)))) (recordsAt (now (s .entry)) n at) ⌝ }
+{
+    let mut c = start;
+    let mut left = n;
+    let mut p = at;
+    while 0 < left {
+        c = versions::move_to(s, p, k, r, c);
+        if versions::change_in(s, p, k, r, c.vector) {
+            return false;
+        }
+        p = records::behind(s, p);
+        left -= 1;
+    }
+    true
+}
+
 // ---- stores
 
 // The check of a store from its knowledge k on, with the count of records.
@@ -142,6 +181,127 @@ pub fn open_store(s: &[u8], replicas: u32, ranges: u32, records: u32) -> OpenedS
     store_from(
         s,
         &s[STORE_KNOWLEDGE..STORE_KNOWLEDGE + n],
+        count,
+        replicas,
+        ranges,
+    )
+}
+
+// ---- batches
+
+// The words of the item id at a place.
+fn item_id(s: &[u8], at: usize) -> ItemWords
+    requires { ⌜ at + 24 ≤ length (now s) ⌝ }
+    ensures { λ r. ⌜ words3 (r .high) (r .middle) (r .low) ≡ beAt (now (s .entry)) 24 at ⌝ }
+{
+    let high = codec::read8(s, at);
+    let middle = codec::read8(s, at + 8);
+    let low = codec::read8(s, at + 16);
+    ItemWords { high, middle, low }
+}
+
+// Is a batch's last id below its first.
+fn span_falls(s: &[u8]) -> bool
+    requires { ⌜ batchNeeded ≤ length (now s) ⌝ }
+    ensures { λ b. ⌜ b ≡ ltb (lastId (now (s .entry))) (firstId (now (s .entry))) ⌝ }
+{
+    let f = item_id(s, FIRST);
+    let l = item_id(s, LAST);
+    codec::less3(l.high, l.middle, l.low, f.high, f.middle, f.low)
+}
+
+// Do the ranges of a knowledge, but for those of vector 0, lie inside a batch's span.
+fn inside_span(s: &[u8], k: &[u8], start: Cursor) -> bool
+    requires { ⌜ batchNeeded ≤ length (now s) ⌝ }
+    ensures { λ b. ⌜ b ≡ insideOf (now (k .entry)) start (firstId (now (s .entry))) (lastId (now (s .entry))) ⌝ }
+{
+    let f = item_id(s, FIRST);
+    let l = item_id(s, LAST);
+    ranges::inside(k, start, f.high, f.middle, f.low, l.high, l.middle, l.low)
+}
+
+// The check of a batch from its learned knowledge l on, with the needed knowledge k and its sizes, and the count of records. A record
+// whose change version is contained in learned has its item inside the span, as learned has.
+fn batch_learned(
+    s: &[u8],
+    k: &[u8],
+    needed: KnowledgePart,
+    l: &[u8],
+    count: u32,
+    replicas: u32,
+    ranges: u32,
+) -> OpenedBatch
+    requires { ⌜ (BatchHeader (now s) (now k) (now l) count) × (PartOf replicas ranges (now k) needed) ⌝ }
+    ensures { λ o. ⌜ ((m : ℕ) → count ≤ brought m largestRecords → o ≡ batchOpened (within replicas ranges m) (now (s .entry))) ⌝ }
+{
+    let Sizes::Normal { r, v, e, g } = normal_sizes(l, replicas, ranges) else {
+        return OpenedBatch::NotValid;
+    };
+    let start = lookup::start(r, v, e, g);
+    if inside_span(s, l, start) {} else {
+        return OpenedBatch::NotValid;
+    }
+    let at = BATCH_NEEDED + k.len() + l.len();
+    if each_contained(s, count, at, l, r, start) {} else {
+        return OpenedBatch::NotValid;
+    }
+    if each_lacking(s, count, at, k, needed.r, needed.start) {} else {
+        return OpenedBatch::NotValid;
+    }
+    let length = l.len();
+    let learned = KnowledgePart { length, r, start };
+    OpenedBatch::Valid {
+        needed,
+        learned,
+        count,
+    }
+}
+
+// The check of a batch from its needed knowledge k on, with the learned knowledge l and the count of records.
+fn batch_needed(s: &[u8], k: &[u8], l: &[u8], count: u32, replicas: u32, ranges: u32) -> OpenedBatch
+    requires { ⌜ BatchHeader (now s) (now k) (now l) count ⌝ }
+    ensures { λ o. ⌜ ((m : ℕ) → count ≤ brought m largestRecords → o ≡ batchOpened (within replicas ranges m) (now (s .entry))) ⌝ }
+{
+    let Sizes::Normal { r, v, e, g } = normal_sizes(k, replicas, ranges) else {
+        return OpenedBatch::NotValid;
+    };
+    let length = k.len();
+    let start = lookup::start(r, v, e, g);
+    let needed = KnowledgePart { length, r, start };
+    batch_learned(s, k, needed, l, count, replicas, ranges)
+}
+
+// Checks a batch, with the most replicas, ranges and records, each brought into 1 to its largest.
+pub fn open_batch(s: &[u8], replicas: u32, ranges: u32, records: u32) -> OpenedBatch
+    ensures { λ o. ⌜ o ≡ batchOpened (within replicas ranges records) (now (s .entry)) ⌝ }
+{
+    if s.len() < BATCH_NEEDED {
+        return OpenedBatch::NotValid;
+    }
+    if codec::read1(s, 0) != 4 {
+        return OpenedBatch::NotValid;
+    }
+    let n = codec::read4(s, NEEDED_LENGTH) as usize;
+    let m = codec::read4(s, LEARNED_LENGTH) as usize;
+    if s.len() - BATCH_NEEDED < n + m {
+        return OpenedBatch::NotValid;
+    }
+    let count = codec::read4(s, BATCH_COUNT) as u32;
+    if codec::brought(records, layout::LARGEST_RECORDS) < count {
+        return OpenedBatch::NotValid;
+    }
+    if span_falls(s) {
+        return OpenedBatch::NotValid;
+    }
+    let learned = BATCH_NEEDED + n;
+    let table = learned + m;
+    if records::shaped(s, count, table) {} else {
+        return OpenedBatch::NotValid;
+    }
+    batch_needed(
+        s,
+        &s[BATCH_NEEDED..learned],
+        &s[learned..table],
         count,
         replicas,
         ranges,

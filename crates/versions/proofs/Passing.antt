@@ -1,25 +1,24 @@
 -- A pass over rising records with a cursor that is moved on from record to record. While records are left, the cursor has passed just the
 -- ranges below the next item (`Follows`): so at the start, and again after each record. What holds of each record of a table holds of the
 -- first and of each of the rest: the answer for the whole table is the answer for what is left.
-use Prim.Native.Nat.{ℕ, suc, _+_, _-_, _≤_, _<_}
+use Prim.Native.Nat.{ℕ, suc, _-_, _≤_, _<_}
 use mathlib.Core.Path.{_≡_, refl, sym, ap, _∙_, subst}
 use mathlib.Core.Bool.{Bool, true, false, not}
 use mathlib.Core.List.{List, _∷_}
 use native.Mathlib.Omega.{arith}
-use lib.ListN.{length}
 use borrow.Author.Tests.{leb-true}
 use Rattle.layout.specs.Knowledge.{Rules}
 use Rattle.layout.specs.Decode.{decode}
 use Rattle.ticks.specs.Meaning.{contains}
 use Rattle.replication.specs.Record.{Rec}
-use Rattle.replication.specs.Reading.{behind, recAt, both, validRec}
+use Rattle.replication.specs.Reading.{behind, recAt}
 use Rattle.replication.specs.MethodRecords.{recordsAt, shapedAt, each, WholeAt}
 use Rattle.replication.specs.OpenStore.{versionsIn}
 use Rattle.replication.specs.OpenBatch.{lacksChange}
 use Rattle.replication.proofs.RecordsInBytes.{whole-at, each-nil, each-on, each-stop, records-nil, records-cons}
 use Rattle.replication.proofs.OpeningTables.{OrderedMore, ordered-parts}
 use Rattle.lookup.specs.declared.Cursor.{Cursor}
-use Rattle.lookup.specs.Method.{Opens, Open}
+use Rattle.lookup.specs.Method.{Open}
 use Rattle.lookup.proofs.Leaf.{Stands, stands-start}
 use Rattle.versions.specs.Method.{movedTo, changeIn, bothIn}
 use Rattle.versions.proofs.Versions.{SomeTicks, valid-ticks, moved-stands, change-in, both-in}
@@ -73,9 +72,15 @@ module _ (s k : List ℕ) (r n at : ℕ) (c : Cursor) (f : Follows s k r n at c)
     follows-both b e = e ∙ both-in (f .rules) k r d s at follows-whole follows-stands follows-ticks
 
     -- a change version that is contained is not lacking
-    pub follows-lacks : (b : Bool) → b ≡ changeIn s at k r (d .vector) → not b ≡ lacksChange (decode k) (recAt s at)
+    follows-not : (b : Bool) → b ≡ changeIn s at k r (d .vector) → not b ≡ lacksChange (decode k) (recAt s at)
     unfolding lacksChange
-    follows-lacks b e = ap not (follows-change b e)
+    follows-not b e = ap not (follows-change b e)
+
+    pub follows-has : (b : Bool) → b ≡ changeIn s at k r (d .vector) → b ≡ true → false ≡ lacksChange (decode k) (recAt s at)
+    follows-has b e u = sym (ap not u) ∙ follows-not b e
+
+    pub follows-lacks : (b : Bool) → b ≡ changeIn s at k r (d .vector) → b ≡ false → true ≡ lacksChange (decode k) (recAt s at)
+    follows-lacks b e u = sym (ap not u) ∙ follows-not b e
 
 -- ---- a property of each record
 

@@ -14,16 +14,15 @@ use Rattle.codec.specs.Total.{readAt}
 use Rattle.codec.specs.Words.{words2, words3}
 use Rattle.codec.proofs.Total.{read-there}
 use Rattle.layout.specs.declared.ReplicaKey.{ReplicaKey}
-use Rattle.layout.specs.Knowledge.{Rules, Knowledge, largestTick}
+use Rattle.layout.specs.Knowledge.{Rules, Knowledge}
 use Rattle.layout.specs.Decode.{decode}
 use Rattle.ticks.specs.Meaning.{known, contains}
 use Rattle.ticks.proofs.Algebra.{contains-yes, contains-more}
 use Rattle.replication.specs.Record.{Rec}
 use Rattle.replication.specs.Reading.{itemPlace, changeReplicaPlace, changeTickPlace, createReplicaPlace, createTickPlace}
-use Rattle.replication.specs.Reading.{recAt, both, tagKept, validRec}
+use Rattle.replication.specs.Reading.{recAt, both, validRec}
 use Rattle.replication.specs.MethodRecords.{WholeAt}
 use Rattle.replication.specs.OpenStore.{versionsIn}
-use Rattle.replication.specs.OpenBatch.{lacksChange}
 use Rattle.replication.proofs.Tables.{both-parts}
 use Rattle.lookup.specs.declared.Cursor.{Cursor}
 use Rattle.lookup.specs.Method.{keyAt, advanced, tickOf}

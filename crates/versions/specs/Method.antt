@@ -1,5 +1,5 @@
--- A record, at a place of some bytes, asked of the knowledge in other bytes, by places and for any bytes: nothing here is to be believed. The
--- laws show that for a valid record and accepted bytes this says whether the knowledge contains the record's versions.
+-- A record, at a place of some bytes, asked of the knowledge in other bytes, by places and for any bytes: nothing here is to be
+-- believed. The laws show that for a valid record and accepted bytes this says whether the knowledge contains the record's versions.
 use Rattle.codec.specs.Prelude.{ℕ, _+_, Bool, List, leb}
 use Rattle.codec.specs.Total.{readAt}
 use Rattle.replication.specs.Reading.{itemPlace, changeReplicaPlace, changeTickPlace, createReplicaPlace, createTickPlace, both}

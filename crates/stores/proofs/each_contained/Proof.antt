@@ -12,6 +12,8 @@ use Rattle.stores.proofs.each_contained.Tie as tie
 
 -- has come to the last record's item.
 
+-- has come to the last record's item.
+
 abbrev Inv-loop : tie.InvT-loop
 Inv-loop s n at k r c₀ left₀ p₀ c left p = Passes (versionsIn (decode k)) s k r n at left p c
 
@@ -30,7 +32,9 @@ both-in-requires c κs = tt
 returns : tie.Need-returns Inv-loop μ-loop
 returns c = let i = c .before .before .before .before .loop .inv in
     passes-stop _ _ _ _ _ _ _ _ _ i (c .before .before .before .loop-test .taken)
-    (sym (c .if1 .left) ∙ follows-both _ _ _ _ _ _ (i .follows) (c .before .before .before .loop-test .taken) _ (c .before .before .move-to .ensures) _ (c .before .both-in .ensures))
+    (sym (c .if1 .left) ∙ follows-both _ _ _ _ _ _ (i .follows) (c .before .before .before .loop-test .taken) _
+    (c .before .before .move-to .ensures) _
+    (c .before .both-in .ensures))
 
 behind-requires : tie.Need-behind-requires Inv-loop μ-loop
 behind-requires c κs = tt
@@ -42,9 +46,14 @@ loop-less : tie.Need-loop-less Inv-loop μ-loop
 loop-less c = omega arith
 
 loop-again : tie.Need-loop-again Inv-loop μ-loop
-loop-again c = let i = c .before .before .before .before .before .loop .inv in
-    passes-on _ _ _ _ _ _ _ _ _ i (c .before .before .before .before .loop-test .taken) _ (c .before .before .before .move-to .ensures)
-    (sym (c .before .if1 .taken) ∙ follows-both _ _ _ _ _ _ (i .follows) (c .before .before .before .before .loop-test .taken) _ (c .before .before .before .move-to .ensures) _ (c .before .before .both-in .ensures))
+loop-again c =
+    let c5 = c .before .before .before .before .before in
+    let i = c5 .loop .inv in
+    passes-on _ _ _ _ _ _ _ _ _ i (c .before .before .before .before .loop-test .taken) _
+    (c .before .before .before .move-to .ensures)
+    (sym (c .before .if1 .taken) ∙ follows-both _ _ _ _ _ _ (i .follows) (c .before .before .before .before .loop-test .taken) _
+    (c .before .before .before .move-to .ensures) _
+    (c .before .before .both-in .ensures))
     _ (c .behind .ensures)
 
 returns-2 : tie.Need-returns-2 Inv-loop μ-loop

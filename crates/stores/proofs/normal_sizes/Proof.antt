@@ -21,28 +21,32 @@ returns c = sizes-refused _ _ _ _ (c .before .before .check-within .ensures) _ (
 cast-r : tie.Need-cast-r
 cast-r c = omega (
   arith,
-  sizes _ _ _ _ (c .before .before .before .check-within .ensures) _ _ _ _ (record { below = λ i. omega (arith, c .before .before .before .before .shared-slice-known .given i) })
+  sizes _ _ _ _ (c .before .before .before .check-within .ensures) _ _ _ _
+      (record { below = λ i. omega (arith, c .before .before .before .before .shared-slice-known .given i) })
       (c .before .r .given .1),
 )
 
 cast-v : tie.Need-cast-v
 cast-v c = omega (
   arith,
-  sizes _ _ _ _ (c .before .before .before .check-within .ensures) _ _ _ _ (record { below = λ i. omega (arith, c .before .before .before .before .shared-slice-known .given i) })
+  sizes _ _ _ _ (c .before .before .before .check-within .ensures) _ _ _ _
+      (record { below = λ i. omega (arith, c .before .before .before .before .shared-slice-known .given i) })
       (c .before .r .given .1),
 )
 
 cast-e : tie.Need-cast-e
 cast-e c = omega (
   arith,
-  sizes _ _ _ _ (c .before .before .before .check-within .ensures) _ _ _ _ (record { below = λ i. omega (arith, c .before .before .before .before .shared-slice-known .given i) })
+  sizes _ _ _ _ (c .before .before .before .check-within .ensures) _ _ _ _
+      (record { below = λ i. omega (arith, c .before .before .before .before .shared-slice-known .given i) })
       (c .before .r .given .1),
 )
 
 cast-g : tie.Need-cast-g
 cast-g c = omega (
   arith,
-  sizes _ _ _ _ (c .before .before .before .check-within .ensures) _ _ _ _ (record { below = λ i. omega (arith, c .before .before .before .before .shared-slice-known .given i) })
+  sizes _ _ _ _ (c .before .before .before .check-within .ensures) _ _ _ _
+      (record { below = λ i. omega (arith, c .before .before .before .before .shared-slice-known .given i) })
       (c .before .r .given .1),
 )
 
@@ -50,13 +54,23 @@ normal-in-requires : tie.Need-normal-in-requires
 normal-in-requires c κs = tt
 
 returns-2 : tie.Need-returns-2
-returns-2 c = λ n.
-    sizes-normal _ _ _ _ (c .before .before .before .before .before .check-within .ensures) _ _ _ _ (record { below = λ i. omega (arith, c .before .before .before .before .before .before .shared-slice-known .given i) })
+returns-2 c =
+    let c5 = c .before .before .before .before .before in
+    λ n.
+    sizes-normal _ _ _ _ (c5 .check-within .ensures) _ _ _ _ (record {
+      below = λ i. omega
+          (arith, c5 .before .shared-slice-known .given i);
+    })
     (c .before .before .before .r .given .1) _ (c .before .normal-in .ensures) n (c .if1 .taken)
 
 returns-3 : tie.Need-returns-3
-returns-3 c = λ n.
-    sizes-other _ _ _ _ (c .before .before .before .before .before .check-within .ensures) _ _ _ _ (record { below = λ i. omega (arith, c .before .before .before .before .before .before .shared-slice-known .given i) })
+returns-3 c =
+    let c5 = c .before .before .before .before .before in
+    λ n.
+    sizes-other _ _ _ _ (c5 .check-within .ensures) _ _ _ _ (record {
+      below = λ i. omega
+          (arith, c5 .before .shared-slice-known .given i);
+    })
     (c .before .before .before .r .given .1) _ (c .before .normal-in .ensures) n (c .if1 .left)
 
 pub normal-sizes-spec : {M : Type 1} → statement M

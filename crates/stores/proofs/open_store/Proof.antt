@@ -32,7 +32,9 @@ brought-requires : tie.Need-brought-requires
 brought-requires c κs = tt
 
 returns-4 : tie.Need-returns-4
-returns-4 c = store-many _ (omega arith) _ (c .before .before .before .before .read4 .ensures .0) _ (c .before .before .read42 .ensures .0) _ _ (c .before .brought .ensures) (c .if4 .taken)
+returns-4 c =
+    store-many _ (omega arith) _ (c .before .before .before .before .read4 .ensures .0) _ (c .before .before .read42 .ensures .0) _
+    _ (c .before .brought .ensures) (c .if4 .taken)
 
 add-shaped : tie.Need-add-shaped
 add-shaped c = omega arith
@@ -41,7 +43,10 @@ shaped-requires : tie.Need-shaped-requires
 shaped-requires c κs = tt
 
 returns-5 : tie.Need-returns-5
-returns-5 c = store-unshaped _ (omega arith) _ (c .before .before .before .before .before .before .read4 .ensures .0) _ (c .before .before .before .before .read42 .ensures .0) _ (c .before .shaped .ensures) _ (c .if5 .left)
+returns-5 c =
+    let c5 = c .before .before .before .before .before in
+    store-unshaped _ (omega arith) _ (c5 .before .read4 .ensures .0) _ (c .before .before .before .before .read42 .ensures .0) _
+    (c .before .shaped .ensures) _ (c .if5 .left)
 
 add-store-from : tie.Need-add-store-from
 add-store-from c = omega arith
@@ -56,11 +61,18 @@ part-store-from-end : tie.Need-part-store-from-end
 part-store-from-end c = omega arith
 
 store-from-requires : tie.Need-store-from-requires
-store-from-requires c κs = store-header _ (omega arith) _ (c .before .before .before .before .before .before .before .read4 .ensures .0) _ (c .before .before .before .before .before .read42 .ensures .0) _ (c .before .before .shaped .ensures) _
-    (c .before .before .before .before .before .before .before .before .before .read1 .ensures .0) (c .before .before .before .before .before .before .before .before .if2 .left) (omega arith) (c .before .if5 .taken)
+store-from-requires c κs =
+    let c5 = c .before .before .before .before .before in
+    store-header _ (omega arith) _ (c5 .before .before .read4 .ensures .0) _ (c5 .read42 .ensures .0) _
+    (c .before .before .shaped .ensures) _
+    (c5 .before .before .before .before .read1 .ensures .0) (c5 .before .before .before .if2 .left) (omega arith)
+    (c .before .if5 .taken)
 
 returns-6 : tie.Need-returns-6
-returns-6 c = c .store-from .ensures (c .before .before .before .before .before .before .before .before .before .before .before .before .before .args .records) (omega (arith, c .before .before .before .before .before .brought .ensures))
+returns-6 c =
+    let c5 = c .before .before .before .before .before in
+    let c10 = c5 .before .before .before .before .before in
+    c .store-from .ensures (c10 .before .before .before .args .records) (omega (arith, c5 .brought .ensures))
 
 pub open-store-spec : {M : Type 1} → statement M
 open-store-spec =

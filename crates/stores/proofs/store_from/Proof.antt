@@ -1,5 +1,4 @@
 -- `stores::store_from` meets its contract: one test after the other, and then the sizes.
-use native.Mathlib.Omega.{arith}
 use Rattle.stores.proofs.Normality.{normal-open}
 use Rattle.stores.proofs.Store.{store-other, store-ordered, store-unlike, store-lacks, store-valid}
 use borrow.Author.Needs.{needs}
@@ -16,7 +15,9 @@ enum-told : tie.Need-enum-told
 enum-told c = search needs
 
 returns : tie.Need-returns
-returns c = λ m few. store-other _ _ m _ _ _ (c .before .before .before .before .before .pre) few _ (c .before .before .normal-sizes .ensures m) (c .enum-told .given .1)
+returns c =
+    let c5 = c .before .before .before .before .before in
+    λ m few. store-other _ _ m _ _ _ (c5 .pre) few _ (c .before .before .normal-sizes .ensures m) (c .enum-told .given .1)
 
 read8-requires : tie.Need-read8-requires
 read8-requires c κs = tt
@@ -31,9 +32,14 @@ own-alike-requires : tie.Need-own-alike-requires
 own-alike-requires c κs = tt
 
 returns-2 : tie.Need-returns-2
-returns-2 c = λ m few.
-    store-unlike _ _ m _ _ _ (c .before .before .before .before .before .before .before .before .before .before .pre) few _ _ _ _ (c .before .before .before .before .before .before .before .normal-sizes .ensures m .normal _ _ _ _ (c .before .before .before .before .before .r .given .1)) _ _
-    (c .before .before .before .read8 .ensures .0) (c .before .before .read82 .ensures .0) _ (c .before .own-alike .ensures) (c .if1 .left)
+returns-2 c =
+    let c5 = c .before .before .before .before .before in
+    let c10 = c5 .before .before .before .before .before in
+    λ m few.
+    store-unlike _ _ m _ _ _ (c10 .pre) few _ _ _ _ (c5 .before .before .normal-sizes .ensures m .normal _ _ _ _ (c5 .r .given .1))
+    _ _
+    (c .before .before .before .read8 .ensures .0) (c .before .before .read82 .ensures .0) _ (c .before .own-alike .ensures)
+    (c .if1 .left)
 
 start-requires : tie.Need-start-requires
 start-requires c κs = tt
@@ -42,21 +48,35 @@ add-each-contained : tie.Need-add-each-contained
 add-each-contained c = search needs
 
 each-contained-requires : tie.Need-each-contained-requires
-each-contained-requires c κs = let a = c .before .before .before .before .before .before .before .before .before .before .before .args in (
-  store-ordered _ _ _ (c .before .before .before .before .before .before .before .before .before .before .before .pre),
-  normal-open (a .replicas) (a .ranges) _ 0 _ _ _ _ (c .before .before .before .before .before .before .before .before .normal-sizes .ensures 0 .normal _ _ _ _ (c .before .before .before .before .before .before .r .given .1)) _ (c .start .ensures),
-)
+each-contained-requires c κs =
+    let c5 = c .before .before .before .before .before in
+    let c10 = c5 .before .before .before .before .before in
+    let a = c10 .before .args in (
+      store-ordered _ _ _ (c10 .before .pre),
+      normal-open (a .replicas) (a .ranges) _ 0 _ _ _ _ (c5 .before .before .before .normal-sizes .ensures 0 .normal _ _ _ _
+          (c5 .before .r .given .1)) _ (c .start .ensures),
+    )
 
 returns-3 : tie.Need-returns-3
-returns-3 c = λ m few.
-    store-lacks _ _ m _ _ _ (c .before .before .before .before .before .before .before .before .before .before .before .before .before .pre) few _ _ _ _ (c .before .before .before .before .before .before .before .before .before .before .normal-sizes .ensures m .normal _ _ _ _ (c .before .before .before .before .before .before .before .before .r .given .1)) _ _
-    (c .before .before .before .before .before .before .read8 .ensures .0) (c .before .before .before .before .before .read82 .ensures .0) _ (c .before .before .before .before .own-alike .ensures) (c .before .before .before .if1 .taken) _ (c .before .each-contained .ensures)
+returns-3 c =
+    let c5 = c .before .before .before .before .before in
+    let c10 = c5 .before .before .before .before .before in
+    λ m few.
+    store-lacks _ _ m _ _ _ (c10 .before .before .before .pre) few _ _ _ _
+    (c10 .normal-sizes .ensures m .normal _ _ _ _ (c5 .before .before .before .r .given .1)) _ _
+    (c5 .before .read8 .ensures .0) (c5 .read82 .ensures .0) _ (c .before .before .before .before .own-alike .ensures)
+    (c .before .before .before .if1 .taken) _ (c .before .each-contained .ensures)
     (c .if2 .left)
 
 returns-4 : tie.Need-returns-4
-returns-4 c = λ m few.
-    store-valid _ _ m _ _ _ (c .before .before .before .before .before .before .before .before .before .before .before .before .before .pre) few _ _ _ _ (c .before .before .before .before .before .before .before .before .before .before .normal-sizes .ensures m .normal _ _ _ _ (c .before .before .before .before .before .before .before .before .r .given .1)) _ _
-    (c .before .before .before .before .before .before .read8 .ensures .0) (c .before .before .before .before .before .read82 .ensures .0) _ (c .before .before .before .before .own-alike .ensures) (c .before .before .before .if1 .taken) _ (c .before .each-contained .ensures)
+returns-4 c =
+    let c5 = c .before .before .before .before .before in
+    let c10 = c5 .before .before .before .before .before in
+    λ m few.
+    store-valid _ _ m _ _ _ (c10 .before .before .before .pre) few _ _ _ _
+    (c10 .normal-sizes .ensures m .normal _ _ _ _ (c5 .before .before .before .r .given .1)) _ _
+    (c5 .before .read8 .ensures .0) (c5 .read82 .ensures .0) _ (c .before .before .before .before .own-alike .ensures)
+    (c .before .before .before .if1 .taken) _ (c .before .each-contained .ensures)
     (c .if2 .taken) _ (c .before .before .start .ensures)
 
 pub store-from-spec : {M : Type 1} → statement M

@@ -16,7 +16,8 @@ tick-in-requires c κs = tt
 
 returns : tie.Need-returns
 returns c = let a = c .before .before .before .before .before .args in
-    version-in-is _ _ _ _ (a .at + changeReplicaPlace) (a .at + changeTickPlace) _ _ _ _ (c .before .before .change-replica .ensures)
+    version-in-is _ _ _ _ (a .at + changeReplicaPlace) (a .at + changeTickPlace) _ _ _ _
+    (c .before .before .change-replica .ensures)
     (c .before .change-tick .ensures) (c .tick-in .ensures)
 
 pub change-in-spec : {M : Type 1} → statement M

@@ -16,7 +16,8 @@ tick-in-requires c κs = tt
 
 returns : tie.Need-returns
 returns c = let a = c .before .before .before .before .before .args in
-    version-in-is _ _ _ _ (a .at + createReplicaPlace) (a .at + createTickPlace) _ _ _ _ (c .before .before .create-replica .ensures)
+    version-in-is _ _ _ _ (a .at + createReplicaPlace) (a .at + createTickPlace) _ _ _ _
+    (c .before .before .create-replica .ensures)
     (c .before .create-tick .ensures) (c .tick-in .ensures)
 
 pub create-in-spec : {M : Type 1} → statement M
