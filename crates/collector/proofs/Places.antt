@@ -1,5 +1,5 @@
--- What the calls that return a part, and coverage, leave behind their pointers, for each answer: the values that the definitions name, and on a
--- refusal those that were there.
+-- What the calls that return a part, and coverage, leave behind their pointers, for each answer: the values that the definitions name, and
+-- on a refusal those that were there.
 use Prim.Native.Nat.{ℕ}
 use mathlib.Core.Path.{_≡_, refl, sym, subst}
 use Rattle.replication.specs.declared.Part.{Part}
@@ -38,7 +38,8 @@ told-place p q e r at size at₀ size₀ h i j =
     subst (λ (x : Part). (r ≡ partNumber x) × ((at ≡ partAtPlace x at₀) × (size ≡ partLength x size₀))) e (h, (i, j))
 
 -- and where it is
-pub told-as : (p q : Part) → p ≡ q → (r side at size side₀ at₀ size₀ : ℕ) → Told p r side at size side₀ at₀ size₀ → Told q r side at size side₀ at₀ size₀
+pub told-as : (p q : Part) → p ≡ q → (r side at size side₀ at₀ size₀ : ℕ) → Told p r side at size side₀ at₀ size₀
+    → Told q r side at size side₀ at₀ size₀
 told-as p q e r side at size side₀ at₀ size₀ h = subst (λ (x : Part). Told x r side at size side₀ at₀ size₀) e h
 
 abbrev pub Covers : Coverage → ℕ → ℕ → ℕ → ℕ → ℕ → ℕ → ℕ → Type 0

@@ -1,5 +1,5 @@
--- What `sync_walk` tells is what a walker over the lent table gives: at a place where the length is not 0 the next part is that long and stands
--- there, and the rest is what is given from the place behind it; where the length is 0 nothing follows.
+-- What `sync_walk` tells is what a walker over the lent table gives: at a place where the length is not 0 the next part is that long and
+-- stands there, and the rest is what is given from the place behind it; where the length is 0 nothing follows.
 use Prim.Native.Nat.{ℕ, _+_, _≤_, _<_}
 use mathlib.Core.Path.{_≡_, refl, sym, ap, ap₂, _∙_, subst}
 use mathlib.Core.Bool.{true, false}
@@ -22,7 +22,8 @@ module _ (s : List ℕ) (at n : ℕ) (e : n ≡ lengthAt s at) where
       let w = length-stands s at n e z in
       let k = whole-exact s at .0 w in
       walk-step s at (subst KnownKind (be-one s at) (k .0)) (k .1)
-      ∙ ap₂ {C = List (List ℕ)} (λ (m p : ℕ). take m (drop at s) ∷ toGive s p) (sym (e ∙ length-whole s at w)) (sym (length-behind s at n e z))
+      ∙ ap₂ {C = List (List ℕ)} (λ (m p : ℕ). take m (drop at s) ∷ toGive s p) (sym (e ∙ length-whole s at w))
+      (sym (length-behind s at n e z))
 
   pub walk-ends : n ≡ 0 → toGive s at ≡ []
   walk-ends z = walk-end s at missing

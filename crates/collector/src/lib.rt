@@ -16,7 +16,7 @@ ghost use Rattle.ticks.specs.Calls.{containNumber, containValue, containAnswer,
 ghost use Rattle.ticks.specs.Calls.{coverNumber, coverValue, coverAnswer};
 ghost use Rattle.ticks.specs.Calls.{normaliseReply, mergeReply, projectReply};
 ghost use Rattle.layout.specs.Permitted.{base};
-ghost use Rattle.replication.specs.Queries.{partNumber, partSide, partAtPlace, partLength, knowledgePart};
+ghost use Rattle.replication.specs.Queries.{partNumber, partSide, partAtPlace, partLength, winnerPart, learnedPart, knowledgePart};
 ghost use Rattle.replication.specs.Queries.{coverageNumber, coverageContained, coverageAll, coverageThousandths, coverageAnswer};
 ghost use Rattle.records.specs.Method.{lengthAt};
 
@@ -214,6 +214,41 @@ fn told(p: Part, side: &mut u32, at: &mut u64, length: &mut u64) -> u32
         }
         Part::Refused(k) => k,
     }
+}
+
+// Where the winner of an item stands: the side (0 none, 1 the store's, 2 the batch's), the place and the length; or the refusal's
+// number, and then nothing changes.
+#[no_mangle]
+pub extern "C" fn sync_winner(
+    store: &[u8],
+    batch: &[u8],
+    item: &[u8],
+    side: &mut u32,
+    at: &mut u64,
+    length: &mut u64,
+) -> u32
+    ensures number { λ r. ⌜ r ≡ partNumber (winnerPart base (now (store .entry)) (now (batch .entry)) (now (item .entry))) ⌝ }
+    ensures side { λ _. ⌜ now (side .exit) ≡ partSide
+        (winnerPart base (now (store .entry)) (now (batch .entry)) (now (item .entry))) (now (side .entry)) ⌝ }
+    ensures place { λ _. ⌜ now (at .exit) ≡ partAtPlace
+        (winnerPart base (now (store .entry)) (now (batch .entry)) (now (item .entry))) (now (at .entry)) ⌝ }
+    ensures size { λ _. ⌜ now (length .exit) ≡ partLength
+        (winnerPart base (now (store .entry)) (now (batch .entry)) (now (item .entry))) (now (length .entry)) ⌝ }
+{
+    let p = queries::winner_part(store, batch, item);
+    told(p, side, at, length)
+}
+
+// Where a batch's learned knowledge stands, and its length; or the refusal's number, and then nothing changes.
+#[no_mangle]
+pub extern "C" fn sync_learned(batch: &[u8], at: &mut u64, length: &mut u64) -> u32
+    ensures number { λ r. ⌜ r ≡ partNumber (learnedPart base (now (batch .entry))) ⌝ }
+    ensures place { λ _. ⌜ now (at .exit) ≡ partAtPlace (learnedPart base (now (batch .entry))) (now (at .entry)) ⌝ }
+    ensures size { λ _. ⌜ now (length .exit) ≡ partLength (learnedPart base (now (batch .entry))) (now (length .entry)) ⌝ }
+{
+    let p = queries::learned_part(batch);
+    let mut side: u32 = 0;
+    told(p, &mut side, at, length)
 }
 
 // Where a store's own knowledge stands, and its length; or the refusal's number, and then nothing changes.

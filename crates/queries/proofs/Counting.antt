@@ -1,6 +1,6 @@
--- Coverage. The records that are contained are those counted so far and those among the records that are left; each record counts 1 where the
--- knowledge contains its change version. The rounding is one division. For a store that opens and a knowledge that is accepted,
--- these are the numbers of the answer; else it is the store's number, and then the knowledge's.
+-- Coverage. The records that are contained are those counted so far and those among the records that are left; each record counts 1
+-- where the knowledge contains its change version. The rounding is one division. For a store that opens and a knowledge that is
+-- accepted, these are the numbers of the answer; else it is the store's number, and then the knowledge's.
 use Prim.Native.Nat.{ℕ, suc, _+_, _-_, _*_, _/_, _≤_, _<_}
 use mathlib.Core.Path.{_≡_, refl, sym, ap, ap₂, _∙_}
 use mathlib.Core.Bool.{Bool, true, false}
@@ -57,7 +57,8 @@ module _ (b c : Bool) (e : b ≡ c) where
 
 -- ---- all records
 
-module _ (s k : List ℕ) (n at m left p : ℕ) (inv : countIn (decode k) (recordsAt s n at) ≡ m + countIn (decode k) (recordsAt s left p)) where
+module _ (s k : List ℕ) (n at m left p : ℕ)
+    (inv : countIn (decode k) (recordsAt s n at) ≡ m + countIn (decode k) (recordsAt s left p)) where
   pub count-ends : left ≤ 0 → m ≡ countIn (decode k) (recordsAt s n at)
   count-ends l =
       let z : left ≡ 0 = omega arith in
@@ -144,6 +145,6 @@ module _ (a b n : ℕ) (s t : List ℕ) (r : OpenedStore) (e : r ≡ storeOpened
             inside m (i ∙ ap (countIn (decode t)) (sym rs)) all)
 
 -- document 01's rules
-pub coverage-basic : (s t : List ℕ) (x : Coverage) → x ≡ coverageAnswer (anyId (within (base .replicas) (base .ranges) (base .records))) s t
-    → x ≡ coverageAnswer basic s t
+pub coverage-basic : (s t : List ℕ) (x : Coverage)
+    → x ≡ coverageAnswer (anyId (within (base .replicas) (base .ranges) (base .records))) s t → x ≡ coverageAnswer basic s t
 coverage-basic s t x e = e ∙ ap (λ (L : Limits). coverageAnswer (anyId L) s t) base-within

@@ -1,4 +1,5 @@
--- The part that is handed out, for each answer: its bytes, its place in the lent slices, and the number beside it.
+-- The part that is handed out, for each answer: its bytes, its place in the lent slices, and the number beside it. A slice from a place on
+-- points that far into the slice that it was taken of.
 use Prim.Native.Nat.{ℕ, _+_, _-_, _≤_}
 use mathlib.Core.Path.{_≡_, sym, ap, subst, _∙_}
 use mathlib.Core.List.{List, []}
@@ -46,7 +47,8 @@ module _ (p : Part) (s t r : RefT (List ℕ)) where
   )
 
   module _ (at n : ℕ) where
-    pub hands-store : p ≡ P.OfStore at n → now r ≡ take (at + n - at) (drop at (now s)) → ptr r ≡ (ptr s .0, at + ptr s .1) → Handed p s t r 0
+    pub hands-store : p ≡ P.OfStore at n → now r ≡ take (at + n - at) (drop at (now s)) → ptr r ≡ (ptr s .0, at + ptr s .1)
+        → Handed p s t r 0
     unfolding partBytes partNumber
     hands-store e b h = (
       b ∙ taken (now s) at n ∙ sym (ap (λ (q : Part). partBytes q (now s) (now t)) e),
@@ -61,7 +63,8 @@ module _ (p : Part) (s t r : RefT (List ℕ)) where
       ),
     )
 
-    pub hands-batch : p ≡ P.OfBatch at n → now r ≡ take (at + n - at) (drop at (now t)) → ptr r ≡ (ptr t .0, at + ptr t .1) → Handed p s t r 0
+    pub hands-batch : p ≡ P.OfBatch at n → now r ≡ take (at + n - at) (drop at (now t)) → ptr r ≡ (ptr t .0, at + ptr t .1)
+        → Handed p s t r 0
     unfolding partBytes partNumber
     hands-batch e b h = (
       b ∙ taken (now t) at n ∙ sym (ap (λ (q : Part). partBytes q (now s) (now t)) e),

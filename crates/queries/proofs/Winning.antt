@@ -1,6 +1,6 @@
 -- The winner, one law for each way that the search goes. What is found on each side is the place of the item's record there, a whole
 -- one; so which of two wins is asked of records that are all there, and the part, which is as long as its kind says, is inside.
-use Prim.Native.Nat.{ℕ, _+_, _≤_}
+use Prim.Native.Nat.{ℕ, _+_, _^_, _≤_, _<_}
 use mathlib.Core.Path.{_≡_, refl, sym, ap, ap₂, _∙_, subst}
 use mathlib.Core.Bool.{Bool, true, false}
 use mathlib.Core.List.{List}
@@ -13,6 +13,7 @@ use Rattle.codec.specs.Number.{Bytes, beAt}
 use Rattle.codec.specs.Parsed.{Parsed, accepted, refused}
 use Rattle.codec.specs.Total.{readAt}
 use Rattle.codec.specs.Words.{words3}
+use Rattle.codec.proofs.Numbers.{be-below}
 use Rattle.codec.proofs.Total.{read-id3}
 use Rattle.layout.specs.Knowledge.{Limits}
 use Rattle.layout.specs.Permitted.{base, within}
@@ -59,7 +60,8 @@ module _ (s : List ℕ) (at kind n : ℕ) (e : kind ≡ readAt s 1 at) (f : n �
 
 -- ---- by what was found on each side
 
-module _ (s t : List ℕ) (i x y : ℕ) (m n : Found) (e : foundPlace m ≡ placeOf s i (places s x)) (f : foundPlace n ≡ placeOf t i (places t y)) where
+module _ (s t : List ℕ) (i x y : ℕ) (m n : Found) (e : foundPlace m ≡ placeOf s i (places s x))
+    (f : foundPlace n ≡ placeOf t i (places t y)) where
   -- the winner, among the records from x on in s and from y on in t
   abbrev Winner : Part
   Winner = winnerAt s t (placeOf s i (places s x)) (placeOf t i (places t y))
@@ -117,7 +119,8 @@ module _ (a b n : ℕ) (s t item : List ℕ) (r : OpenedStore) (e : r ≡ storeO
   pub winner-not-store : r ≡ S.NotValid → P.Refused 15 ≡ winnerPart (within a b n) s t item
   winner-not-store f = sym (winner-store (within a b n) s t item 15 (store-closed a b n s (sym e ∙ f)) .is)
 
-  module _ (y : Bytes s) (k : KnowledgePart) (m : ℕ) (f : r ≡ S.Valid k m) (q : OpenedBatch) (g : q ≡ batchOpened (within a b n) t) where
+  module _ (y : Bytes s) (k : KnowledgePart) (m : ℕ) (f : r ≡ S.Valid k m) (q : OpenedBatch)
+      (g : q ≡ batchOpened (within a b n) t) where
     opened : StoreOpen (within a b n) s k m
     opened = store-open a b n s y k m (sym e ∙ f)
 
@@ -131,13 +134,15 @@ module _ (a b n : ℕ) (s t item : List ℕ) (r : OpenedStore) (e : r ≡ storeO
       pub winner-no-item : (length item ≡ 24 → ⊥) → P.Refused 17 ≡ winnerPart (within a b n) s t item
       winner-no-item w = sym (winner-17 (within a b n) s t item _ _ (opened .value) (opened-too .value) w .is)
 
-      -- the tables begin inside the bytes
-      pub winner-tables : (storeKnowledge + k .length ≤ length s) × (batchNeeded + l .length + j .length ≤ length t)
-      winner-tables =
-          (omega (arith, opened .length, opened .tests .inside), omega (arith, opened-too .neededSize, opened-too .learnedSize, opened-too .tests .inside))
+      -- lengths are numbers of four bytes
+      pub winner-lengths : (k .length < 256 ^ 4) × ((l .length < 256 ^ 4) × (j .length < 256 ^ 4))
+      winner-lengths = (
+        omega (arith, opened .length, be-below s 4 17 y),
+        (omega (arith, opened-too .neededSize, be-below t 4 49 z), omega (arith, opened-too .learnedSize, be-below t 4 53 z)),
+      )
 
-      pub winner-is : length item ≡ 24 → (i0 i1 i2 : ℕ) → i0 ≡ readAt item 8 0 → i1 ≡ readAt item 8 8 → i2 ≡ readAt item 8 16 → (p : Part)
-          → p ≡ winnerAt s t (placeOf s (words3 i0 i1 i2) (places s (storeKnowledge + k .length)))
+      pub winner-is : length item ≡ 24 → (i0 i1 i2 : ℕ) → i0 ≡ readAt item 8 0 → i1 ≡ readAt item 8 8
+          → i2 ≡ readAt item 8 16 → (p : Part) → p ≡ winnerAt s t (placeOf s (words3 i0 i1 i2) (places s (storeKnowledge + k .length)))
           (placeOf t (words3 i0 i1 i2) (places t (batchNeeded + l .length + j .length))) → p ≡ winnerPart (within a b n) s t item
       winner-is w i0 i1 i2 d0 d1 d2 p is =
           let i = words3 i0 i1 i2 in
@@ -207,7 +212,8 @@ module _ (s t : List ℕ) where
 
   at-inside : (i x y : ℕ) → Inside (winnerAt s t (placeOf s i (places s x)) (placeOf t i (places t y))) s t
   at-inside i x y =
-      found-inside (placeOf s i (places s x)) (placeOf t i (places t y)) (λ a e. found-place s i x a e .0) (λ b e. found-place t i y b e .0)
+      found-inside (placeOf s i (places s x)) (placeOf t i (places t y)) (λ a e. found-place s i x a e .0)
+      (λ b e. found-place t i y b e .0)
 
   module _ (L : Limits) (item : List ℕ) where
     inside-as : (p : Part) → winnerPart L s t item ≡ p → Inside p s t → Inside (winnerPart L s t item) s t

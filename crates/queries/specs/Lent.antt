@@ -1,5 +1,5 @@
--- "The winner is returned as a part of the store's or of the batch's bytes", said of the slices themselves: what is handed out points into the
--- slice that it is a part of, at the part's place. `ptr` of a slice is the memory that it is in and the place there.
+-- "The winner is returned as a part of the store's or of the batch's bytes", said of the slices themselves: what is handed out points into
+-- the slice that it is a part of, at the part's place. `ptr` of a slice is the memory that it is in and the place there.
 use Rattle.codec.specs.Prelude.{ℕ, _+_, _≡_, List}
 use denote.Ref.{RefT, ptr}
 use Rattle.replication.specs.declared.Part.{Part}

@@ -100,6 +100,135 @@ fn winner_in(s: &[u8], x: usize, t: &[u8], y: usize, i0: u64, i1: u64, i2: u64) 
     }
 }
 
+// The winner of an item, given as bytes, with limits of the caller's: the store's fault before the batch's, and then the item's.
+fn winner_within(
+    store: &[u8],
+    batch: &[u8],
+    item: &[u8],
+    replicas: u32,
+    ranges: u32,
+    records: u32,
+) -> Part
+    ensures { λ p. ⌜ p ≡ winnerPart (within replicas ranges records) (now (store .entry)) (now (batch .entry)) (now (item .entry)) ⌝ }
+{
+    let OpenedStore::Valid { own, count: _ } = stores::open_store(
+        &store[..],
+        replicas,
+        ranges,
+        records,
+    ) else {
+        return Part::Refused(15);
+    };
+    let OpenedBatch::Valid {
+        needed,
+        learned,
+        count: _,
+    } = stores::open_batch(&batch[..], replicas, ranges, records)
+    else {
+        return Part::Refused(16);
+    };
+    if item.len() != 24 {
+        return Part::Refused(17);
+    }
+    let i0 = codec::read8(item, 0);
+    let i1 = codec::read8(item, 8);
+    let i2 = codec::read8(item, 16);
+    let x = STORE_KNOWLEDGE + own.length;
+    let y = BATCH_NEEDED + needed.length + learned.length;
+    winner_in(store, x, batch, y, i0, i1, i2)
+}
+
+// Where the winner of an item stands, on which side.
+pub fn winner_part(store: &[u8], batch: &[u8], item: &[u8]) -> Part
+    ensures { λ p. ⌜ p ≡ winnerPart base (now (store .entry)) (now (batch .entry)) (now (item .entry)) ⌝ }
+{
+    winner_within(
+        store,
+        batch,
+        item,
+        layout::REPLICAS,
+        layout::RANGES,
+        layout::RECORDS,
+    )
+}
+
+// The winner of an item, as a part of the store's or of the batch's bytes, and the number beside it: 0, or the refusal's. The part is
+// empty on a refusal and for an item on neither side.
+pub fn winner<'a>(store: &'a [u8], batch: &'a [u8], item: &[u8], number: &mut u32) -> &'a [u8]
+    ensures part { λ r. ⌜ now r ≡ partBytes
+        (winnerPart base (now (store .entry)) (now (batch .entry)) (now (item .entry))) (now (store .entry)) (now (batch .entry)) ⌝ }
+    ensures place { λ r. ⌜ PartOf
+        (winnerPart base (now (store .entry)) (now (batch .entry)) (now (item .entry))) (store .entry) (batch .entry) r ⌝ }
+    ensures number { λ _. ⌜ now (number .exit) ≡ partNumber
+        (winnerPart base (now (store .entry)) (now (batch .entry)) (now (item .entry))) ⌝ }
+{
+    let p = winner_part(store, batch, item);
+    part_of(p, store, batch, number)
+}
+
+// ---- learned
+
+// The part of a batch's bytes that is its learned knowledge, with limits of the caller's.
+fn learned_within(batch: &[u8], replicas: u32, ranges: u32, records: u32) -> Part
+    ensures { λ p. ⌜ p ≡ learnedPart (within replicas ranges records) (now (batch .entry)) ⌝ }
+{
+    match stores::open_batch(&batch[..], replicas, ranges, records) {
+        OpenedBatch::Valid {
+            needed,
+            learned,
+            count: _,
+        } => Part::OfBatch(BATCH_NEEDED + needed.length, learned.length),
+        OpenedBatch::NotValid => Part::Refused(16),
+    }
+}
+
+// Where a batch's learned knowledge stands.
+pub fn learned_part(batch: &[u8]) -> Part
+    ensures { λ p. ⌜ p ≡ learnedPart base (now (batch .entry)) ⌝ }
+{
+    learned_within(batch, layout::REPLICAS, layout::RANGES, layout::RECORDS)
+}
+
+// A batch's learned knowledge, as a part of the batch, uncopied, and the number beside it: 0, or the refusal's, and then the
+// part is empty.
+pub fn learned<'a>(batch: &'a [u8], number: &mut u32) -> &'a [u8]
+    ensures part { λ r. ⌜ now r ≡ partBytes (learnedPart base (now (batch .entry))) (now (batch .entry)) (now (batch .entry)) ⌝ }
+    ensures place { λ r. ⌜ PartOf (learnedPart base (now (batch .entry))) (batch .entry) (batch .entry) r ⌝ }
+    ensures number { λ _. ⌜ now (number .exit) ≡ partNumber (learnedPart base (now (batch .entry))) ⌝ }
+{
+    let p = learned_part(batch);
+    part_of(p, batch, batch, number)
+}
+
+// ---- a store's own knowledge
+
+// The part of a store's bytes that is its own knowledge, with limits of the caller's.
+fn knowledge_within(store: &[u8], replicas: u32, ranges: u32, records: u32) -> Part
+    ensures { λ p. ⌜ p ≡ knowledgePart (within replicas ranges records) (now (store .entry)) ⌝ }
+{
+    match stores::open_store(&store[..], replicas, ranges, records) {
+        OpenedStore::Valid { own, count: _ } => Part::OfStore(STORE_KNOWLEDGE, own.length),
+        OpenedStore::NotValid => Part::Refused(15),
+    }
+}
+
+// Where a store's own knowledge stands.
+pub fn knowledge_part(store: &[u8]) -> Part
+    ensures { λ p. ⌜ p ≡ knowledgePart base (now (store .entry)) ⌝ }
+{
+    knowledge_within(store, layout::REPLICAS, layout::RANGES, layout::RECORDS)
+}
+
+// A store's own knowledge, as a part of the store, and the number beside it: 0, or the refusal's, and then the part is empty.
+pub fn own_knowledge<'a>(store: &'a [u8], number: &mut u32) -> &'a [u8]
+    ensures part { λ r. ⌜ now r ≡ partBytes (knowledgePart base (now (store .entry))) (now (store .entry)) (now (store .entry)) ⌝ }
+    ensures place { λ r. ⌜ PartOf (knowledgePart base (now (store .entry))) (store .entry) (store .entry) r ⌝ }
+    ensures number { λ _. ⌜ now (number .exit) ≡ partNumber (knowledgePart base (now (store .entry))) ⌝ }
+{
+    let p = knowledge_part(store);
+    part_of(p, store, store, number)
+}
+
 // ---- coverage
 
 // 1 where the change version of the record at a place is in a clock vector of the knowledge, else 0.
@@ -190,33 +319,4 @@ pub fn coverage(store: &[u8], knowledge: &[u8]) -> Coverage
         layout::RANGES,
         layout::RECORDS,
     )
-}
-
-// ---- a store's own knowledge
-
-// The part of a store's bytes that is its own knowledge, with limits of the caller's.
-fn knowledge_within(store: &[u8], replicas: u32, ranges: u32, records: u32) -> Part
-    ensures { λ p. ⌜ p ≡ knowledgePart (within replicas ranges records) (now (store .entry)) ⌝ }
-{
-    match stores::open_store(&store[..], replicas, ranges, records) {
-        OpenedStore::Valid { own, count: _ } => Part::OfStore(STORE_KNOWLEDGE, own.length),
-        OpenedStore::NotValid => Part::Refused(15),
-    }
-}
-
-// Where a store's own knowledge stands.
-pub fn knowledge_part(store: &[u8]) -> Part
-    ensures { λ p. ⌜ p ≡ knowledgePart base (now (store .entry)) ⌝ }
-{
-    knowledge_within(store, layout::REPLICAS, layout::RANGES, layout::RECORDS)
-}
-
-// A store's own knowledge, as a part of the store, and the number beside it: 0, or the refusal's, and then the part is empty.
-pub fn own_knowledge<'a>(store: &'a [u8], number: &mut u32) -> &'a [u8]
-    ensures part { λ r. ⌜ now r ≡ partBytes (knowledgePart base (now (store .entry))) (now (store .entry)) (now (store .entry)) ⌝ }
-    ensures place { λ r. ⌜ PartOf (knowledgePart base (now (store .entry))) (store .entry) (store .entry) r ⌝ }
-    ensures number { λ _. ⌜ now (number .exit) ≡ partNumber (knowledgePart base (now (store .entry))) ⌝ }
-{
-    let p = knowledge_part(store);
-    part_of(p, store, store, number)
 }

@@ -1,5 +1,5 @@
--- A store's own knowledge, as a part of the store's bytes: of a valid store it is the part that the length field of its header shows, and it
--- is read as the store's knowledge. Else the call is refused by the store's own number, and the part is empty.
+-- A store's own knowledge, as a part of the store's bytes: of a valid store it is the part that the length field of its header shows, and
+-- it is read as the store's knowledge. Else the call is refused by the store's own number, and the part is empty.
 use Prim.Native.Nat.{ℕ}
 use mathlib.Core.Path.{_≡_, refl, ap, _∙_}
 use mathlib.Core.Logic.{_↔_}

@@ -3,20 +3,17 @@ use Rattle.collector.proofs.Places.{told-place}
 use borrow.Author.Needs.{needs}
 use Rattle.collector.proofs.sync_knowledge.Statement.{statement}
 use Rattle.collector.proofs.sync_knowledge.Tie as tie
-use Rattle.collector.proofs.told.Reads as told-reads
-use Rattle.queries.proofs.knowledge_part.Reads as knowledge-part-reads
 
--- src/lib.rt:226:9
 knowledge-part-requires : tie.Need-knowledge-part-requires
 knowledge-part-requires c κs = search needs
 
--- src/lib.rt:228:5
 told-requires : tie.Need-told-requires
 told-requires c κs = search needs
 
--- src/lib.rt:220:1
 returns : tie.Need-returns
-returns c = told-place _ _ (c .before .before .before .before .knowledge-part .ensures) _ _ _ _ _ (c .told .ensures .0) (c .told .ensures .1 .1 .0) (c .told .ensures .1 .1 .1)
+returns c =
+    let h = c .told .ensures in
+    told-place _ _ (c .before .before .before .before .knowledge-part .ensures) _ _ _ _ _ (h .0) (h .1 .1 .0) (h .1 .1 .1)
 
 pub sync-knowledge-spec : {M : Type 1} → statement M
 sync-knowledge-spec = tie.close (tie.spec knowledge-part-requires told-requires returns)

@@ -5,28 +5,25 @@ use Rattle.queries.proofs.Handed.{knowledge-not-store, knowledge-is}
 use borrow.Author.Needs.{needs}
 use Rattle.queries.proofs.knowledge_within.Statement.{statement}
 use Rattle.queries.proofs.knowledge_within.Tie as tie
-use Rattle.stores.proofs.open_store.Reads as open-store-reads
 
--- src/lib.rt:201:11
 open-store-requires : tie.Need-open-store-requires
 open-store-requires c κs = search needs
 
--- src/lib.rt:202:30
 enum-known-own : tie.Need-enum-known-own
 enum-known-own c = search needs
 
--- src/lib.rt:203:34
 enum-told : tie.Need-enum-told
 enum-told c = search needs
 
--- src/lib.rt:198:1
 returns : tie.Need-returns
 returns c =
-    let a = c .before .before .before .before .before .args in
-    let y : Bytes (a .store .now) = record { below = λ i. omega (arith, c .before .before .before .before .shared-slice-known .given i) } in
-    knowledge-is (a .replicas) (a .ranges) (a .records) _ _ (c .before .before .before .open-store .ensures) y _ _ (c .before .own .given .1)
+    let b3 = c .before .before .before in
+    let b4 = b3 .before in
+    let b5 = b4 .before in
+    let a = b5 .args in
+    let y : Bytes (a .store .now) = record { below = λ i. omega (arith, b4 .shared-slice-known .given i) } in
+    knowledge-is (a .replicas) (a .ranges) (a .records) _ _ (b3 .open-store .ensures) y _ _ (c .before .own .given .1)
 
--- src/lib.rt:198:1
 returns-2 : tie.Need-returns-2
 returns-2 c =
     let a = c .before .before .before .before .args in

@@ -3,18 +3,13 @@ use Rattle.queries.proofs.Winning.{batch-record}
 use borrow.Author.Needs.{needs}
 use Rattle.queries.proofs.of_batch.Statement.{statement}
 use Rattle.queries.proofs.of_batch.Tie as tie
-use Rattle.codec.proofs.read1.Reads as read1-reads
-use Rattle.records.proofs.record_length.Reads as record-length-reads
 
--- src/lib.rt:72:9
 read1-requires : tie.Need-read1-requires
 read1-requires c κs = search needs
 
--- src/lib.rt:73:23
 record-length-requires : tie.Need-record-length-requires
 record-length-requires c κs = search needs
 
--- src/lib.rt:69:1
 returns : tie.Need-returns
 returns c = batch-record _ _ _ _ (c .before .read1 .ensures .0) (c .record-length .ensures)
 

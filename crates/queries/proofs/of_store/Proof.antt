@@ -3,18 +3,13 @@ use Rattle.queries.proofs.Winning.{store-record}
 use borrow.Author.Needs.{needs}
 use Rattle.queries.proofs.of_store.Statement.{statement}
 use Rattle.queries.proofs.of_store.Tie as tie
-use Rattle.codec.proofs.read1.Reads as read1-reads
-use Rattle.records.proofs.record_length.Reads as record-length-reads
 
--- src/lib.rt:65:9
 read1-requires : tie.Need-read1-requires
 read1-requires c κs = search needs
 
--- src/lib.rt:66:23
 record-length-requires : tie.Need-record-length-requires
 record-length-requires c κs = search needs
 
--- src/lib.rt:62:1
 returns : tie.Need-returns
 returns c = store-record _ _ _ _ (c .before .read1 .ensures .0) (c .record-length .ensures)
 

@@ -5,18 +5,13 @@ use Rattle.queries.proofs.Handed.{knowledge-inside}
 use borrow.Author.Needs.{needs}
 use Rattle.queries.proofs.own_knowledge.Statement.{statement}
 use Rattle.queries.proofs.own_knowledge.Tie as tie
-use Rattle.queries.proofs.knowledge_part.Reads as knowledge-part-reads
-use Rattle.queries.proofs.part_of.Reads as part-of-reads
 
--- src/lib.rt:220:9
 knowledge-part-requires : tie.Need-knowledge-part-requires
 knowledge-part-requires c κs = search needs
 
--- src/lib.rt:221:5
 part-of-requires : tie.Need-part-of-requires
 part-of-requires c κs = knowledge-inside base _ _ (c .before .knowledge-part .ensures)
 
--- src/lib.rt:215:1
 returns : tie.Need-returns
 returns c = handed-as _ _ (c .before .before .knowledge-part .ensures) _ _ _ _ (c .part-of .ensures)
 

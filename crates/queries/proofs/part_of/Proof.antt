@@ -6,91 +6,69 @@ use Rattle.queries.proofs.Parts.{hands-nothing, hands-store, hands-batc
 use Rattle.queries.proofs.part_of.Statement.{statement}
 use Rattle.queries.proofs.part_of.Tie as tie
 
--- src/lib.rt:19:13
 enum-told : tie.Need-enum-told
 enum-told c = search needs
 
--- src/lib.rt:20:13
 sub-result : tie.Need-sub-result
 sub-result c = search needs
 
--- src/lib.rt:20:13
 part-result-start : tie.Need-part-result-start
 part-result-start c = search needs
 
--- src/lib.rt:20:13
 part-result-end : tie.Need-part-result-end
 part-result-end c = search needs
 
--- src/lib.rt:22:23
 enum-known-p : tie.Need-enum-known-p
 enum-known-p c = search needs
 
--- src/lib.rt:24:24
 add-result : tie.Need-add-result
 add-result c = omega (arith, c .before .before .before .pre .ofStore _ _ (c .before .p .given .1))
 
--- src/lib.rt:24:13
 sub-result-2 : tie.Need-sub-result-2
 sub-result-2 c = search needs
 
--- src/lib.rt:24:13
 part-result-start-2 : tie.Need-part-result-start-2
 part-result-start-2 c = search needs
 
--- src/lib.rt:24:13
 part-result-end-2 : tie.Need-part-result-end-2
 part-result-end-2 c = omega (arith, c .before .before .before .pre .ofStore _ _ (c .before .p .given .1))
 
--- src/lib.rt:26:23
 enum-known-p-2 : tie.Need-enum-known-p-2
 enum-known-p-2 c = search needs
 
--- src/lib.rt:28:24
 add-result-2 : tie.Need-add-result-2
 add-result-2 c = omega (arith, c .before .before .before .pre .ofBatch _ _ (c .before .p2 .given .1))
 
--- src/lib.rt:28:13
 sub-result-3 : tie.Need-sub-result-3
 sub-result-3 c = search needs
 
--- src/lib.rt:28:13
 part-result-start-3 : tie.Need-part-result-start-3
 part-result-start-3 c = search needs
 
--- src/lib.rt:28:13
 part-result-end-3 : tie.Need-part-result-end-3
 part-result-end-3 c = omega (arith, c .before .before .before .pre .ofBatch _ _ (c .before .p2 .given .1))
 
--- src/lib.rt:30:23
 enum-known-p-3 : tie.Need-enum-known-p-3
 enum-known-p-3 c = search needs
 
--- src/lib.rt:32:13
 sub-result-4 : tie.Need-sub-result-4
 sub-result-4 c = search needs
 
--- src/lib.rt:32:13
 part-result-start-4 : tie.Need-part-result-start-4
 part-result-start-4 c = search needs
 
--- src/lib.rt:32:13
 part-result-end-4 : tie.Need-part-result-end-4
 part-result-end-4 c = search needs
 
--- src/lib.rt:11:1
 returns : tie.Need-returns
 returns c = hands-nothing _ _ _ _ (c .before .enum-told .given .1) refl
 
--- src/lib.rt:11:1
 returns-2 : tie.Need-returns-2
 returns-2 c = hands-store _ _ _ _ _ _ (c .before .before .p .given .1) refl refl
 
--- src/lib.rt:11:1
 returns-3 : tie.Need-returns-3
 returns-3 c = hands-batch _ _ _ _ _ _ (c .before .before .p2 .given .1) refl refl
 
--- src/lib.rt:11:1
 returns-4 : tie.Need-returns-4
 returns-4 c = hands-refusal _ _ _ _ _ (c .before .before .p3 .given .1) refl
 

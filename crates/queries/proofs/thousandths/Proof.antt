@@ -4,19 +4,15 @@ use borrow.Author.Needs.{needs}
 use Rattle.queries.proofs.thousandths.Statement.{statement}
 use Rattle.queries.proofs.thousandths.Tie as tie
 
--- src/lib.rt:138:9
 returns : tie.Need-returns
 returns c = rate-none _ _ (c .if1 .taken)
 
--- src/lib.rt:140:5
 mul-result : tie.Need-mul-result
 mul-result c = search needs
 
--- src/lib.rt:140:5
 div-result : tie.Need-div-result
 div-result c = search needs
 
--- src/lib.rt:134:1
 returns-2 : tie.Need-returns-2
 returns-2 c = rate-some _ _ (c .if1 .left)
 
