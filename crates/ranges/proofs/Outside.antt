@@ -12,7 +12,7 @@ use mathlib.Core.List.{List, [], _∷_}
 use native.Mathlib.Omega.{arith}
 use lib.Dec.{eqb, ltb, leb}
 use lib.ListN.{length, getD}
-use borrow.Author.Tests.{lt-ltb, le-ltb, le-leb, lt-leb, eq-eqb, ne-eqb, ltb-true, ltb-false, leb-true}
+use borrow.Author.Tests.{le-ltb, le-leb, lt-leb, eq-eqb, ne-eqb, ltb-true, ltb-false, leb-true}
 use Rattle.codec.specs.Number.{beAt}
 use Rattle.codec.specs.Words.{words3}
 use Rattle.codec.proofs.Order.{words3-be}
@@ -21,7 +21,7 @@ use Rattle.layout.specs.Knowledge.{Rules, Element, Range, Knowledge, All, Risin
 use Rattle.layout.specs.Decode.{rangesAt, decode}
 use Rattle.layout.specs.MethodPlaces.{rangesPlace}
 use Rattle.layout.proofs.Places.{Reading, places}
-use Rattle.ticks.specs.Meaning.{highest, known, place, tickAt, vectorAt, vectorOf, Formed, Normal}
+use Rattle.ticks.specs.Meaning.{highest, known, place, tickAt, vectorAt, vectorOf, Formed}
 use Rattle.ticks.specs.MethodLookup.{indexAt, firstIndex}
 use Rattle.ticks.specs.Written.{isNormal}
 use Rattle.ticks.proofs.Lists.{less, same, more, order}
@@ -34,6 +34,7 @@ use Rattle.lookup.specs.declared.Cursor.{Cursor}
 use Rattle.lookup.specs.Method.{startAt, Opens}
 use Rattle.lookup.proofs.Leaf.{read-lawful, read-ranges, opens-reading}
 use Rattle.ranges.specs.Method.{endBefore, liesIn, insideBy, insideOf}
+use Rattle.ranges.proofs.Ranges.{only}
 
 -- The item before a bound
 
@@ -140,10 +141,6 @@ module _ (s : List ℕ) (c : Cursor) (first last : ℕ) where
       → b ≡ insideOf s c first last
   unfolding insideOf
   inside-there b h e = e ∙ sym (rw (le-leb (c .next + 28 * c .left) (length s) h, insideOf))
-
--- the second, only where the first holds
-unfoldable only : Bool → Bool → Bool
-only b z = elim b [ true ↦ z | false ↦ false ]
 
 inside-step : (s : List ℕ) (first last n next : ℕ)
     → insideBy s first last (suc n) next ≡ only (liesIn s first last n next) (insideBy s first last n (next + 28))

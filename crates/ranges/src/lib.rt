@@ -1,8 +1,8 @@
-// Range by range through the bytes of a knowledge: its largest tick, whether a replica's tick is alike in all ranges, and whether
-// nothing is known outside a span.
+// Range by range through the bytes of a knowledge: its largest tick, that of one replica, whether a replica's tick is alike in all
+// ranges, and whether nothing is known outside a span.
 //
-// Every public function is total and goes by places: for bytes that the check accepts, with the sizes that it answers, the answers
-// are the defined ones. An item id is three words and a replica id two, the highest first.
+// Every public function is total and goes by places, for any bytes and cursor: for bytes that the check accepts, with the cursor
+// before any range, the answers are the defined ones. An item id is three words and a replica id two, the highest first.
 use layout::ReplicaKey;
 use layout::VectorIndex;
 use lookup::Cursor;
@@ -14,7 +14,7 @@ ghost use Rattle.codec.specs.Number.{beAt};
 ghost use Rattle.codec.specs.Words.{words2, words3};
 ghost use Rattle.ticks.specs.MethodRows.{topTick};
 ghost use Rattle.lookup.specs.Method.{elementsHere};
-ghost use Rattle.ranges.specs.Method.{topOf, largestIn, alikeOf, alikeIn, endBefore, liesIn, insideOf};
+ghost use Rattle.ranges.specs.Method.{topOf, topKeyOf, alikeOf, alikeIn, endBefore, liesIn, insideOf};
 
 // a word that is full: the top item id is three of them
 const TOP: u64 = 18446744073709551615;
@@ -64,7 +64,7 @@ fn top_of(s: &[u8], vector: usize, before: u64) -> u64
 }
 
 // The largest tick of the ranges that a cursor has not passed.
-fn top_from(s: &[u8], r: u32, c: Cursor) -> u64
+pub fn largest_from(s: &[u8], r: u32, c: Cursor) -> u64
     ensures { λ t. ⌜ t ≡ topOf (now (s .entry)) r c ⌝ }
 {
     let mut left = c.left;
@@ -90,11 +90,31 @@ fn top_from(s: &[u8], r: u32, c: Cursor) -> u64
     top
 }
 
-// The largest tick of a knowledge that was checked, with its sizes.
-pub fn largest_tick(s: &[u8], r: u32, v: u32, e: u32, g: u32) -> u64
-    ensures { λ t. ⌜ t ≡ largestIn (now (s .entry)) r v e g ⌝ }
+// The largest tick of a key in the ranges that a cursor has not passed.
+pub fn top_key(s: &[u8], r: u32, key: ReplicaKey, c: Cursor) -> u64
+    ensures { λ t. ⌜ t ≡ topKeyOf (now (s .entry)) r key c ⌝ }
 {
-    top_from(s, r, lookup::start(r, v, e, g))
+    let mut left = c.left;
+    let mut next = c.next;
+    let mut index = c.index;
+    let mut vector = c.vector;
+    if s.len() < next {
+        return 0;
+    }
+    if s.len() - next < 28 * (left as usize) {
+        return 0;
+    }
+    let mut top: u64 = 0;
+    while 0 < left {
+        let n = four(s, next + 24) as u32;
+        let to = VectorIndex(n);
+        vector = lookup::vector_place(s, r, index, vector, to);
+        top = codec::larger(top, lookup::tick_at(s, vector, key));
+        index = to;
+        next += 28;
+        left -= 1;
+    }
+    top
 }
 
 // ---- a tick alike in all ranges
@@ -127,15 +147,14 @@ fn alike(s: &[u8], r: u32, key: ReplicaKey, own: u64, c: Cursor) -> bool
     true
 }
 
-// Is the tick of the replica of two words alike in all ranges of a knowledge that was checked, with its sizes.
-pub fn own_alike(s: &[u8], r: u32, v: u32, e: u32, g: u32, p0: u64, p1: u64) -> bool
-    ensures { λ b. ⌜ b ≡ alikeIn (now (s .entry)) r v e g (words2 p0 p1) ⌝ }
+// Is the tick of the replica of two words alike in all ranges of a knowledge that was checked, from the cursor before any range.
+pub fn own_alike(s: &[u8], r: u32, c: Cursor, p0: u64, p1: u64) -> bool
+    ensures { λ b. ⌜ b ≡ alikeIn (now (s .entry)) r c (words2 p0 p1) ⌝ }
 {
-    let from = lookup::start(r, v, e, g);
     let key = lookup::key_of(s, r, p0, p1);
-    let first = lookup::advance(s, r, from, 0, 0, 0);
+    let first = lookup::advance(s, r, c, 0, 0, 0);
     let own = lookup::tick_at(s, first.vector, key);
-    alike(s, r, key, own, from)
+    alike(s, r, key, own, c)
 }
 
 // ---- inside a span

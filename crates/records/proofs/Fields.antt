@@ -10,8 +10,8 @@ use mathlib.Core.Logic.{inl, inr}
 use mathlib.Core.List.{List, []}
 use native.Mathlib.Omega.{arith}
 use lib.Dec.{eqb, ltb, leb}
-use lib.ListN.{length, getD, take, drop, List·getD-eq-default}
-use borrow.Author.Tests.{le-leb, lt-ltb, le-ltb, eq-eqb, ne-eqb, eqb-true, ltb-true, ltb-false, leb-true, leb-false}
+use lib.ListN.{length, getD, take, drop, length-take, length-drop, List·getD-eq-default}
+use borrow.Author.Tests.{le-leb, lt-ltb, le-ltb, eq-eqb, ne-eqb, ltb-true, ltb-false, leb-true, leb-false}
 use Rattle.codec.specs.Number.{Bytes, beAt}
 use Rattle.codec.specs.Part.{placed, part}
 use Rattle.codec.specs.Total.{readAt}
@@ -25,8 +25,7 @@ use Rattle.replication.specs.Operate.{wins}
 use Rattle.replication.specs.Reading.{itemPlace, changeReplicaPlace, changeTickPlace, createReplicaPlace, createTickPlace, tagPlace}
 use Rattle.replication.specs.Reading.{recLength, behind, contentAt, recAt, whole}
 use Rattle.replication.specs.MethodRecords.{WholeAt}
-use Rattle.replication.proofs.RecordBytes.{KnownKind, recSize, kind-length, kind-known, whole-exact, whole-back, rec-part}
-use Rattle.replication.proofs.RecordsInBytes.{whole-at}
+use Rattle.replication.proofs.RecordBytes.{recSize, kind-length, kind-known, whole-exact, whole-back, rec-part}
 use Rattle.records.specs.Method.{lengthAt, recordPart, readRec}
 
 -- ---- lengths
@@ -91,6 +90,9 @@ module _ (s : List ℕ) (at : ℕ) where
   pub length-whole : whole s at ≡ true → lengthAt s at ≡ recLength (beAt s 1 at)
   unfolding lengthAt
   length-whole w = rw (w, lengthAt)
+
+  pub length-size : whole s at ≡ true → lengthAt s at ≡ recSize
+  length-size w = length-whole w ∙ kind-length (beAt s 1 at) (whole-exact s at .0 w .0)
 
   pub length-nothing : whole s at ≡ false → lengthAt s at ≡ 0
   unfolding lengthAt
@@ -178,6 +180,17 @@ module _ (s : List ℕ) (at : ℕ) where
       part-by
       ∙ (ap (part s at) (length-whole s at w)
       ∙ part-is s at (recLength (beAt s 1 at)) (omega (arith, kind-length (beAt s 1 at) (k .0), k .1)))
+
+  pub part-length : length (recordPart s at) ≡ lengthAt s at
+  part-length = go (whole s at) refl
+    where
+      go : (t : Bool) → whole s at ≡ t → length (recordPart s at) ≡ lengthAt s at
+      go true w =
+          let k = whole-exact s at .0 w in
+          let n = recLength (beAt s 1 at) in
+          ap length (part-whole w)
+          ∙ omega (arith, length-whole s at w, kind-length (beAt s 1 at) (k .0), k .1, length-take n (drop at s), length-drop at s)
+      go false w = ap length (part-nothing w) ∙ sym (length-nothing s at w)
 
   -- the bytes of the whole record at a place are what its value is written as
   pub part-record : Bytes s → whole s at ≡ true → recordPart s at ≡ putRec (recAt s at) []

@@ -1,6 +1,6 @@
 -- The search for an item's record along the walker's places. What is found from the first place on is what is found from the present place
 -- on: a record of another item is passed, and past the last whole record there is none.
-use Prim.Native.Nat.{ℕ, _+_, _≤_, _<_}
+use Prim.Native.Nat.{ℕ, _+_, _≤_}
 use mathlib.Core.Path.{_≡_, refl, sym, ap, _∙_}
 use mathlib.Core.Bool.{Bool, true, false}
 use mathlib.Core.List.{List}

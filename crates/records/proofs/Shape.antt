@@ -7,9 +7,10 @@ use mathlib.Core.Bool.{Bool, true, false}
 use mathlib.Core.List.{List}
 use native.Mathlib.Omega.{arith}
 use lib.Dec.{eqb, ltb, leb}
-use lib.ListN.{length}
-use borrow.Author.Tests.{le-leb, lt-leb, ltb-true, ltb-false, leb-true, leb-false}
+use lib.ListN.{length, getD}
+use borrow.Author.Tests.{le-leb, lt-leb, eq-eqb, ne-eqb, ltb-true, ltb-false, leb-true, leb-false}
 use Rattle.codec.specs.Number.{beAt}
+use Rattle.codec.proofs.Reading.{be-one}
 use Rattle.codec.specs.Words.{words2, words3}
 use Rattle.layout.specs.Knowledge.{largestTick}
 use Rattle.replication.specs.Record.{Content, Rec}
@@ -17,7 +18,7 @@ use Rattle.replication.specs.Reading.{itemPlace, changeTickPlace, createTickPla
 use Rattle.replication.specs.MethodRecords.{shapedAt}
 use Rattle.replication.proofs.RecordsInBytes.{shaped-nil, shaped-on, shaped-stop, shaped-low, shaped-invalid}
 use Rattle.records.specs.Method.{lengthAt, least}
-use Rattle.records.proofs.Fields.{length-ends, length-stands, length-behind, pair-read, item-at, change-tick-at, create-tick-at, tag-at}
+use Rattle.records.proofs.Fields.{length-ends, length-stands, length-behind, pair-read, item-at, change-tick-at, create-tick-at, tag-at, deleted-at}
 
 -- ---- the tag
 
@@ -33,16 +34,19 @@ zeros : words2 0 0 ≡ 0
 unfolding words2
 zeros = refl
 
-module _ (s : List ℕ) (at : ℕ) (dead : Bool) (e : dead ≡ recAt s at .content .deleted) where
-  pub tag-live : dead ≡ false → true ≡ tagKept (recAt s at .content)
-  tag-live f = sym (kept-live (recAt s at .content) (sym e ∙ f))
+module _ (s : List ℕ) (at kind : ℕ) (e : kind ≡ getD s at 0) where
+  kind-at : kind ≡ beAt s 1 at
+  kind-at = e ∙ sym (be-one s at)
 
-  pub tag-dead : dead ≡ true → (t0 t1 : ℕ) → t0 ≡ beAt s 8 (at + tagPlace) → t1 ≡ beAt s 8 (at + tagPlace + 8) →
+  pub tag-live : (kind ≡ 2 → ⊥) → true ≡ tagKept (recAt s at .content)
+  tag-live n = sym (kept-live (recAt s at .content) (deleted-at s at ∙ ne-eqb (beAt s 1 at) 2 (λ h. n (kind-at ∙ h))))
+
+  pub tag-dead : kind ≡ 2 → (t0 t1 : ℕ) → t0 ≡ beAt s 8 (at + tagPlace) → t1 ≡ beAt s 8 (at + tagPlace + 8) →
       (r : Bool) → r ≡ eqb (words2 t0 t1) (words2 0 0) → r ≡ tagKept (recAt s at .content)
   tag-dead f t0 t1 a b r h =
       h
       ∙ (ap₂ {C = Bool} eqb (pair-read s (at + tagPlace) t0 t1 a b ∙ sym (tag-at s at)) zeros
-      ∙ sym (kept-dead (recAt s at .content) (sym e ∙ f)))
+      ∙ sym (kept-dead (recAt s at .content) (deleted-at s at ∙ eq-eqb (beAt s 1 at) 2 (sym kind-at ∙ f))))
 
 -- ---- one record
 

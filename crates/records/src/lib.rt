@@ -274,7 +274,8 @@ fn tag_kept(s: &[u8], at: usize) -> bool
     requires { ⌜ WholeAt (now s) at ⌝ }
     ensures { λ r. ⌜ r ≡ tagKept (recAt (now (s .entry)) at .content) ⌝ }
 {
-    if tombstone(s, at) {
+    let kind = one(s, at);
+    if kind == 2 {
         let t0 = eight(s, at + TAG);
         let t1 = eight(s, at + TAG + 8);
         return codec::same2(t0, t1, 0, 0);

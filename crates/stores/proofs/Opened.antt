@@ -1,8 +1,9 @@
 -- What the answers of the check mean, for callers. An answer `Valid` holds what a caller goes on from (`store-open`, `batch-open`): the
 -- tests of opening, the value at its places, and each knowledge opened for lookup. An answer `NotValid` is the refusal (`store-closed`,
--- `batch-closed`). The check of a knowledge that was accepted gave sizes, so the answers cannot be mixed up.
-use Prim.Native.Nat.{ℕ, _≤_}
-use mathlib.Core.Path.{_≡_, refl, sym, ap, _∙_, subst}
+-- `batch-closed`). The check of a knowledge that was accepted gave sizes, so the answers cannot be mixed up. Then the places and slices
+-- that code computes from the sizes.
+use Prim.Native.Nat.{ℕ, _+_, _-_, _≤_}
+use mathlib.Core.Path.{_≡_, refl, sym, ap, ap₂, _∙_, subst}
 use mathlib.Core.Bool.{Bool, true, false}
 use mathlib.Core.List.{List}
 use native.Mathlib.Omega.{arith}
@@ -17,8 +18,10 @@ use Rattle.layout.specs.Parse.{checkedBy, parse}
 use Rattle.layout.proofs.Places.{places}
 use Rattle.layout.proofs.Within.{within-permitted}
 use Rattle.ticks.proofs.ForCode.{refusing}
-use Rattle.replication.specs.OpenStore.{knowledgeLength, storeCount, storeKnowledge, openStore}
-use Rattle.replication.specs.OpenBatch.{firstId, lastId, neededLength, learnedLength, batchCount, batchNeeded, batchLearned, openBatch}
+use Rattle.replication.specs.OpenStore.{knowledgeLength, storeCount, storeKnowledge, storeTable, openStore}
+use Rattle.replication.specs.OpenBatch.{firstId, lastId, neededLength, learnedLength, batchCount, batchNeeded, batchLearned, batchTable}
+use Rattle.replication.specs.OpenBatch.{openBatch}
+use Rattle.replication.specs.MethodRecords.{shapedAt}
 use Rattle.replication.specs.MethodOpening.{isAccepted, storeAt, isStore, batchAt, isBatch}
 use Rattle.replication.proofs.PartBytes.{part-bytes}
 use Rattle.replication.proofs.OpeningTables.{not-accepted}
@@ -44,9 +47,6 @@ use Rattle.stores.specs.Method.{neededPart, learnedPart, batchFrom, batc
 pub record PartOpen (L : Limits) (bytes : List ℕ) (k : KnowledgePart) : Type 0 where
   pub opens : Opens (anyId L) bytes (k .r) (k .start)
   pub small : k .r ≤ largestReplicas
-
-pub part-open : (L : Limits) (bytes : List ℕ) (k : KnowledgePart) → PartOpen L bytes k → Open bytes (k .r) (k .start)
-part-open L bytes k p = record { rules = anyId L; opens = p .opens; small = p .small }
 
 module _ (a b n : ℕ) where
   abbrev L : Limits
@@ -144,6 +144,25 @@ module _ (a b m : ℕ) (s : List ℕ) where
       go : (t : Bool) → isStore (within a b m) s ≡ t → storeOpened (within a b m) s ≡ S.NotValid → openStore (within a b m) s ≡ refused 15
       go true e f = absurd (closed-store _ refl e (sym (if-true _ _ e) ∙ f))
       go false e f = store-refuses (within a b m) s e
+
+-- where its parts stand, as code asks for them
+module _ (L : Limits) (s : List ℕ) (k : KnowledgePart) (n : ℕ) (o : StoreOpen L s k n) where
+  pub store-place : storeKnowledge + k .length ≡ storeTable s
+  store-place = omega (arith, o .length)
+
+  pub store-room : storeKnowledge + k .length ≤ length s
+  store-room = omega (arith, o .length, o .tests .inside)
+
+  pub store-slice : take (storeKnowledge + k .length - storeKnowledge) (drop storeKnowledge s) ≡ ownPart s
+  store-slice =
+      let e : storeKnowledge + k .length - storeKnowledge ≡ knowledgeLength s = omega (arith, o .length) in
+      ap (λ m. take m (drop storeKnowledge s)) e
+
+  pub store-lookup : Open (ownPart s) (k .r) (k .start)
+  store-lookup = record { rules = anyId L; opens = o .opens; small = o .small }
+
+  pub store-shaped : shapedAt s 0 n (storeKnowledge + k .length) ≡ true
+  store-shaped = ap₂ (shapedAt s 0) (o .count) store-place ∙ o .tests .ordered
 
 -- ---- batches
 
@@ -243,3 +262,32 @@ module _ (a b m : ℕ) (s : List ℕ) where
       go : (t : Bool) → isBatch M s ≡ t → batchOpened M s ≡ B.NotValid → openBatch M s ≡ refused 16
       go true e f = absurd (closed-batch _ _ refl refl e (sym (if-batch _ _ e) ∙ f))
       go false e f = batch-refuses M s e
+
+-- where its parts stand, as code asks for them
+module _ (L : Limits) (s : List ℕ) (k l : KnowledgePart) (n : ℕ) (o : BatchOpen L s k l n) where
+  pub batch-place : batchNeeded + k .length + l .length ≡ batchTable s
+  batch-place = omega (arith, o .neededSize, o .learnedSize)
+
+  pub batch-fits : batchNeeded + k .length + l .length ≤ length s
+  batch-fits = omega (arith, batch-place, o .tests .inside)
+
+  pub needed-slice : take (batchNeeded + k .length - batchNeeded) (drop batchNeeded s) ≡ neededPart s
+  needed-slice =
+      let e : batchNeeded + k .length - batchNeeded ≡ neededLength s = omega (arith, o .neededSize) in
+      ap (λ m. take m (drop batchNeeded s)) e
+
+  pub learned-slice : take (batchNeeded + k .length + l .length - (batchNeeded + k .length)) (drop (batchNeeded + k .length) s)
+      ≡ learnedPart s
+  learned-slice =
+      let e : batchNeeded + k .length + l .length - (batchNeeded + k .length) ≡ learnedLength s = omega (arith, o .learnedSize) in
+      let f : batchNeeded + k .length ≡ batchLearned s = omega (arith, o .neededSize) in
+      ap₂ (λ m at. take m (drop at s)) e f
+
+  pub needed-lookup : Open (neededPart s) (k .r) (k .start)
+  needed-lookup = record { rules = anyId L; opens = o .neededOpens; small = o .neededSmall }
+
+  pub learned-lookup : Open (learnedPart s) (l .r) (l .start)
+  learned-lookup = record { rules = anyId L; opens = o .learnedOpens; small = o .learnedSmall }
+
+  pub batch-shaped : shapedAt s 0 n (batchNeeded + k .length + l .length) ≡ true
+  batch-shaped = ap₂ (shapedAt s 0) (o .count) batch-place ∙ o .tests .ordered

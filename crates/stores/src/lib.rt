@@ -172,7 +172,8 @@ pub fn open_store(s: &[u8], replicas: u32, ranges: u32, records: u32) -> OpenedS
         return OpenedStore::NotValid;
     }
     let count = codec::read4(s, STORE_COUNT) as u32;
-    if codec::brought(records, layout::LARGEST_RECORDS) < count {
+    let most = codec::brought(records, layout::LARGEST_RECORDS);
+    if most < count {
         return OpenedStore::NotValid;
     }
     if records::shaped(s, count, STORE_KNOWLEDGE + n) {} else {

@@ -4,8 +4,8 @@ use borrow.Author.Needs.{needs}
 use Rattle.records.proofs.tag_kept.Statement.{statement}
 use Rattle.records.proofs.tag_kept.Tie as tie
 
-tombstone-requires : tie.Need-tombstone-requires
-tombstone-requires c κs = search needs
+one-requires : tie.Need-one-requires
+one-requires c κs = search needs
 
 add-eight : tie.Need-add-eight
 add-eight c = search needs
@@ -27,17 +27,17 @@ same2-requires c κs = search needs
 
 returns : tie.Need-returns
 returns c =
-    tag-dead _ _ _ (c .before .before .before .before .tombstone .ensures) (c .before .before .before .if1 .taken) _ _
+    tag-dead _ _ _ (c .before .before .before .before .one .ensures .0) (c .before .before .before .if1 .taken) _ _
     (c .before .before .eight .ensures .0) (c .before .eight2 .ensures .0) _ (c .same2 .ensures)
 
 returns-2 : tie.Need-returns-2
-returns-2 c = tag-live _ _ _ (c .before .tombstone .ensures) (c .if1 .left)
+returns-2 c = tag-live _ _ _ (c .before .one .ensures .0) (c .if1 .left)
 
 pub tag-kept-spec : {M : Type 1} → statement M
 tag-kept-spec =
     tie.close
     (tie.spec
-    tombstone-requires
+    one-requires
     add-eight
     eight-requires
     add-eight-2
