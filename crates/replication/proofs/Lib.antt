@@ -38,6 +38,7 @@ pub mod OpeningStore
 pub mod OpeningBatch
 pub mod QueriesWalk
 pub mod QueriesWinner
+pub mod QueriesKnowledge
 pub mod QueriesCoverage
 pub mod QueriesSettled
 pub mod RefusalsTable
