@@ -3,6 +3,7 @@
 
 #![forbid(unsafe_code)]
 
+mod batches;
 mod calls;
 mod edits;
 mod families;
@@ -12,9 +13,14 @@ mod limits;
 mod meaning;
 mod pairs;
 mod plan;
+mod record;
+mod replication;
 mod splitmix;
+mod store;
+mod stores;
 mod writing;
 
+pub use batches::shapes as batch_shapes;
 pub use calls::{Call, faulty};
 pub use instances::{Instance, instances};
 pub use knowledge::{Field, Kind, Knowledge, Written, item_id, replica_id};
@@ -22,5 +28,9 @@ pub use limits::{alike_but_for_the_last, backwards};
 pub use meaning::{FIRST_ITEM, ItemId, LAST_ITEM, ReplicaId, item_before, next_item};
 pub use pairs::Three;
 pub use plan::{CallInput, Input, Plan};
+pub use record::{LIVE, Record, TOMBSTONE, Version};
+pub use replication::ALL;
 pub use splitmix::SplitMix64;
+pub use store::{Batch, Store};
+pub use stores::shapes as store_shapes;
 pub use writing::{LONGEST, Room, Writing};
