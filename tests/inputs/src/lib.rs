@@ -4,6 +4,7 @@
 #![forbid(unsafe_code)]
 
 mod batches;
+mod breaches;
 mod calls;
 mod edits;
 mod families;
@@ -13,8 +14,10 @@ mod limits;
 mod meaning;
 mod pairs;
 mod plan;
+mod reading;
 mod record;
 mod replication;
+mod rows;
 mod splitmix;
 mod store;
 mod stores;
@@ -28,8 +31,10 @@ pub use limits::{alike_but_for_the_last, backwards};
 pub use meaning::{FIRST_ITEM, ItemId, LAST_ITEM, ReplicaId, item_before, next_item};
 pub use pairs::Three;
 pub use plan::{CallInput, Input, Plan};
+pub use reading::Reading;
 pub use record::{LIVE, Record, TOMBSTONE, Version};
 pub use replication::ALL;
+pub use rows::{Lookups, Readings, Row, Writings};
 pub use splitmix::SplitMix64;
 pub use store::{Batch, Store};
 pub use stores::shapes as store_shapes;

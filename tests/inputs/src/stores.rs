@@ -43,7 +43,10 @@ impl Store {
 
     /// A random valid store, mostly a small one.
     pub fn random(random: &mut SplitMix64) -> Self {
-        let knowledge = Knowledge::random(random).normalised();
+        let mut knowledge = Knowledge::random(random).normalised();
+        while knowledge.replicas.is_empty() && !random.once_in(8) {
+            knowledge = Knowledge::random(random).normalised();
+        }
         let own = match knowledge.replicas.len() {
             0 => random.bytes(),
             _ if random.once_in(4) => random.bytes(),
@@ -54,8 +57,8 @@ impl Store {
             largest => *random.choose(&[largest, largest / 2 + 1, 1, 0]),
         };
         let Ok(knowledge) = alike(&knowledge, &own, tick).within() else { return Self::new(own) };
-        let most = *random.choose(&[0, 3, 12, 40]);
-        let count = if random.once_in(20) { 256 } else { random.between(0, most) };
+        let most = *random.choose(&[1, 3, 12, 40]);
+        let count = if random.once_in(20) { 256 } else { random.between(most / 3, most) };
         let records = records(random, &knowledge, count);
         Self { own, knowledge, records }
     }

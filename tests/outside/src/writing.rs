@@ -1,6 +1,6 @@
 //! Comparing normalise, merge and project of the engine with those of the reference.
 
-use inputs::{CallInput, LONGEST, Plan, Room, Writing};
+use inputs::{CallInput, LONGEST, Plan, Room, Writing, Writings};
 
 use crate::buffer;
 use crate::one;
@@ -17,9 +17,9 @@ pub trait Engine {
 const WRITTEN: &str = "written";
 
 const ENDS: [Ends; 3] = [
-    Ends { call: "normalise", answers: &[WRITTEN], knowledges: 1, ids: false, result: &[12, 14] },
-    Ends { call: "merge", answers: &[WRITTEN], knowledges: 2, ids: false, result: &[11, 12, 14] },
-    Ends { call: "project", answers: &[WRITTEN], knowledges: 1, ids: true, result: &[12, 14] },
+    Ends { call: "normalise", answers: &[WRITTEN], knowledges: 1, ids: false, others: &[12, 14] },
+    Ends { call: "merge", answers: &[WRITTEN], knowledges: 2, ids: false, others: &[11, 12, 14] },
+    Ends { call: "project", answers: &[WRITTEN], knowledges: 1, ids: true, others: &[12, 14] },
 ];
 
 /// Compares the engine with the reference on all calls of the plan that write. The error says where they first differ, or what
@@ -27,7 +27,7 @@ const ENDS: [Ends; 3] = [
 pub fn run(plan: &Plan, engine: &impl Engine) -> Result<Tally, String> {
     let mut tally = Tally::default();
     let mut longest = vec![0; LONGEST];
-    plan.try_for_each_writing(|input| {
+    plan.try_for_each_call::<Writings, _>(|input| {
         let (call, outcome) =
             compare(&input, engine, &mut longest).map_err(|difference| describe(plan, &input, &difference))?;
         tally.add(call, outcome);
