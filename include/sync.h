@@ -226,6 +226,71 @@ uint32_t sync_knowledge(const uint8_t *store, size_t store_n, uint64_t *at, uint
  */
 uint32_t sync_walk(const uint8_t *table, size_t table_n, uint64_t at, uint64_t *length);
 
+/*
+ * The functions below write a store or a batch to the front of a buffer: out, which has out_n bytes. The bytes of the buffer behind the
+ * result stay as they were. No store has over 37,742 bytes, and no batch over 52,711. A store is never changed where it lies: the result
+ * takes its place once the caller has kept it.
+ */
+
+/*
+ * Writes the store of a replica that has seen nothing, of 138 bytes. A replica id has 16 bytes, and no two replicas have the same.
+ *
+ * Returns 0 and sets *written to the length of the result.
+ *
+ * Else returns the number of the refusal, 17 for the id and then 14 for the result, and leaves out and *written as they were.
+ */
+uint32_t sync_new(const uint8_t *own, size_t own_n, uint8_t *out, size_t out_n, uint64_t *written);
+
+/*
+ * Edits an item: writes the store in which it has a live record with the given tag, made by the store's own replica at a tick of 1 more
+ * than any that the store knows. An item that has a record keeps its create version, also where that is a tombstone. An item id has 24
+ * bytes and a tag 16.
+ *
+ * Returns 0 and sets *written to the length of the result.
+ *
+ * Else returns the number of the refusal, 15 for the store, then 17 for id and tag, then 20, then 11, 13 and 14 for the result, in this
+ * order, and leaves out and *written as they were.
+ */
+uint32_t sync_edit(const uint8_t *store, size_t store_n, const uint8_t *item, size_t item_n, const uint8_t *tag,
+                   size_t tag_n, uint8_t *out, size_t out_n, uint64_t *written);
+
+/*
+ * Deletes an item: writes the store in which its record is a tombstone, made like an edit. An item id has 24 bytes.
+ *
+ * Returns 0 and sets *written to the length of the result.
+ *
+ * Else returns the number of the refusal, 15 for the store, then 17 for the id, then 19, 20, then 11 and 14 for the result, in this order,
+ * and leaves out and *written as they were.
+ */
+uint32_t sync_delete(const uint8_t *store, size_t store_n, const uint8_t *item, size_t item_n, uint8_t *out,
+                     size_t out_n, uint64_t *written);
+
+/*
+ * Makes a batch for a replica with a given knowledge: what the store knows in a span of item ids, from the first id to the last, both
+ * included, and the records there whose change version the given knowledge lacks. A replica takes it only if it knows in the span
+ * what was given here. An item id has 24 bytes.
+ *
+ * Returns 0 and sets *written to the length of the result.
+ *
+ * Else returns the number of the refusal, 15 for the store, then 1 to 10 for the knowledge, then 17 for the ids, also where the first id is
+ * above the last, then 12 and 14 for the result, and leaves out and *written as they were.
+ */
+uint32_t sync_make(const uint8_t *store, size_t store_n, const uint8_t *knowledge, size_t knowledge_n,
+                   const uint8_t *first, size_t first_n, const uint8_t *last, size_t last_n, uint8_t *out, size_t out_n,
+                   uint64_t *written);
+
+/*
+ * Applies a batch: writes the store that has, of each item, the record that sync_winner finds, and whose knowledge is merged with what
+ * the batch has learned.
+ *
+ * Returns 0 and sets *written to the length of the result.
+ *
+ * Else returns the number of the refusal, 15 for the store, then 16 for the batch, then 18, then 11, 12, 13 and 14 for the result, in this
+ * order, and leaves out and *written as they were. A batch that is refused with 18 may be taken later.
+ */
+uint32_t sync_apply(const uint8_t *store, size_t store_n, const uint8_t *batch, size_t batch_n, uint8_t *out,
+                    size_t out_n, uint64_t *written);
+
 #ifdef __cplusplus
 }
 #endif

@@ -123,6 +123,10 @@ pub fn broken_batches() -> Vec<Broken> {
     let empty = Batch { needed: nothing.clone(), learned: nothing, records: Vec::new(), ..sound_batch() };
     let turned = Batch { first: empty.last, last: empty.first, ..empty };
     all.push(("an empty span turned around".to_owned(), turned.bytes()));
+    // In a span of all ids, only their number is wrong.
+    let many = Store::filled(2, 3, 257);
+    let whole = Batch { learned: many.knowledge, records: many.records, ..Batch::whole(&Store::new(many.own)) };
+    all.push(("257 records of a whole store".to_owned(), whole.bytes()));
     all
 }
 

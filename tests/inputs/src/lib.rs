@@ -6,8 +6,10 @@
 mod batches;
 mod breaches;
 mod calls;
+mod changing;
 mod edits;
 mod families;
+mod full;
 mod instances;
 mod knowledge;
 mod limits;
@@ -25,6 +27,7 @@ mod writing;
 
 pub use batches::shapes as batch_shapes;
 pub use calls::{Call, faulty};
+pub use changing::Changing;
 pub use instances::{Instance, instances};
 pub use knowledge::{Field, Kind, Knowledge, Written, item_id, replica_id};
 pub use limits::{alike_but_for_the_last, backwards};
@@ -34,7 +37,7 @@ pub use plan::{CallInput, Input, Plan};
 pub use reading::Reading;
 pub use record::{LIVE, Record, TOMBSTONE, Version};
 pub use replication::ALL;
-pub use rows::{Lookups, Readings, Row, Writings};
+pub use rows::{Changings, Lookups, Readings, Row, Writings};
 pub use splitmix::SplitMix64;
 pub use store::{Batch, Store};
 pub use stores::shapes as store_shapes;

@@ -140,7 +140,7 @@ mod tests {
     use std::hash::{DefaultHasher, Hash, Hasher};
 
     use super::*;
-    use crate::rows::{Lookups, Readings, Writings};
+    use crate::rows::{Changings, Lookups, Readings, Writings};
 
     #[test]
     fn the_usual_run_has_all_fixed_inputs() {
@@ -163,6 +163,7 @@ mod tests {
         has_all::<Lookups>(Plan::USUAL);
         has_all::<Writings>(Plan::USUAL);
         has_all::<Readings>(Plan::USUAL.on_stores());
+        has_all::<Changings>(Plan::USUAL.on_stores());
     }
 
     #[test]
@@ -184,6 +185,7 @@ mod tests {
             assert_same_again::<Lookups>(inputs);
             assert_same_again::<Writings>(inputs);
             assert_same_again::<Readings>(inputs);
+            assert_same_again::<Changings>(inputs);
         }
     }
 

@@ -30,7 +30,7 @@ impl<E, V: FnMut(&'static str, Reading) -> Result<(), E>> Visit<E> for V {}
 
 /// The calls that are the same in every run.
 pub fn fixed<E>(visit: &mut impl Visit<E>) -> Result<(), E> {
-    ties(visit)?;
+    ties(&mut |store: &[u8], batch: &[u8], item: &ItemId| visit("ties", Reading::Winner { store, batch, item }))?;
     walks(visit)?;
     lengths(visit)?;
     faults(visit)?;
@@ -120,8 +120,8 @@ fn every_shape<E>(visit: &mut impl Visit<E>) -> Result<(), E> {
     Ok(())
 }
 
-/// One item's records on both sides, with ticks and replicas in every order.
-fn ties<E>(visit: &mut impl Visit<E>) -> Result<(), E> {
+/// Hands out stores and batches with a record of one item on both sides, with ticks and replicas in every order.
+pub fn ties<E>(visit: &mut impl FnMut(&[u8], &[u8], &ItemId) -> Result<(), E>) -> Result<(), E> {
     const TICKS: [u64; 5] = [1, 2, 256, 1 << 32, i64::MAX as u64];
     let mut first_byte = [[7; 16]; 2];
     first_byte[1][0] = 8;
@@ -141,7 +141,7 @@ fn ties<E>(visit: &mut impl Visit<E>) -> Result<(), E> {
             for other in versions() {
                 let records = vec![Record { change: other, ..record(2) }];
                 let batch = Batch { records, ..Batch::whole(&store) };
-                visit("ties", Reading::Winner { store: &store.bytes(), batch: &batch.bytes(), item: &item })?;
+                visit(&store.bytes(), &batch.bytes(), &item)?;
             }
         }
     }

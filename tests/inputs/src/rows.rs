@@ -4,6 +4,7 @@ use std::fmt::Debug;
 use std::hash::Hash;
 
 use crate::calls::{self, Call};
+use crate::changing::{self, Changing};
 use crate::reading::{self, Reading};
 use crate::writing::{self, Writing};
 
@@ -55,4 +56,8 @@ row!(
 row!(
     /// Those that read stores, batches and tables of records.
     Readings, Reading, reading
+);
+row!(
+    /// Those that write a store or a batch.
+    Changings, Changing, changing
 );

@@ -4,6 +4,7 @@
 
 mod buffer;
 pub mod calls;
+pub mod changing;
 pub mod compare;
 #[allow(unsafe_code)]
 pub mod engine;
@@ -16,3 +17,5 @@ pub mod reading;
 pub mod stand_in;
 mod tally;
 pub mod writing;
+#[cfg(test)]
+mod wrong;

@@ -5,3 +5,8 @@
 pub const READING: crate::stand_in::Reference = crate::stand_in::Reference;
 #[cfg(feature = "reading")]
 pub const READING: crate::engine::Linked = crate::engine::Linked;
+
+#[cfg(not(feature = "changing"))]
+pub const CHANGING: crate::stand_in::Reference = crate::stand_in::Reference;
+#[cfg(feature = "changing")]
+pub const CHANGING: crate::engine::Linked = crate::engine::Linked;

@@ -1,5 +1,6 @@
 //! The reference in the engine's place.
 
+use crate::changing;
 use crate::reading::{self, Found, found, part};
 
 /// An engine whose calls are those of the reference.
@@ -36,5 +37,32 @@ impl reading::Engine for Reference {
 
     fn walk(&self, table: &[u8], at: u64, length: &mut u64) -> u32 {
         set(Ok(reference::walk(table, at)), length)
+    }
+}
+
+/// Sets the length of what was written, or gives the number of the refusal.
+fn wrote(answer: Result<usize, u32>, written: &mut u64) -> u32 {
+    set(answer.map(|length| length as u64), written)
+}
+
+impl changing::Engine for Reference {
+    fn new_store(&self, own: &[u8], out: &mut [u8], written: &mut u64) -> u32 {
+        wrote(reference::new(own, out), written)
+    }
+
+    fn edit(&self, store: &[u8], item: &[u8], tag: &[u8], out: &mut [u8], written: &mut u64) -> u32 {
+        wrote(reference::edit(store, item, tag, out), written)
+    }
+
+    fn delete(&self, store: &[u8], item: &[u8], out: &mut [u8], written: &mut u64) -> u32 {
+        wrote(reference::delete(store, item, out), written)
+    }
+
+    fn make(&self, store: &[u8], knowledge: &[u8], span: [&[u8]; 2], out: &mut [u8], written: &mut u64) -> u32 {
+        wrote(reference::make(store, knowledge, span[0], span[1], out), written)
+    }
+
+    fn apply(&self, store: &[u8], batch: &[u8], out: &mut [u8], written: &mut u64) -> u32 {
+        wrote(reference::apply(store, batch, out), written)
     }
 }

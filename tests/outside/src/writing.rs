@@ -14,7 +14,7 @@ pub trait Engine {
     fn project(&self, knowledge: &[u8], span: [&[u8]; 2], out: &mut [u8], written: &mut u64) -> u32;
 }
 
-const WRITTEN: &str = "written";
+pub const WRITTEN: &str = "written";
 
 const ENDS: [Ends; 3] = [
     Ends { call: "normalise", answers: &[WRITTEN], knowledges: 1, ids: false, others: &[12, 14] },
@@ -73,7 +73,7 @@ fn compare(
 }
 
 /// The answer of a call whose result stands at the front of a long buffer, and the length of the buffer that it is given.
-fn in_room(result: Result<usize, u32>, longest: &[u8], room: Room) -> (Result<&[u8], u32>, usize) {
+pub fn in_room(result: Result<usize, u32>, longest: &[u8], room: Room) -> (Result<&[u8], u32>, usize) {
     let room = room.length(result.ok());
     let answer = match result {
         Ok(length) if room < length => Err(reference::refusal::BUFFER),

@@ -54,3 +54,13 @@ fn engine_and_reference_agree_on_the_calls_that_read_stores() {
         Err(error) => panic!("{error}"),
     }
 }
+
+#[test]
+fn engine_and_reference_agree_on_the_calls_that_write_stores() {
+    let plan = Plan::from_environment().on_stores();
+    println!("{} calls that write stores and batches from seed {}", plan.inputs, plan.seed);
+    match outside::changing::run(&plan, &linked::CHANGING) {
+        Ok(tally) => println!("{tally}"),
+        Err(error) => panic!("{error}"),
+    }
+}

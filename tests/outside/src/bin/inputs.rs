@@ -17,6 +17,7 @@ fn main() -> ExitCode {
     let passed = said(outside::writing::run(&plan, &engine::Linked)) && passed;
     let passed = said(outside::laws::run(&plan, &engine::Linked)) && passed;
     let passed = said(outside::reading::run(&plan.on_stores(), &linked::READING)) && passed;
+    let passed = said(outside::changing::run(&plan.on_stores(), &linked::CHANGING)) && passed;
     if passed { ExitCode::SUCCESS } else { ExitCode::FAILURE }
 }
 
