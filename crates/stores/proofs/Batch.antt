@@ -1,8 +1,9 @@
 -- What `open_batch` and the functions below it return, one law for each way that they go, as for a store in Store.antt. That learned
--- lies inside the span is that it knows nothing outside (`inside-ticks`), and in normal form that projecting leaves it as it is
+-- lies inside the span is that it knows nothing outside (`inside-opens`), and in normal form that projecting leaves it as it is
 -- (`unchanged-ticks`).
 use Prim.Native.Nat.{ℕ, _+_, _-_, _≤_, _<_}
 use mathlib.Core.Path.{_≡_, sym, ap, ap₂, _∙_}
+use mathlib.Core.Logic.{_↔_}
 use mathlib.Core.Bool.{Bool, true, false}
 use mathlib.Core.List.{List}
 use native.Mathlib.Omega.{arith}
@@ -28,18 +29,17 @@ use Rattle.replication.specs.MethodOpening.{isAccepted, neededRead, learnedRead
 use Rattle.replication.proofs.PartBytes.{part-length}
 use Rattle.replication.proofs.OpeningBatch.{BatchTests, tests-batch, no-batch, NothingOutside, unchanged-ticks}
 use Rattle.lookup.specs.declared.Cursor.{Cursor}
-use Rattle.lookup.specs.Method.{startAt, openOf}
+use Rattle.lookup.specs.Method.{openOf}
 use Rattle.ranges.specs.Method.{insideOf}
-use Rattle.ranges.proofs.Outside.{inside-ticks}
+use Rattle.ranges.proofs.Outside.{inside-opens}
 use Rattle.stores.specs.declared.KnowledgePart.{KnowledgePart}
-use Rattle.stores.specs.declared.Sizes.{Sizes}
-use Rattle.stores.specs.declared.Sizes.the-variants as Z
+use Rattle.stores.specs.declared.Normality.{Normality}
+use Rattle.stores.specs.declared.Normality.the-variants as N
 use Rattle.stores.specs.declared.OpenedBatch.the-variants as B
-use Rattle.stores.specs.Method.{knowledgePart, NormalOf, SizesOf, PartOf, neededPart, learnedPart}
+use Rattle.stores.specs.Method.{knowledgePart, NormalOf, NormalityOf, neededPart, learnedPart}
 use Rattle.stores.specs.Method.{batchFrom, batchOpened, BatchHeader}
 use Rattle.stores.proofs.Opened.{if-batch, if-not, from-both}
-use Rattle.stores.proofs.Normality.{normal-reading, normal-accepted, normal-read}
-use Rattle.stores.proofs.Store.{open-sizes}
+use Rattle.stores.proofs.Judged.{normal-accepted, normal-read, normal-opened}
 use Rattle.stores.proofs.Carried.{carried-contained, carried-lacking, carried-all}
 
 -- ---- the two answers
@@ -158,29 +158,29 @@ module _ (a b m : ℕ) (s k l : List ℕ) (n : ℕ) (h : BatchHeader s k l n) (f
   read-learned : parse (anyId L) l ≡ learnedRead L s
   read-learned = ap (parse (anyId L)) (h .learned)
 
-  pub batch-needed : (z : Sizes) → SizesOf L k z → z ≡ Z.Other → B.NotValid ≡ batchOpened L s
+  pub batch-needed : (z : Normality) → NormalityOf L k z → z ≡ N.Other → B.NotValid ≡ batchOpened L s
   batch-needed z f e =
       batch-not L s
       (λ t. f .other e (ap (λ (x : Parsed Knowledge). isAccepted x) read-needed ∙ t .neededAccepted)
       (ap (λ (x : Parsed Knowledge). isNormal (readAs x)) read-needed ∙ t .neededNormal))
 
-  pub batch-learned : (z : Sizes) → SizesOf L l z → z ≡ Z.Other → B.NotValid ≡ batchOpened L s
+  pub batch-learned : (z : Normality) → NormalityOf L l z → z ≡ N.Other → B.NotValid ≡ batchOpened L s
   batch-learned z f e =
       batch-not L s
       (λ t. f .other e (ap (λ (x : Parsed Knowledge). isAccepted x) read-learned ∙ t .learnedAccepted)
       (ap (λ (x : Parsed Knowledge). isNormal (readAs x)) read-learned ∙ t .learnedNormal))
 
-  module _ (p : KnowledgePart) (o : PartOf a b k p) (r v e g : ℕ) (q : NormalOf L l r v e g) (d : Cursor) (start : d ≡ startAt r v e g)
-      (t : Bool) (is : t ≡ insideOf l d (firstId s) (lastId s)) where
+  module _ (p d : KnowledgePart) (o : NormalOf L k p) (q : NormalOf L l d) (t : Bool)
+      (is : t ≡ insideOf l (d .start) (firstId s) (lastId s)) where
     needed-is : readAs (neededRead L s) ≡ decode k
     needed-is =
-        ap (λ (x : Parsed Knowledge). readAs x) (sym read-needed) ∙ normal-read L k (p .r) (o .v) (o .e) (o .g) (o .normal m)
+        ap (λ (x : Parsed Knowledge). readAs x) (sym read-needed) ∙ normal-read L k p o
 
     learned-is : readAs (learnedRead L s) ≡ decode l
-    learned-is = ap (λ (x : Parsed Knowledge). readAs x) (sym read-learned) ∙ normal-read L l r v e g q
+    learned-is = ap (λ (x : Parsed Knowledge). readAs x) (sym read-learned) ∙ normal-read L l d q
 
-    inside-is : t ≡ insideOf l (startAt r v e g) (firstId s) (lastId s)
-    inside-is = is ∙ ap (λ (x : Cursor). insideOf l x (firstId s) (lastId s)) start
+    inside-is : (insideOf l (d .start) (firstId s) (lastId s) ≡ true) ↔ NothingOutside (firstId s) (lastId s) (decode l)
+    inside-is = inside-opens (anyId L) l (d .r) (d .start) (q .opens) (firstId s) (lastId s) (q .normal)
 
     pub batch-outside : t ≡ false → B.NotValid ≡ batchOpened L s
     batch-outside u =
@@ -188,16 +188,13 @@ module _ (a b m : ℕ) (s k l : List ℕ) (n : ℕ) (h : BatchHeader s k l n) (f
         (λ x.
         let y = ap (unchanged (firstId s) (lastId s)) (sym learned-is) ∙ x .projected in
         let none = unchanged-ticks (firstId s) (lastId s) (decode l) (q .normal) .0 y in
-        let w = inside-ticks (anyId L) l r v e g (normal-reading L l r v e g q) (firstId s) (lastId s) (q .normal) .1 none in
-        let j = inside-is in
+        let w = inside-is .1 none in
         let z : _≡_ {A = ℕ} 0 1 = cc in
         omega arith)
 
     module _ (u : t ≡ true) where
       none-outside : NothingOutside (firstId s) (lastId s) (decode l)
-      none-outside =
-          inside-ticks (anyId L) l r v e g (normal-reading L l r v e g q) (firstId s) (lastId s) (q .normal) .0
-          (sym inside-is ∙ u)
+      none-outside = inside-is .0 (sym is ∙ u)
 
       same-unchanged : unchanged (firstId s) (lastId s) (readAs (learnedRead L s)) ≡ true
       same-unchanged =
@@ -243,9 +240,9 @@ module _ (a b m : ℕ) (s k l : List ℕ) (n : ℕ) (h : BatchHeader s k l n) (f
             ordered = h .ordered;
             neededAccepted =
                 ap (λ (x : Parsed Knowledge). isAccepted x) (sym read-needed)
-                ∙ normal-accepted L k (p .r) (o .v) (o .e) (o .g) (o .normal m);
-            neededNormal = ap isNormal needed-is ∙ o .normal m .normal;
-            learnedAccepted = ap (λ (x : Parsed Knowledge). isAccepted x) (sym read-learned) ∙ normal-accepted L l r v e g q;
+                ∙ normal-accepted L k p o;
+            neededNormal = ap isNormal needed-is ∙ o .normal;
+            learnedAccepted = ap (λ (x : Parsed Knowledge). isAccepted x) (sym read-learned) ∙ normal-accepted L l d q;
             learnedNormal = ap isNormal learned-is ∙ q .normal;
             projected = same-unchanged;
             carries =
@@ -253,16 +250,16 @@ module _ (a b m : ℕ) (s k l : List ℕ) (n : ℕ) (h : BatchHeader s k l n) (f
                 (sym contained-is ∙ c) (sym lacking-is ∙ f);
           }
 
-          pub batch-valid : y ≡ true → B.Valid p (knowledgePart (length l) r d) n ≡ batchOpened L s
+          pub batch-valid : y ≡ true → B.Valid p d n ≡ batchOpened L s
           batch-valid f =
-              let size : p .length ≡ neededLength s = o .length ∙ needed-length s k l n h in
-              let needed : p ≡ knowledgePart (neededLength s) (p .r) (p .start) = λ i. knowledgePart (size i) (p .r) (p .start) in
-              ap₂ (λ (x : KnowledgePart) (c : ℕ). B.Valid x (knowledgePart (length l) r d) c) needed (h .count)
-              ∙ ap (λ (j : ℕ). B.Valid (knowledgePart (neededLength s) (p .r) (p .start)) (knowledgePart j r d) (batchCount s))
-              (learned-length s k l n h)
+              let one : p .length ≡ neededLength s = o .length ∙ needed-length s k l n h in
+              let two : d .length ≡ learnedLength s = q .length ∙ learned-length s k l n h in
+              let needed : p ≡ knowledgePart (neededLength s) (p .r) (p .start) = λ i. knowledgePart (one i) (p .r) (p .start) in
+              let learned : d ≡ knowledgePart (learnedLength s) (d .r) (d .start) = λ i. knowledgePart (two i) (d .r) (d .start) in
+              ap₂ (λ (x : KnowledgePart) (c : ℕ). B.Valid x d c) needed (h .count)
+              ∙ ap (λ (x : KnowledgePart). B.Valid (knowledgePart (neededLength s) (p .r) (p .start)) x (batchCount s)) learned
               ∙ sym (batch-is L s (tests f)
               ∙ ap₂ (batchFrom s)
-              (ap (λ (x : List ℕ). openOf (checkedBy (anyId L) x)) (sym (h .needed))
-              ∙ open-sizes L k (p .r) (o .v) (o .e) (o .g) (o .normal m) (p .start) (o .start))
-              (ap (λ (x : List ℕ). openOf (checkedBy (anyId L) x)) (sym (h .learned)) ∙ open-sizes L l r v e g q d start)
-              ∙ from-both s (p .r) (p .start) r d)
+              (ap (λ (x : List ℕ). openOf (checkedBy (anyId L) x)) (sym (h .needed)) ∙ normal-opened L k p o)
+              (ap (λ (x : List ℕ). openOf (checkedBy (anyId L) x)) (sym (h .learned)) ∙ normal-opened L l d q)
+              ∙ from-both s (p .r) (p .start) (d .r) (d .start))

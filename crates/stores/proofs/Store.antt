@@ -14,7 +14,6 @@ use Rattle.layout.specs.Knowledge.{Limits, anyId, Knowledge}
 use Rattle.layout.specs.Permitted.{largestRecords, within}
 use Rattle.layout.specs.Decode.{decode}
 use Rattle.layout.specs.Parse.{checkedBy, parse}
-use Rattle.layout.proofs.Places.{places}
 use Rattle.ticks.specs.Written.{isNormal}
 use Rattle.ticks.specs.Operations.{ownAlike}
 use Rattle.ticks.specs.Calls.{readAs}
@@ -24,18 +23,16 @@ use Rattle.replication.specs.MethodRecords.{recordsAt, shapedAt, each}
 use Rattle.replication.specs.MethodOpening.{isAccepted, storeRead}
 use Rattle.replication.proofs.PartBytes.{part-length}
 use Rattle.replication.proofs.OpeningStore.{StoreTests, tests-store, no-store}
-use Rattle.lookup.specs.declared.Cursor.{Cursor}
-use Rattle.lookup.specs.declared.Opened.the-variants as O
-use Rattle.lookup.specs.Method.{startAt, inFour, openOf}
-use Rattle.lookup.proofs.Calls.{opened-at}
+use Rattle.lookup.specs.Method.{openOf}
 use Rattle.ranges.specs.Method.{alikeIn}
 use Rattle.ranges.proofs.Ranges.{alike-in}
-use Rattle.stores.specs.declared.Sizes.{Sizes}
-use Rattle.stores.specs.declared.Sizes.the-variants as Z
+use Rattle.stores.specs.declared.KnowledgePart.{KnowledgePart}
+use Rattle.stores.specs.declared.Normality.{Normality}
+use Rattle.stores.specs.declared.Normality.the-variants as N
 use Rattle.stores.specs.declared.OpenedStore.the-variants as S
-use Rattle.stores.specs.Method.{knowledgePart, NormalOf, SizesOf, ownPart, storeFrom, storeOpened, StoreHeader}
+use Rattle.stores.specs.Method.{knowledgePart, NormalOf, NormalityOf, ownPart, storeFrom, storeOpened, StoreHeader}
 use Rattle.stores.proofs.Opened.{if-true, if-false, from-at}
-use Rattle.stores.proofs.Normality.{normal-reading, normal-accepted, normal-read}
+use Rattle.stores.proofs.Judged.{normal-accepted, normal-read, normal-opened}
 
 -- ---- the two answers
 
@@ -46,18 +43,6 @@ store-not L s n = sym (if-false _ _ (no-store L s n))
 store-is : (L : Limits) (s : List ℕ) → StoreTests L s → storeOpened L s ≡ storeFrom s (openOf (checkedBy (anyId L) (ownPart s)))
 unfolding storeOpened
 store-is L s t = if-true _ _ (tests-store L s t)
-
--- the sizes of accepted bytes fit their fields
-pub open-sizes : (L : Limits) (k : List ℕ) (r v e g : ℕ) → NormalOf L k r v e g → (c : Cursor) → c ≡ startAt r v e g
-    → openOf (checkedBy (anyId L) k) ≡ O.At r c
-open-sizes L k r v e g q c is =
-    let p = places (anyId L) k r v e g (normal-reading L k r v e g q) in
-    let er : inFour r ≡ r = omega (arith, p .whole, p .small) in
-    let ev : inFour v ≡ v = omega (arith, p .whole, p .small) in
-    let ee : inFour e ≡ e = omega (arith, p .whole, p .small) in
-    let eg : inFour g ≡ g = omega (arith, p .whole, p .small) in
-    let f : c ≡ startAt (inFour r) (inFour v) (inFour e) (inFour g) = is ∙ cc in
-    sym (opened-at (checkedBy (anyId L) k) r v e g c (q .accepts) f) ∙ ap (λ n. O.At n c) er
 
 -- ---- up to the knowledge
 
@@ -126,22 +111,22 @@ module _ (a b m : ℕ) (s k : List ℕ) (n : ℕ) (h : StoreHeader s k n) (few :
   read-part : parse (anyId L) k ≡ storeRead L s
   read-part = ap (parse (anyId L)) (h .part)
 
-  pub store-other : (z : Sizes) → SizesOf L k z → z ≡ Z.Other → S.NotValid ≡ storeOpened L s
+  pub store-other : (z : Normality) → NormalityOf L k z → z ≡ N.Other → S.NotValid ≡ storeOpened L s
   store-other z f e =
       store-not L s
-      (λ t. f .other e (ap (λ (p : Parsed Knowledge). isAccepted p) read-part ∙ t .accepts)
-      (ap (λ (p : Parsed Knowledge). isNormal (readAs p)) read-part ∙ t .normal))
+      (λ t. f .other e (ap (λ (x : Parsed Knowledge). isAccepted x) read-part ∙ t .accepts)
+      (ap (λ (x : Parsed Knowledge). isNormal (readAs x)) read-part ∙ t .normal))
 
-  module _ (r v e g : ℕ) (q : NormalOf L k r v e g) where
+  module _ (p : KnowledgePart) (q : NormalOf L k p) where
     knowledge-is : readAs (storeRead L s) ≡ decode k
-    knowledge-is = ap (λ (p : Parsed Knowledge). readAs p) (sym read-part) ∙ normal-read L k r v e g q
+    knowledge-is = ap (λ (x : Parsed Knowledge). readAs x) (sym read-part) ∙ normal-read L k p q
 
-    module _ (p0 p1 : ℕ) (e0 : p0 ≡ readAt s 8 1) (e1 : p1 ≡ readAt s 8 9) (t : Bool) (is : t ≡ alikeIn k r v e g (words2 p0 p1)) where
+    module _ (p0 p1 : ℕ) (e0 : p0 ≡ readAt s 8 1) (e1 : p1 ≡ readAt s 8 9) (t : Bool)
+        (is : t ≡ alikeIn k (p .r) (p .start) (words2 p0 p1)) where
       alike-is : ownAlike (ownId s) (readAs (storeRead L s)) ≡ t
       alike-is =
           let own : words2 p0 p1 ≡ ownId s = ap₂ words2 e0 e1 ∙ read-id2 s 1 (omega (arith, h .header)) in
-          ap₂ ownAlike (sym own) knowledge-is
-          ∙ sym (is ∙ alike-in (anyId L) k r v e g (normal-reading L k r v e g q) (words2 p0 p1))
+          ap₂ ownAlike (sym own) knowledge-is ∙ sym (is ∙ alike-in (anyId L) k (p .r) (p .start) (q .opens) (words2 p0 p1))
 
       pub store-unlike : t ≡ false → S.NotValid ≡ storeOpened L s
       store-unlike u =
@@ -164,15 +149,17 @@ module _ (a b m : ℕ) (s k : List ℕ) (n : ℕ) (h : StoreHeader s k n) (few :
           inside = h .inside;
           count = omega (arith, h .count, few);
           ordered = h .ordered;
-          accepts = ap (λ (p : Parsed Knowledge). isAccepted p) (sym read-part) ∙ normal-accepted L k r v e g q;
+          accepts = ap (λ (y : Parsed Knowledge). isAccepted y) (sym read-part) ∙ normal-accepted L k p q;
           normal = ap isNormal knowledge-is ∙ q .normal;
           alike = alike-is ∙ u;
           versions = versions-are ∙ f;
         }
 
-        pub store-valid : w ≡ true → (c : Cursor) → c ≡ startAt r v e g → S.Valid (knowledgePart (length k) r c) n ≡ storeOpened L s
-        store-valid f c d =
-            ap₂ (λ size count. S.Valid (knowledgePart size r c) count) (size-part s k n h) (h .count)
+        pub store-valid : w ≡ true → S.Valid p n ≡ storeOpened L s
+        store-valid f =
+            let size : p .length ≡ knowledgeLength s = q .length ∙ size-part s k n h in
+            let own : p ≡ knowledgePart (knowledgeLength s) (p .r) (p .start) = λ i. knowledgePart (size i) (p .r) (p .start) in
+            ap₂ (λ (y : KnowledgePart) (c : ℕ). S.Valid y c) own (h .count)
             ∙ sym (store-is L s (tests f)
-            ∙ ap (storeFrom s) (ap (λ (y : List ℕ). openOf (checkedBy (anyId L) y)) (sym (h .part)) ∙ open-sizes L k r v e g q c d)
-            ∙ from-at s r c)
+            ∙ ap (storeFrom s) (ap (λ (y : List ℕ). openOf (checkedBy (anyId L) y)) (sym (h .part)) ∙ normal-opened L k p q)
+            ∙ from-at s (p .r) (p .start))

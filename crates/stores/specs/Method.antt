@@ -3,9 +3,8 @@
 -- specs/OpenBatch.antt of `replication`.
 use Rattle.codec.specs.Prelude.{ℕ, _≤_, _≡_, Bool, true, false, List, length, take, drop}
 use Rattle.codec.specs.Number.{Bytes, beAt}
-use Rattle.layout.specs.declared.Checked.the-variants as A
 use Rattle.layout.specs.Knowledge.{Limits, anyId}
-use Rattle.layout.specs.Permitted.{Permitted, within}
+use Rattle.layout.specs.Permitted.{largestReplicas}
 use Rattle.layout.specs.Decode.{decode}
 use Rattle.layout.specs.Parse.{checkedBy, parse}
 use Rattle.ticks.specs.Written.{isNormal}
@@ -17,43 +16,34 @@ use Rattle.replication.specs.MethodOpening.{isAccepted, isStore, isBatch}
 use Rattle.lookup.specs.declared.Cursor.{Cursor}
 use Rattle.lookup.specs.declared.Opened.{Opened}
 use Rattle.lookup.specs.declared.Opened.the-variants as O
-use Rattle.lookup.specs.Method.{startAt, openOf}
+use Rattle.lookup.specs.Method.{openOf, Opens}
 use Rattle.stores.specs.declared.KnowledgePart.{KnowledgePart}
 use Rattle.stores.specs.declared.OpenedStore.{OpenedStore}
 use Rattle.stores.specs.declared.OpenedStore.the-variants as S
 use Rattle.stores.specs.declared.OpenedBatch.{OpenedBatch}
 use Rattle.stores.specs.declared.OpenedBatch.the-variants as B
-use Rattle.stores.specs.declared.Sizes.{Sizes}
-use Rattle.stores.specs.declared.Sizes.the-variants as Z
+use Rattle.stores.specs.declared.Normality.{Normality}
+use Rattle.stores.specs.declared.Normality.the-variants as N
 
 -- a knowledge of n bytes
 abbrev pub knowledgePart : ℕ → ℕ → Cursor → KnowledgePart
 knowledgePart n r c = record { length = n; r = r; start = c }
 
--- bytes that the check accepts with these sizes, in normal form
-pub record NormalOf (L : Limits) (k : List ℕ) (r v e g : ℕ) : Type 0 where
-  pub permitted : Permitted L
-  pub bytes : Bytes k
-  pub accepts : checkedBy (anyId L) k ≡ A.Accepted r v e g
+-- a knowledge in normal form that was opened for lookup, with no more replicas than scratch of the largest size has room for
+pub record NormalOf (L : Limits) (k : List ℕ) (p : KnowledgePart) : Type 0 where
+  pub opens : Opens (anyId L) k (p .r) (p .start)
   pub normal : isNormal (decode k) ≡ true
+  pub length : p .length ≡ length k
+  pub small : p .r ≤ largestReplicas
 
 -- bytes that the check does not accept, or that are not in normal form
 abbrev pub NotNormal : Limits → List ℕ → Type 0
 NotNormal L k = isAccepted (parse (anyId L) k) ≡ true → isNormal (readAs (parse (anyId L) k)) ≡ true → ⊥
 
 -- what the check of a knowledge and of its normal form came to
-pub record SizesOf (L : Limits) (k : List ℕ) (z : Sizes) : Type 0 where
-  pub normal : (r v e g : ℕ) → z ≡ Z.Normal r v e g → NormalOf L k r v e g
-  pub other : z ≡ Z.Other → NotNormal L k
-
--- a knowledge in normal form with its length, count of replicas and start, by whichever limit of records
-pub record PartOf (replicas ranges : ℕ) (k : List ℕ) (p : KnowledgePart) : Type 0 where
-  pub v : ℕ
-  pub e : ℕ
-  pub g : ℕ
-  pub normal : (n : ℕ) → NormalOf (within replicas ranges n) k (p .r) v e g
-  pub length : p .length ≡ length k
-  pub start : p .start ≡ startAt (p .r) v e g
+pub record NormalityOf (L : Limits) (k : List ℕ) (z : Normality) : Type 0 where
+  pub normal : (p : KnowledgePart) → z ≡ N.Normal p → NormalOf L k p
+  pub other : z ≡ N.Other → NotNormal L k
 
 -- ---- stores
 

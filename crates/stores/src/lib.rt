@@ -20,7 +20,7 @@ ghost use Rattle.replication.specs.OpenBatch.{firstId, lastId, batchNeeded, lac
 ghost use Rattle.replication.specs.MethodRecords.{recordsAt, shapedAt, each};
 ghost use Rattle.lookup.specs.Method.{Open};
 ghost use Rattle.ranges.specs.Method.{insideOf};
-ghost use Rattle.stores.specs.Method.{SizesOf, StoreHeader, storeOpened, PartOf, BatchHeader, batchOpened};
+ghost use Rattle.stores.specs.Method.{NormalOf, NormalityOf, StoreHeader, storeOpened, BatchHeader, batchOpened};
 
 // the places of a store's own id, of the knowledge's length, of the count of records, and of the knowledge
 const OWN: usize = 1;
@@ -70,29 +70,31 @@ pub enum OpenedBatch {
 }
 
 // What the check of a knowledge and of its normal form comes to.
-pub enum Sizes {
-    // in normal form: the replicas, the clock vectors, the elements of all vectors, the ranges
-    Normal { r: u32, v: u32, e: u32, g: u32 },
+pub enum Normality {
+    Normal { part: KnowledgePart },
     Other,
 }
 
 // ---- what stores and batches share
 
 // The check of a knowledge's bytes, and then of their normal form.
-fn normal_sizes(k: &[u8], replicas: u32, ranges: u32) -> Sizes
-    ensures { λ z. ⌜ ((n : ℕ) → SizesOf (within replicas ranges n) (now (k .entry)) z) ⌝ }
+fn normal_part(k: &[u8], replicas: u32, ranges: u32) -> Normality
+    ensures { λ z. ⌜ ((n : ℕ) → NormalityOf (within replicas ranges n) (now (k .entry)) z) ⌝ }
 {
     let Checked::Accepted { r, v, e, g } = reader::check_within(&k[..], replicas, ranges) else {
-        return Sizes::Other;
+        return Normality::Other;
     };
     let r = r as u32;
     let v = v as u32;
     let e = e as u32;
     let g = g as u32;
-    if normal::normal_in(k, r, v, e, g) {
-        return Sizes::Normal { r, v, e, g };
+    if normal::normal_in(k, r, v, e, g) {} else {
+        return Normality::Other;
     }
-    Sizes::Other
+    let length = k.len();
+    let start = lookup::start(r, v, e, g);
+    let part = KnowledgePart { length, r, start };
+    Normality::Normal { part }
 }
 
 // Does a knowledge contain the change and the create version of each of the n records from a place on.
@@ -140,20 +142,17 @@ fn store_from(s: &[u8], k: &[u8], count: u32, replicas: u32, ranges: u32) -> Ope
     requires { ⌜ StoreHeader (now s) (now k) count ⌝ }
     ensures { λ o. ⌜ ((m : ℕ) → count ≤ brought m largestRecords → o ≡ storeOpened (within replicas ranges m) (now (s .entry))) ⌝ }
 {
-    let Sizes::Normal { r, v, e, g } = normal_sizes(k, replicas, ranges) else {
+    let Normality::Normal { part: own } = normal_part(k, replicas, ranges) else {
         return OpenedStore::NotValid;
     };
     let p0 = codec::read8(s, OWN);
     let p1 = codec::read8(s, OWN + 8);
-    if ranges::own_alike(k, r, v, e, g, p0, p1) {} else {
+    if ranges::own_alike(k, own.r, own.start, p0, p1) {} else {
         return OpenedStore::NotValid;
     }
-    let start = lookup::start(r, v, e, g);
-    if each_contained(s, count, STORE_KNOWLEDGE + k.len(), k, r, start) {} else {
+    if each_contained(s, count, STORE_KNOWLEDGE + k.len(), k, own.r, own.start) {} else {
         return OpenedStore::NotValid;
     }
-    let length = k.len();
-    let own = KnowledgePart { length, r, start };
     OpenedStore::Valid { own, count }
 }
 
@@ -221,7 +220,7 @@ fn inside_span(s: &[u8], k: &[u8], start: Cursor) -> bool
     ranges::inside(k, start, f.high, f.middle, f.low, l.high, l.middle, l.low)
 }
 
-// The check of a batch from its learned knowledge l on, with the needed knowledge k and its sizes, and the count of records. A record
+// The check of a batch from its learned knowledge l on, with the needed knowledge k, its sizes, and the count of records. A record
 // whose change version is contained in learned has its item inside the span, as learned has.
 fn batch_learned(
     s: &[u8],
@@ -232,25 +231,23 @@ fn batch_learned(
     replicas: u32,
     ranges: u32,
 ) -> OpenedBatch
-    requires { ⌜ (BatchHeader (now s) (now k) (now l) count) × (PartOf replicas ranges (now k) needed) ⌝ }
+    requires { ⌜ (BatchHeader (now s) (now k) (now l) count)
+        × ((n : ℕ) → NormalOf (within replicas ranges n) (now k) needed) ⌝ }
     ensures { λ o. ⌜ ((m : ℕ) → count ≤ brought m largestRecords → o ≡ batchOpened (within replicas ranges m) (now (s .entry))) ⌝ }
 {
-    let Sizes::Normal { r, v, e, g } = normal_sizes(l, replicas, ranges) else {
+    let Normality::Normal { part: learned } = normal_part(l, replicas, ranges) else {
         return OpenedBatch::NotValid;
     };
-    let start = lookup::start(r, v, e, g);
-    if inside_span(s, l, start) {} else {
+    if inside_span(s, l, learned.start) {} else {
         return OpenedBatch::NotValid;
     }
     let at = BATCH_NEEDED + k.len() + l.len();
-    if each_contained(s, count, at, l, r, start) {} else {
+    if each_contained(s, count, at, l, learned.r, learned.start) {} else {
         return OpenedBatch::NotValid;
     }
     if each_lacking(s, count, at, k, needed.r, needed.start) {} else {
         return OpenedBatch::NotValid;
     }
-    let length = l.len();
-    let learned = KnowledgePart { length, r, start };
     OpenedBatch::Valid {
         needed,
         learned,
@@ -263,12 +260,9 @@ fn batch_needed(s: &[u8], k: &[u8], l: &[u8], count: u32, replicas: u32, ranges:
     requires { ⌜ BatchHeader (now s) (now k) (now l) count ⌝ }
     ensures { λ o. ⌜ ((m : ℕ) → count ≤ brought m largestRecords → o ≡ batchOpened (within replicas ranges m) (now (s .entry))) ⌝ }
 {
-    let Sizes::Normal { r, v, e, g } = normal_sizes(k, replicas, ranges) else {
+    let Normality::Normal { part: needed } = normal_part(k, replicas, ranges) else {
         return OpenedBatch::NotValid;
     };
-    let length = k.len();
-    let start = lookup::start(r, v, e, g);
-    let needed = KnowledgePart { length, r, start };
     batch_learned(s, k, needed, l, count, replicas, ranges)
 }
 
