@@ -24,8 +24,8 @@ extern "C" {
  * The numbers of the refusals. A knowledge is read from left to right, and the number is that of the first field with a
  * fault. Each id, count, key, tick, bound and index is a field of its own.
  *
- * Where several inputs have a fault, the first knowledge comes before the second, and knowledge before ids. Inputs come
- * before the result. Each function says which numbers it returns.
+ * Where several inputs have a fault, the first knowledge comes before the second, a store before a batch or a knowledge, and all of these
+ * before ids. Inputs come before the result. Each function says which numbers it returns.
  */
 enum sync_refusal {
     /* The bytes end inside the field. At a field this comes before any other number. */
@@ -126,7 +126,7 @@ uint32_t sync_cover(const uint8_t *first_knowledge, size_t first_knowledge_n, co
                     uint32_t *covers);
 
 /*
- * The functions below write a knowledge in normal form to the front of a buffer: out, which has out_n bytes. The bytes of
+ * The next functions write a knowledge in normal form to the front of a buffer: out, which has out_n bytes. The bytes of
  * the buffer behind the result stay as they were. No result has over 14,933 bytes.
  */
 
@@ -163,6 +163,133 @@ uint32_t sync_merge(const uint8_t *first, size_t first_n, const uint8_t *second,
  */
 uint32_t sync_project(const uint8_t *knowledge, size_t knowledge_n, const uint8_t *first, size_t first_n,
                       const uint8_t *last, size_t last_n, uint8_t *out, size_t out_n, uint64_t *written);
+
+/*
+ * Stores, batches and records. A store is what a replica holds: its knowledge and a record for each item. A batch is what one replica
+ * hands to others: a part of its knowledge, what a replica must know already to take it, and records. A record is live or a
+ * tombstone, and has 89 bytes.
+ *
+ * A part of an input is given by its place, counted from the input's first byte, and its length. Nothing is copied.
+ */
+
+/*
+ * Finds the record that an item has in a store, or would have after a batch: of the two records the one with the greater change tick, then
+ * with the greater change replica, and the store's where both are equal. An item id has 24 bytes.
+ *
+ * Returns 0 and sets
+ *   *side to 1 where the record is the store's, to 2 where it is the batch's, and to 0 where neither has one,
+ *   *at to its place in the store or the batch, and *length to its length; both to 0 where neither has one.
+ *
+ * Else returns the number of the refusal, 15 for the store, then 16 for the batch, then 17 for the id, and leaves *side, *at and *length as
+ * they were.
+ */
+uint32_t sync_winner(const uint8_t *store, size_t store_n, const uint8_t *batch, size_t batch_n, const uint8_t *item,
+                     size_t item_n, uint32_t *side, uint64_t *at, uint64_t *length);
+
+/*
+ * Finds the learned knowledge of a batch: what its maker knew in the span.
+ *
+ * Returns 0 and sets *at to its place in the batch and *length to its length.
+ *
+ * Else returns 16 and leaves *at and *length as they were.
+ */
+uint32_t sync_learned(const uint8_t *batch, size_t batch_n, uint64_t *at, uint64_t *length);
+
+/*
+ * Says how much of a store a knowledge contains.
+ *
+ * Returns 0 and sets
+ *   *contained to the count of records whose change version the knowledge contains,
+ *   *all to the count of all records, tombstones too,
+ *   *thousandths to 1000 times the first by the second, rounded down, and to 1000 where there are no records.
+ *
+ * Else returns the number of the refusal, 15 for the store and then 1 to 10 for the knowledge, and leaves *contained, *all and
+ * *thousandths as they were.
+ */
+uint32_t sync_coverage(const uint8_t *store, size_t store_n, const uint8_t *knowledge, size_t knowledge_n,
+                       uint64_t *contained, uint64_t *all, uint64_t *thousandths);
+
+/*
+ * Finds the knowledge of a store: what a replica tells another to be made a batch.
+ *
+ * Returns 0 and sets *at to its place in the store and *length to its length.
+ *
+ * Else returns 15 and leaves *at and *length as they were.
+ */
+uint32_t sync_knowledge(const uint8_t *store, size_t store_n, uint64_t *at, uint64_t *length);
+
+/*
+ * Looks at a place of a table of records, which are live or tombstones. To go through the table, start at 0 and add each length.
+ *
+ * Returns 0 always, and sets *length to the length of the record at the place; to 0 where no whole record follows there, also where the
+ * place is beyond the table. Of the record only kind and length are looked at.
+ */
+uint32_t sync_walk(const uint8_t *table, size_t table_n, uint64_t at, uint64_t *length);
+
+/*
+ * The functions below write a store or a batch to the front of a buffer: out, which has out_n bytes. The bytes of the buffer behind the
+ * result stay as they were. No store has over 37,742 bytes, and no batch over 52,711. A store is never changed where it lies: the result
+ * takes its place once the caller has kept it.
+ */
+
+/*
+ * Writes the store of a replica that has seen nothing, of 138 bytes. A replica id has 16 bytes, and no two replicas have the same.
+ *
+ * Returns 0 and sets *written to the length of the result.
+ *
+ * Else returns the number of the refusal, 17 for the id and then 14 for the result, and leaves out and *written as they were.
+ */
+uint32_t sync_new(const uint8_t *own, size_t own_n, uint8_t *out, size_t out_n, uint64_t *written);
+
+/*
+ * Edits an item: writes the store in which it has a live record with the given tag, made by the store's own replica at a tick of 1 more
+ * than any that the store knows. An item that has a record keeps its create version, also where that is a tombstone. An item id has 24
+ * bytes and a tag 16.
+ *
+ * Returns 0 and sets *written to the length of the result.
+ *
+ * Else returns the number of the refusal, 15 for the store, then 17 for id and tag, then 20, then 11, 13 and 14 for the result, in this
+ * order, and leaves out and *written as they were.
+ */
+uint32_t sync_edit(const uint8_t *store, size_t store_n, const uint8_t *item, size_t item_n, const uint8_t *tag,
+                   size_t tag_n, uint8_t *out, size_t out_n, uint64_t *written);
+
+/*
+ * Deletes an item: writes the store in which its record is a tombstone, made like an edit. An item id has 24 bytes.
+ *
+ * Returns 0 and sets *written to the length of the result.
+ *
+ * Else returns the number of the refusal, 15 for the store, then 17 for the id, then 19, 20, then 11 and 14 for the result, in this order,
+ * and leaves out and *written as they were.
+ */
+uint32_t sync_delete(const uint8_t *store, size_t store_n, const uint8_t *item, size_t item_n, uint8_t *out,
+                     size_t out_n, uint64_t *written);
+
+/*
+ * Makes a batch for a replica with a given knowledge: what the store knows in a span of item ids, from the first id to the last, both
+ * included, and the records there whose change version the given knowledge lacks. A replica takes it only if it knows in the span
+ * what was given here. An item id has 24 bytes.
+ *
+ * Returns 0 and sets *written to the length of the result.
+ *
+ * Else returns the number of the refusal, 15 for the store, then 1 to 10 for the knowledge, then 17 for the ids, also where the first id is
+ * above the last, then 12 and 14 for the result, and leaves out and *written as they were.
+ */
+uint32_t sync_make(const uint8_t *store, size_t store_n, const uint8_t *knowledge, size_t knowledge_n,
+                   const uint8_t *first, size_t first_n, const uint8_t *last, size_t last_n, uint8_t *out, size_t out_n,
+                   uint64_t *written);
+
+/*
+ * Applies a batch: writes the store that has, of each item, the record that sync_winner finds, and whose knowledge is merged with what
+ * the batch has learned.
+ *
+ * Returns 0 and sets *written to the length of the result.
+ *
+ * Else returns the number of the refusal, 15 for the store, then 16 for the batch, then 18, then 11, 12, 13 and 14 for the result, in this
+ * order, and leaves out and *written as they were. A batch that is refused with 18 may be taken later.
+ */
+uint32_t sync_apply(const uint8_t *store, size_t store_n, const uint8_t *batch, size_t batch_n, uint8_t *out,
+                    size_t out_n, uint64_t *written);
 
 #ifdef __cplusplus
 }

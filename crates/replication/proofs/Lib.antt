@@ -55,3 +55,4 @@ pub mod Runner
 pub mod RecordsInBytes
 pub mod RecordsTable
 pub mod Enough
+pub mod CallSteps

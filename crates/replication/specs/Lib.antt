@@ -12,6 +12,7 @@ pub mod Room
 pub mod MethodOpening
 pub mod Operate
 pub mod Calls
+pub mod MethodReplies
 pub mod Queries
 pub mod MethodTable
 pub mod MethodRecords

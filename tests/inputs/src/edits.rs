@@ -9,7 +9,8 @@ pub fn boundary_values(written: &Written, at: usize) -> Vec<Vec<u8>> {
     let field = written.fields[at];
     let own = written.value(field);
     let mut values = match field.kind {
-        Kind::ReplicaId | Kind::Bound => ids(written, at),
+        Kind::ReplicaId | Kind::Bound | Kind::Item | Kind::SpanEnd => ids(written, at),
+        Kind::Own | Kind::VersionReplica | Kind::Tag => ids(written, at),
         _ => numbers(written, field),
     };
     for place in 0..own.len() {
@@ -29,6 +30,9 @@ pub fn boundary_values(written: &Written, at: usize) -> Vec<Vec<u8>> {
 fn numbers(written: &Written, field: Field) -> Vec<Vec<u8>> {
     let own = written.value(field).iter().fold(0, |number: u64, byte| (number << 8) | u64::from(*byte));
     let mut numbers = vec![2, 15, 16, 17, 63, 64, 65, 66];
+    if field.kind == Kind::RecordCount {
+        numbers.extend([255, 256, 257]);
+    }
     numbers.extend([8, 16, 32].map(|bits| own.wrapping_add(1 << bits)));
     let counts = [Kind::ReplicaCount, Kind::VectorCount, Kind::RangeCount].map(|kind| count(written, kind));
     let edges = [own, 1 << 16, 1 << 31, 1 << 32, 1 << 63, 0];
@@ -59,6 +63,9 @@ fn ids(written: &Written, at: usize) -> Vec<Vec<u8>> {
     let mut chosen = vec![written.value(field)];
     if field.kind == Kind::ReplicaId {
         chosen.extend(&others);
+    } else if [Kind::Own, Kind::VersionReplica].contains(&field.kind) {
+        let replicas = written.fields.iter().filter(|other| other.kind == Kind::ReplicaId);
+        chosen.extend(replicas.map(|other| written.value(*other)));
     } else {
         chosen.extend(others.first());
         chosen.extend(others.last());

@@ -28,6 +28,19 @@ pub enum Kind {
     RangeCount,
     Bound,
     Index,
+    // Those of a store or batch.
+    /// The kind of a store or batch.
+    Opening,
+    Own,
+    SpanEnd,
+    /// The length of a knowledge.
+    Length,
+    RecordCount,
+    RecordKind,
+    Item,
+    VersionReplica,
+    VersionTick,
+    Tag,
 }
 
 /// A field of written bytes.
@@ -58,6 +71,9 @@ pub fn item_id(number: u128) -> [u8; 24] {
 }
 
 impl Knowledge {
+    /// The length of the longest knowledge.
+    pub const LONGEST: usize = 14_933;
+
     /// No replicas, the empty vector, one range from the first item id on.
     pub fn smallest() -> Self {
         Self::filled(0, 1, 1)
@@ -138,33 +154,50 @@ impl Knowledge {
 
     /// What the bytes of a knowledge without fault say.
     pub fn decoded(bytes: &[u8]) -> Self {
+        Self::read(bytes).expect("the knowledge is without fault")
+    }
+
+    /// What bytes in normal form say; none where they are not a knowledge in normal form within the limits.
+    pub fn in_normal_form(bytes: &[u8]) -> Option<Self> {
+        let knowledge = Self::read(bytes)?;
+        let (r, v) = (knowledge.replicas.len() as u32, knowledge.vectors.len() as u32);
+        let counts = r <= 16 && (1..=65).contains(&v) && (1..=64).contains(&knowledge.ranges.len());
+        let mut elements = knowledge.vectors.iter().flatten();
+        let within = counts
+            && elements.all(|(key, tick)| *key < r && *tick <= i64::MAX as u64)
+            && knowledge.ranges.iter().all(|(_, index)| *index < v);
+        (within && knowledge.bytes() == bytes && knowledge.is_normal()).then_some(knowledge)
+    }
+
+    /// Reads what is not fixed; none where the bytes end before.
+    fn read(bytes: &[u8]) -> Option<Self> {
         let mut rest = bytes;
         let mut take = |n| {
-            let (field, behind) = rest.split_at(n);
+            let (field, behind) = rest.split_at_checked(n)?;
             rest = behind;
-            field.iter().fold(0, |number: u128, byte| (number << 8) | u128::from(*byte))
+            Some(field.iter().fold(0, |number: u128, byte| (number << 8) | u128::from(*byte)))
         };
-        take(16 + 7);
-        let r = take(4);
-        let replicas = (0..r).map(|_| replica_id(take(16))).collect();
-        take(13 + 4);
-        let v = take(4);
+        take(16 + 7)?;
+        let r = take(4)?;
+        let replicas = (0..r).map(|_| take(16).map(replica_id)).collect::<Option<_>>()?;
+        take(13 + 4)?;
+        let v = take(4)?;
         let mut vector = |_| {
-            take(4);
-            let n = take(4);
-            (0..n).map(|_| (take(4) as u32, take(8) as u64)).collect()
+            take(4)?;
+            let n = take(4)?;
+            (0..n).map(|_| Some((take(4)? as u32, take(8)? as u64))).collect()
         };
-        let vectors = (0..v).map(&mut vector).collect();
-        take(12);
-        let g = take(4);
+        let vectors = (0..v).map(&mut vector).collect::<Option<_>>()?;
+        take(12)?;
+        let g = take(4)?;
         let mut range = |_| {
-            let (high, low) = (take(8) as u64, take(16));
+            let (high, low) = (take(8)? as u64, take(16)?);
             let mut bound = item_id(low);
             bound[..8].copy_from_slice(&high.to_be_bytes());
-            (bound, take(4) as u32)
+            Some((bound, take(4)? as u32))
         };
-        let ranges = (0..g).map(&mut range).collect();
-        Self { replicas, vectors, ranges }
+        let ranges = (0..g).map(&mut range).collect::<Option<_>>()?;
+        Some(Self { replicas, vectors, ranges })
     }
 
     pub fn bytes(&self) -> Vec<u8> {
@@ -214,12 +247,12 @@ impl Knowledge {
 }
 
 impl Written {
-    fn field(&mut self, kind: Kind, value: &[u8]) {
+    pub fn field(&mut self, kind: Kind, value: &[u8]) {
         self.fields.push(Field { kind, start: self.bytes.len(), size: value.len() });
         self.bytes.extend_from_slice(value);
     }
 
-    fn number(&mut self, kind: Kind, number: u32) {
+    pub fn number(&mut self, kind: Kind, number: u32) {
         self.field(kind, &number.to_be_bytes());
     }
 
@@ -227,6 +260,13 @@ impl Written {
         for number in numbers {
             self.number(Kind::Fixed, number);
         }
+    }
+
+    /// Writes what was written elsewhere, with its fields.
+    pub fn append(&mut self, other: &Written) {
+        let start = self.bytes.len();
+        self.fields.extend(other.fields.iter().map(|field| Field { start: start + field.start, ..*field }));
+        self.bytes.extend_from_slice(&other.bytes);
     }
 
     pub fn value(&self, field: Field) -> &[u8] {

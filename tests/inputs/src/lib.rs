@@ -3,24 +3,42 @@
 
 #![forbid(unsafe_code)]
 
+mod batches;
+mod breaches;
 mod calls;
+mod changing;
 mod edits;
 mod families;
+mod full;
 mod instances;
 mod knowledge;
 mod limits;
 mod meaning;
 mod pairs;
 mod plan;
+mod reading;
+mod record;
+mod replication;
+mod rows;
 mod splitmix;
+mod store;
+mod stores;
 mod writing;
 
+pub use batches::shapes as batch_shapes;
 pub use calls::{Call, faulty};
+pub use changing::Changing;
 pub use instances::{Instance, instances};
 pub use knowledge::{Field, Kind, Knowledge, Written, item_id, replica_id};
 pub use limits::{alike_but_for_the_last, backwards};
 pub use meaning::{FIRST_ITEM, ItemId, LAST_ITEM, ReplicaId, item_before, next_item};
 pub use pairs::Three;
 pub use plan::{CallInput, Input, Plan};
+pub use reading::Reading;
+pub use record::{LIVE, Record, TOMBSTONE, Version};
+pub use replication::ALL;
+pub use rows::{Changings, Lookups, Readings, Row, Writings};
 pub use splitmix::SplitMix64;
+pub use store::{Batch, Store};
+pub use stores::shapes as store_shapes;
 pub use writing::{LONGEST, Room, Writing};

@@ -116,7 +116,7 @@ pub fn relaid(random: &mut SplitMix64, knowledge: &Knowledge) -> Knowledge {
 }
 
 /// Lowers about half of the ticks.
-fn lower(random: &mut SplitMix64, knowledge: &mut Knowledge) {
+pub fn lower(random: &mut SplitMix64, knowledge: &mut Knowledge) {
     for (_, tick) in knowledge.vectors.iter_mut().flatten() {
         match random.below(4) {
             0 => *tick = tick.saturating_sub(1),
@@ -127,7 +127,7 @@ fn lower(random: &mut SplitMix64, knowledge: &mut Knowledge) {
 }
 
 /// One small change; where there is no place for the chosen one, none.
-fn change(random: &mut SplitMix64, knowledge: &mut Knowledge) {
+pub fn change(random: &mut SplitMix64, knowledge: &mut Knowledge) {
     const LARGEST_TICK: u64 = i64::MAX as u64;
     let vector = random.below(knowledge.vectors.len());
     let elements = &mut knowledge.vectors[vector];

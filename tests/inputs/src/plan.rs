@@ -3,10 +3,9 @@
 use std::convert::Infallible;
 use std::env;
 
-use crate::calls::{self, Call};
 use crate::families;
+use crate::rows::Row;
 use crate::splitmix::SplitMix64;
-use crate::writing::{self, Writing};
 
 /// One input of a run.
 #[derive(Clone, Copy, Debug)]
@@ -50,6 +49,11 @@ impl Plan {
         }
     }
 
+    /// The run of calls on stores and batches, which take longer: two fifths as many.
+    pub fn on_stores(self) -> Self {
+        Self { inputs: self.inputs / 5 * 2, ..self }
+    }
+
     /// Hands out the inputs in turn, up to the first error.
     ///
     /// The fixed ones come first. If they were more than half of the run, it has only some of them, which the seed
@@ -65,26 +69,17 @@ impl Plan {
         })
     }
 
-    /// Hands out calls in the same manner, as many as the plan has inputs.
-    pub fn try_for_each_call<E>(&self, mut visit: impl FnMut(CallInput<Call>) -> Result<(), E>) -> Result<(), E> {
-        let mut places = Places::new(self, fixed_calls());
-        calls::fixed(&mut |family, call: Call| match places.next_fixed() {
+    /// Hands out the calls of a row in the same manner, as many as the plan has inputs.
+    pub fn try_for_each_call<R: Row, E>(
+        &self,
+        mut visit: impl FnMut(CallInput<R::Call<'_>>) -> Result<(), E>,
+    ) -> Result<(), E> {
+        let mut places = Places::new(self, fixed_calls::<R>());
+        R::fixed(&mut |family, call: R::Call<'_>| match places.next_fixed() {
             Some(place) => visit(CallInput { place, family, call }),
             None => Ok(()),
         })?;
-        calls::random(self.seed, places.left(), &mut |family, call: Call| {
-            visit(CallInput { place: places.next(), family, call })
-        })
-    }
-
-    /// Hands out calls that write a knowledge in the same manner, as many as the plan has inputs.
-    pub fn try_for_each_writing<E>(&self, mut visit: impl FnMut(CallInput<Writing>) -> Result<(), E>) -> Result<(), E> {
-        let mut places = Places::new(self, fixed_writing());
-        writing::fixed(&mut |family, call: Writing| match places.next_fixed() {
-            Some(place) => visit(CallInput { place, family, call }),
-            None => Ok(()),
-        })?;
-        writing::random(self.seed, places.left(), &mut |family, call: Writing| {
+        R::random(self.seed, places.left(), &mut |family, call: R::Call<'_>| {
             visit(CallInput { place: places.next(), family, call })
         })
     }
@@ -131,18 +126,9 @@ fn fixed_inputs() -> usize {
     count
 }
 
-fn fixed_calls() -> usize {
+fn fixed_calls<R: Row>() -> usize {
     let mut count = 0;
-    let Ok(()) = calls::fixed(&mut |_, _: Call| {
-        count += 1;
-        Ok::<(), Infallible>(())
-    });
-    count
-}
-
-fn fixed_writing() -> usize {
-    let mut count = 0;
-    let Ok(()) = writing::fixed(&mut |_, _: Writing| {
+    let Ok(()) = R::fixed(&mut |_, _: R::Call<'_>| {
         count += 1;
         Ok::<(), Infallible>(())
     });
@@ -154,6 +140,7 @@ mod tests {
     use std::hash::{DefaultHasher, Hash, Hasher};
 
     use super::*;
+    use crate::rows::{Changings, Lookups, Readings, Writings};
 
     #[test]
     fn the_usual_run_has_all_fixed_inputs() {
@@ -165,24 +152,18 @@ mod tests {
             Ok::<(), Infallible>(())
         });
         assert_eq!(count, fixed_inputs());
-
-        let mut count = 0;
-        let Ok(()) = Plan::USUAL.try_for_each_call(|input| {
-            if !input.family.starts_with("random") {
-                count += 1;
-            }
-            Ok::<(), Infallible>(())
-        });
-        assert_eq!(count, fixed_calls());
-
-        let mut count = 0;
-        let Ok(()) = Plan::USUAL.try_for_each_writing(|input| {
-            if !input.family.starts_with("random") {
-                count += 1;
-            }
-            Ok::<(), Infallible>(())
-        });
-        assert_eq!(count, fixed_writing());
+        fn has_all<R: Row>(plan: Plan) {
+            let mut count = 0;
+            let Ok(()) = plan.try_for_each_call::<R, Infallible>(|input| {
+                count += usize::from(!input.family.starts_with("random"));
+                Ok(())
+            });
+            assert_eq!(count, fixed_calls::<R>());
+        }
+        has_all::<Lookups>(Plan::USUAL);
+        has_all::<Writings>(Plan::USUAL);
+        has_all::<Readings>(Plan::USUAL.on_stores());
+        has_all::<Changings>(Plan::USUAL.on_stores());
     }
 
     #[test]
@@ -201,35 +182,27 @@ mod tests {
             assert_eq!(sums.len(), inputs);
             assert_eq!(sums, run());
 
-            let calls = || {
-                let mut calls = Vec::new();
-                let Ok(()) = Plan { seed: 5, inputs }.try_for_each_call(|input| {
-                    assert_eq!(input.place, calls.len());
-                    let mut hasher = DefaultHasher::new();
-                    input.call.hash(&mut hasher);
-                    calls.push(hasher.finish());
-                    Ok::<(), Infallible>(())
-                });
-                calls
-            };
-            let hashes = calls();
-            assert_eq!(hashes.len(), inputs);
-            assert_eq!(hashes, calls());
-
-            let calls = || {
-                let mut calls = Vec::new();
-                let Ok(()) = Plan { seed: 5, inputs }.try_for_each_writing(|input| {
-                    assert_eq!(input.place, calls.len());
-                    let mut hasher = DefaultHasher::new();
-                    input.call.hash(&mut hasher);
-                    calls.push(hasher.finish());
-                    Ok::<(), Infallible>(())
-                });
-                calls
-            };
-            let hashes = calls();
-            assert_eq!(hashes.len(), inputs);
-            assert_eq!(hashes, calls());
+            assert_same_again::<Lookups>(inputs);
+            assert_same_again::<Writings>(inputs);
+            assert_same_again::<Readings>(inputs);
+            assert_same_again::<Changings>(inputs);
         }
+    }
+
+    fn assert_same_again<R: Row>(inputs: usize) {
+        let run = || {
+            let mut calls = Vec::new();
+            let Ok(()) = Plan { seed: 5, inputs }.try_for_each_call::<R, Infallible>(|input| {
+                assert_eq!(input.place, calls.len());
+                let mut hasher = DefaultHasher::new();
+                input.call.hash(&mut hasher);
+                calls.push(hasher.finish());
+                Ok(())
+            });
+            calls
+        };
+        let hashes = run();
+        assert_eq!(hashes.len(), inputs);
+        assert_eq!(hashes, run());
     }
 }

@@ -50,10 +50,10 @@ impl<E, V: FnMut(&'static str, Writing) -> Result<(), E>> Visit<E> for V {}
 
 /// Buffers of many lengths in turn, most of them long enough.
 #[derive(Default)]
-struct Rooms(usize);
+pub struct Rooms(usize);
 
 impl Rooms {
-    fn next(&mut self) -> Room {
+    pub fn next(&mut self) -> Room {
         const ROOMS: [Room; 9] = [
             Room::More(0),
             Room::More(1),
@@ -293,7 +293,7 @@ pub fn random<E>(seed: u64, count: usize, visit: &mut impl Visit<E>) -> Result<(
 }
 
 /// Mostly a buffer that is long enough, often just so.
-fn room(random: &mut SplitMix64) -> Room {
+pub fn room(random: &mut SplitMix64) -> Room {
     match random.below(12) {
         0 => Room::Bytes(0),
         1 => Room::Less(1),

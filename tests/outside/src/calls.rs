@@ -1,6 +1,6 @@
 //! Comparing contain, lead and cover of the engine with those of the reference.
 
-use inputs::{Call, CallInput, Plan};
+use inputs::{Call, CallInput, Lookups, Plan};
 
 use crate::one;
 use crate::tally::{Ends, Outcome, Tally};
@@ -13,16 +13,16 @@ pub trait Engine {
 }
 
 const ENDS: [Ends; 3] = [
-    Ends { call: "contain", answers: &["yes", "no"], knowledges: 1, ids: true, result: &[] },
-    Ends { call: "lead", answers: &["below 0", "0", "above 0"], knowledges: 2, ids: true, result: &[] },
-    Ends { call: "cover", answers: &["yes", "no"], knowledges: 2, ids: true, result: &[] },
+    Ends { call: "contain", answers: &["yes", "no"], knowledges: 1, ids: true, others: &[] },
+    Ends { call: "lead", answers: &["below 0", "0", "above 0"], knowledges: 2, ids: true, others: &[] },
+    Ends { call: "cover", answers: &["yes", "no"], knowledges: 2, ids: true, others: &[] },
 ];
 
 /// Compares the engine with the reference on all calls of the plan. The error says where they first differ, or what never
 /// occurred.
 pub fn run(plan: &Plan, engine: &impl Engine) -> Result<Tally, String> {
     let mut tally = Tally::default();
-    plan.try_for_each_call(|input| {
+    plan.try_for_each_call::<Lookups, _>(|input| {
         let (call, outcome) = compare(&input, engine).map_err(|difference| describe(plan, &input, &difference))?;
         tally.add(call, outcome);
         Ok::<(), String>(())

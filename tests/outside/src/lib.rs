@@ -4,10 +4,18 @@
 
 mod buffer;
 pub mod calls;
+pub mod changing;
 pub mod compare;
 #[allow(unsafe_code)]
 pub mod engine;
 pub mod laws;
+#[cfg(test)]
+mod lenient;
+pub mod linked;
 mod one;
+pub mod reading;
+pub mod stand_in;
 mod tally;
 pub mod writing;
+#[cfg(test)]
+mod wrong;

@@ -20,9 +20,15 @@ impl Value for i64 {
     }
 }
 
-impl Value for [u64; 4] {
+impl Value for u64 {
     fn filled(byte: u8) -> Self {
-        [u64::from_ne_bytes([byte; 8]); 4]
+        u64::from_ne_bytes([byte; 8])
+    }
+}
+
+impl<const N: usize> Value for [u64; N] {
+    fn filled(byte: u8) -> Self {
+        [Value::filled(byte); N]
     }
 }
 

@@ -13,8 +13,8 @@ pub enum Outcome {
     Second(u32),
     /// The ids are refused, with 17.
     Ids,
-    /// The result is refused with this number.
-    Result(u32),
+    /// Something else is refused with this number: the store, the batch, the result.
+    Other(u32),
 }
 
 impl fmt::Display for Outcome {
@@ -24,7 +24,7 @@ impl fmt::Display for Outcome {
             Self::First(number) => write!(f, "first {number}"),
             Self::Second(number) => write!(f, "second {number}"),
             Self::Ids => write!(f, "17"),
-            Self::Result(number) => write!(f, "result {number}"),
+            Self::Other(number) => write!(f, "{number}"),
         }
     }
 }
@@ -35,31 +35,31 @@ impl Outcome {
         match answer {
             Ok(answer) => Self::Answer(answer),
             Err(reference::refusal::IDS) => Self::Ids,
-            Err(number @ 11..) => Self::Result(number),
+            Err(number @ 11..) => Self::Other(number),
             Err(number) if reference::check(first).is_err() => Self::First(number),
             Err(number) => Self::Second(number),
         }
     }
 }
 
-/// The ways in which a call can end. Each knowledge can be refused with each number from 1 to 10.
+/// The ways in which a call can end. Each knowledge, of at most two, can be refused with each number from 1 to 10.
 pub struct Ends {
     pub call: &'static str,
     pub answers: &'static [&'static str],
     pub knowledges: usize,
     pub ids: bool,
-    /// The numbers of its result.
-    pub result: &'static [u32],
+    /// The numbers of stores, batches and its result.
+    pub others: &'static [u32],
 }
 
 impl Ends {
     fn outcomes(&self) -> impl Iterator<Item = (&'static str, Outcome)> {
         let answers = self.answers.iter().map(|answer| Outcome::Answer(answer));
-        let first = (1..=10).map(Outcome::First);
+        let first = (1..=10).filter(|_| self.knowledges > 0).map(Outcome::First);
         let second = (1..=10).filter(|_| self.knowledges == 2).map(Outcome::Second);
         let ids = self.ids.then_some(Outcome::Ids);
-        let result = self.result.iter().map(|number| Outcome::Result(*number));
-        answers.chain(first).chain(second).chain(ids).chain(result).map(|outcome| (self.call, outcome))
+        let others = self.others.iter().map(|number| Outcome::Other(*number));
+        answers.chain(first).chain(second).chain(ids).chain(others).map(|outcome| (self.call, outcome))
     }
 }
 
@@ -115,7 +115,7 @@ impl fmt::Display for Tally {
 mod tests {
     use super::*;
 
-    const MERGE: Ends = Ends { call: "merge", answers: &["written"], knowledges: 2, ids: false, result: &[11, 12, 14] };
+    const MERGE: Ends = Ends { call: "merge", answers: &["written"], knowledges: 2, ids: false, others: &[11, 12, 14] };
 
     fn all() -> Tally {
         let mut tally = Tally::default();
@@ -136,7 +136,7 @@ mod tests {
 
     #[test]
     fn no_other_way_may_have_occurred() {
-        for (call, outcome) in [("merge", Outcome::Ids), ("normalise", Outcome::Result(12))] {
+        for (call, outcome) in [("merge", Outcome::Ids), ("normalise", Outcome::Other(12))] {
             let mut tally = all();
             tally.add(call, outcome);
             assert!(tally.complete(&[MERGE]).unwrap_err().starts_with("occurred and cannot: "));

@@ -1,6 +1,6 @@
 //! Comparing normalise, merge and project of the engine with those of the reference.
 
-use inputs::{CallInput, LONGEST, Plan, Room, Writing};
+use inputs::{CallInput, LONGEST, Plan, Room, Writing, Writings};
 
 use crate::buffer;
 use crate::one;
@@ -14,12 +14,12 @@ pub trait Engine {
     fn project(&self, knowledge: &[u8], span: [&[u8]; 2], out: &mut [u8], written: &mut u64) -> u32;
 }
 
-const WRITTEN: &str = "written";
+pub const WRITTEN: &str = "written";
 
 const ENDS: [Ends; 3] = [
-    Ends { call: "normalise", answers: &[WRITTEN], knowledges: 1, ids: false, result: &[12, 14] },
-    Ends { call: "merge", answers: &[WRITTEN], knowledges: 2, ids: false, result: &[11, 12, 14] },
-    Ends { call: "project", answers: &[WRITTEN], knowledges: 1, ids: true, result: &[12, 14] },
+    Ends { call: "normalise", answers: &[WRITTEN], knowledges: 1, ids: false, others: &[12, 14] },
+    Ends { call: "merge", answers: &[WRITTEN], knowledges: 2, ids: false, others: &[11, 12, 14] },
+    Ends { call: "project", answers: &[WRITTEN], knowledges: 1, ids: true, others: &[12, 14] },
 ];
 
 /// Compares the engine with the reference on all calls of the plan that write. The error says where they first differ, or what
@@ -27,7 +27,7 @@ const ENDS: [Ends; 3] = [
 pub fn run(plan: &Plan, engine: &impl Engine) -> Result<Tally, String> {
     let mut tally = Tally::default();
     let mut longest = vec![0; LONGEST];
-    plan.try_for_each_writing(|input| {
+    plan.try_for_each_call::<Writings, _>(|input| {
         let (call, outcome) =
             compare(&input, engine, &mut longest).map_err(|difference| describe(plan, &input, &difference))?;
         tally.add(call, outcome);
@@ -73,7 +73,7 @@ fn compare(
 }
 
 /// The answer of a call whose result stands at the front of a long buffer, and the length of the buffer that it is given.
-fn in_room(result: Result<usize, u32>, longest: &[u8], room: Room) -> (Result<&[u8], u32>, usize) {
+pub fn in_room(result: Result<usize, u32>, longest: &[u8], room: Room) -> (Result<&[u8], u32>, usize) {
     let room = room.length(result.ok());
     let answer = match result {
         Ok(length) if room < length => Err(reference::refusal::BUFFER),

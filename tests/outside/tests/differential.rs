@@ -4,7 +4,7 @@
 //! `SYNC_INPUTS` sets the number of inputs, and of calls; `SYNC_SEED` sets the seed.
 
 use inputs::Plan;
-use outside::{compare, engine};
+use outside::{compare, engine, linked};
 
 #[test]
 fn engine_and_reference_agree_on_the_check() {
@@ -40,6 +40,26 @@ fn engine_and_reference_agree_on_the_calls_that_write() {
 fn the_engine_keeps_the_laws_of_the_calls_that_write() {
     let plan = Plan::from_environment();
     match outside::laws::run(&plan, &engine::Linked) {
+        Ok(tally) => println!("{tally}"),
+        Err(error) => panic!("{error}"),
+    }
+}
+
+#[test]
+fn engine_and_reference_agree_on_the_calls_that_read_stores() {
+    let plan = Plan::from_environment().on_stores();
+    println!("{} calls that read stores from seed {}", plan.inputs, plan.seed);
+    match outside::reading::run(&plan, &linked::READING) {
+        Ok(tally) => println!("{tally}"),
+        Err(error) => panic!("{error}"),
+    }
+}
+
+#[test]
+fn engine_and_reference_agree_on_the_calls_that_write_stores() {
+    let plan = Plan::from_environment().on_stores();
+    println!("{} calls that write stores and batches from seed {}", plan.inputs, plan.seed);
+    match outside::changing::run(&plan, &linked::CHANGING) {
         Ok(tally) => println!("{tally}"),
         Err(error) => panic!("{error}"),
     }

@@ -16,7 +16,8 @@ pub fn cover(first: &[u8], second: &[u8], first_id: &[u8], last_id: &[u8]) -> Re
     Ok(covers(&first, &second, span))
 }
 
-fn covers(first: &View, second: &View, span: Span) -> bool {
+/// Whether the first knows at least as much as the second throughout a span.
+pub fn covers(first: &View, second: &View, span: Span) -> bool {
     let columns = Columns::new(first, second);
     let mut upper = Forward::new(first.ranges(), span);
     let mut lower = Forward::new(second.ranges(), span);

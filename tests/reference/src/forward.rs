@@ -19,6 +19,21 @@ impl<'a> Forward<'a> {
         Self { ranges: ranges.first(ranges.up_to(span.last)), passed: ranges.up_to(span.first) }
     }
 
+    /// Stands before the first item and goes as far as there are any.
+    #[inline]
+    pub fn at_the_start(ranges: Ranges<'a>) -> Self {
+        Self { ranges, passed: 0 }
+    }
+
+    /// Goes on to an item that is not before where it stands.
+    #[inline]
+    pub fn advance(&mut self, item: &ItemId) {
+        let item = words(item);
+        while self.next_bound().is_some_and(|bound| words(bound) <= item) {
+            self.step();
+        }
+    }
+
     /// The index of the vector where it stands; below the first range that is the empty vector.
     #[inline]
     pub fn index(&self) -> usize {

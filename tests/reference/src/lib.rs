@@ -5,18 +5,29 @@
 
 #![forbid(unsafe_code)]
 
+mod batch;
+mod changes;
 mod cover;
 mod cursor;
+mod exchange;
 mod forward;
 mod ids;
 mod knowledge;
 mod lookup;
+mod normal;
 mod operations;
+mod parts;
+mod record;
 pub mod refusal;
+mod store;
 mod table;
 mod view;
+mod writer;
 
+pub use changes::{delete, edit, new};
 pub use cover::cover;
+pub use exchange::{apply, make};
 pub use knowledge::{Sizes, check};
 pub use lookup::{contain, lead};
 pub use operations::{merge, normalise, project};
+pub use parts::{Coverage, Winner, coverage, knowledge, learned, walk, winner};

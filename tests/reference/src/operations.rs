@@ -3,24 +3,21 @@
 use std::cell::RefCell;
 
 use crate::forward::{self, Forward};
-use crate::ids::Span;
+use crate::ids::{Span, next_item};
 use crate::refusal::RESULT_REPLICAS;
-use crate::table::{Columns, FIRST_ITEM, Table};
-use crate::view::{ItemId, REPLICAS, Starts, VECTORS, View};
-
-const LAST_ITEM: ItemId = [255; 24];
+use crate::table::{Columns, Table};
+use crate::view::{FIRST_ITEM, REPLICAS, Starts, VECTORS, View};
 
 thread_local! {
     /// The table that every call fills anew. It is too large to be cleared for each.
-    static TABLE: RefCell<Table> = const { RefCell::new(Table::new()) };
+    pub static TABLE: RefCell<Table> = const { RefCell::new(Table::new()) };
 }
 
 /// Writes the normal form of a knowledge to the front of a buffer and gives its length.
 pub fn normalise(knowledge: &[u8], out: &mut [u8]) -> Result<usize, u32> {
     let mut starts = Starts::new();
     let knowledge = View::read(knowledge, &mut starts)?;
-    let all = Span { first: &FIRST_ITEM, last: &LAST_ITEM };
-    written(&knowledge, all, out)
+    written(&knowledge, Span::ALL, out)
 }
 
 /// Writes a knowledge with its known ticks inside a span, and 0 outside, to the front of a buffer and gives its length.
@@ -45,36 +42,43 @@ pub fn merge(first: &[u8], second: &[u8], out: &mut [u8]) -> Result<usize, u32> 
 /// Writes the known ticks of a knowledge inside a span.
 fn written(knowledge: &View, span: Span, out: &mut [u8]) -> Result<usize, u32> {
     TABLE.with_borrow_mut(|table| {
-        table.clear(knowledge.replicas().iter(), knowledge.ranges().count() + 1);
-        let columns = table.columns(knowledge.replicas());
-        let mut cursor = Forward::new(knowledge.ranges(), span);
-        if *span.first != FIRST_ITEM {
-            table.push(&FIRST_ITEM, 0)?;
-        }
-        // The row of each vector that was needed before; the first is all 0.
-        const UNKNOWN: u8 = u8::MAX;
-        let mut rows = [UNKNOWN; VECTORS];
-        rows[0] = 0;
-        let mut bound = Some(span.first);
-        while let Some(from) = bound {
-            let index = cursor.index();
-            if rows[index] == UNKNOWN {
-                rows[index] = table.row(|row| row.set(ticks(knowledge, index, &columns)));
-            }
-            table.push(from, rows[index])?;
-            bound = cursor.next_bound();
-            cursor.step();
-        }
-        if let Some(behind) = next_item(span.last) {
-            table.push(&behind, 0)?;
-        }
+        projected(table, knowledge, span)?;
         table.write(out)
     })
 }
 
+/// Fills a table with the known ticks of a knowledge inside a span.
+#[inline]
+pub fn projected(table: &mut Table, knowledge: &View, span: Span) -> Result<(), u32> {
+    table.clear(knowledge.replicas().iter(), knowledge.ranges().count() + 1);
+    let columns = table.columns(knowledge.replicas());
+    let mut cursor = Forward::new(knowledge.ranges(), span);
+    if *span.first != FIRST_ITEM {
+        table.push(&FIRST_ITEM, 0)?;
+    }
+    // The row of each vector that was needed before; the first is all 0.
+    const UNKNOWN: u8 = u8::MAX;
+    let mut rows = [UNKNOWN; VECTORS];
+    rows[0] = 0;
+    let mut bound = Some(span.first);
+    while let Some(from) = bound {
+        let index = cursor.index();
+        if rows[index] == UNKNOWN {
+            rows[index] = table.row(|row| row.set(ticks(knowledge, index, &columns)));
+        }
+        table.push(from, rows[index])?;
+        bound = cursor.next_bound();
+        cursor.step();
+    }
+    if let Some(behind) = next_item(span.last) {
+        table.push(&behind, 0)?;
+    }
+    Ok(())
+}
+
 /// Fills a table with the larger known ticks of two knowledges.
 #[inline(never)] // the reading of both would take the registers
-fn merged(table: &mut Table, first: &View, second: &View) -> Result<(), u32> {
+pub fn merged(table: &mut Table, first: &View, second: &View) -> Result<(), u32> {
     table.clear(first.replicas().iter().chain(second.replicas()), first.ranges().count() + second.ranges().count() + 1);
     let first_columns = table.columns(first.replicas());
     let second_columns = table.columns(second.replicas());
@@ -85,9 +89,8 @@ fn merged(table: &mut Table, first: &View, second: &View) -> Result<(), u32> {
             return Err(RESULT_REPLICAS);
         }
     }
-    let all = Span { first: &FIRST_ITEM, last: &LAST_ITEM };
-    let mut left = Forward::new(first.ranges(), all);
-    let mut right = Forward::new(second.ranges(), all);
+    let mut left = Forward::new(first.ranges(), Span::ALL);
+    let mut right = Forward::new(second.ranges(), Span::ALL);
     let mut bound = Some(&FIRST_ITEM);
     while let Some(from) = bound {
         let row = table.row(|row| {
@@ -117,18 +120,6 @@ fn used(knowledge: &View, columns: &Columns) -> u32 {
 
 /// The ticks of a vector by column.
 #[inline]
-fn ticks(knowledge: &View, index: usize, columns: &Columns) -> impl Iterator<Item = (usize, u64)> {
+pub fn ticks(knowledge: &View, index: usize, columns: &Columns) -> impl Iterator<Item = (usize, u64)> {
     knowledge.elements(index).map(|element| (columns[element.key() % REPLICAS] as usize, element.tick()))
-}
-
-/// The id behind an item's; nothing follows the last one.
-fn next_item(item: &ItemId) -> Option<ItemId> {
-    let mut next = *item;
-    for byte in next.iter_mut().rev() {
-        *byte = byte.wrapping_add(1);
-        if *byte != 0 {
-            return Some(next);
-        }
-    }
-    None
 }

@@ -24,7 +24,19 @@ pub const LEFT_OVER: u32 = 10;
 pub const RESULT_REPLICAS: u32 = 11;
 /// The result has over 64 ranges.
 pub const RESULT_RANGES: u32 = 12;
+/// The result has over 256 records.
+pub const RESULT_RECORDS: u32 = 13;
 /// The output buffer is shorter than the result.
 pub const BUFFER: u32 = 14;
-/// An item id is not 24 or a replica id not 16 bytes long, or a span's first id is above its last.
+/// The store is not valid.
+pub const STORE: u32 = 15;
+/// The batch is not valid.
+pub const BATCH: u32 = 16;
+/// An item id is not 24, a replica id or tag not 16 bytes long, or a span's first id is above its last.
 pub const IDS: u32 = 17;
+/// The store does not cover what the batch needs, or the batch has learned of a later tick of the store's own replica.
+pub const NOT_COVERED: u32 = 18;
+/// The item is absent or a tombstone.
+pub const ABSENT: u32 = 19;
+/// The largest tick is reached.
+pub const LAST_TICK: u32 = 20;

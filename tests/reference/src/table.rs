@@ -1,7 +1,8 @@
 //! The ticks of a result as a table, and writing it in normal form.
 
 use crate::refusal::{BUFFER, RESULT_RANGES};
-use crate::view::{ItemId, REPLICAS, ReplicaId};
+use crate::view::{FIRST_ITEM, ItemId, REPLICAS, ReplicaId};
+use crate::writer::Writer;
 
 /// As many ranges as a knowledge has at most.
 const RANGES: usize = 64;
@@ -11,8 +12,6 @@ const COLUMNS: usize = 2 * REPLICAS;
 const ROWS: usize = RANGES + 1;
 /// The slots of the hash table in which rows that were seen before are looked up: more than there are rows.
 const SLOTS: usize = 128;
-
-pub const FIRST_ITEM: ItemId = [0; 24];
 
 /// The column of each key of a replica map.
 pub type Columns = [u8; REPLICAS];
@@ -143,9 +142,9 @@ impl Table {
         (0..self.rows).map(|row| &self.ticks[row * self.columns..][..self.columns])
     }
 
-    /// Writes the table in normal form to the front of a buffer and gives the length; or refuses a buffer that is too short, which
-    /// then stays as it was. No more replicas have a tick than a knowledge has at most.
-    pub fn write(&self, out: &mut [u8]) -> Result<usize, u32> {
+    /// What is written for the table in normal form. No more replicas have a tick than a knowledge has at most.
+    #[inline]
+    pub fn plan(&self) -> Plan {
         let mut any = [0; COLUMNS];
         for row in self.rows() {
             for (any, tick) in any.iter_mut().zip(row) {
@@ -156,15 +155,22 @@ impl Table {
         let used = columns.fold(0u32, |used, any| (used << 1) | u32::from(*any != 0));
         let replicas = used.count_ones() as usize;
         let elements: usize = self.counts[..self.rows].iter().map(|count| *count as usize).sum();
-        let length = 77 + 16 * replicas + 8 * (self.rows + 1) + 12 * elements + 28 * self.ranges;
-        let Some(out) = out.get_mut(..length) else { return Err(BUFFER) };
-        self.write_used(used, out);
-        Ok(length)
+        Plan { used, length: 77 + 16 * replicas + 8 * (self.rows + 1) + 12 * elements + 28 * self.ranges }
     }
 
-    /// Writes the table to a buffer of the right length. The columns that have a tick are given as bits.
-    fn write_used(&self, used: u32, out: &mut [u8]) {
-        let mut out = Writer { rest: out };
+    /// Writes the table in normal form to the front of a buffer and gives the length; or refuses a buffer that is too short, which
+    /// then stays as it was.
+    pub fn write(&self, out: &mut [u8]) -> Result<usize, u32> {
+        let plan = self.plan();
+        let Some(out) = out.get_mut(..plan.length) else { return Err(BUFFER) };
+        self.write_planned(&plan, out);
+        Ok(plan.length)
+    }
+
+    /// Writes the table to a buffer of the planned length.
+    pub fn write_planned(&self, plan: &Plan, out: &mut [u8]) {
+        let used = plan.used;
+        let mut out = Writer::new(out);
         out.put([0, 0, 0, 5, 0, 0, 0, 0, 0, 0, 0, 1, 0, 0, 0, 0, 0, 0, 0, 5, 0, 0, 16]);
         out.u32(used.count_ones());
         let mut keys = [0; COLUMNS];
@@ -194,8 +200,15 @@ impl Table {
             range[24..].copy_from_slice(&u32::from(index).to_be_bytes());
         }
         out.put([0, 0, 0, 0, 0, 0, 0, 25, 1, 0, 0, 0, 0]);
-        assert!(out.rest.is_empty(), "the length was computed");
+        assert!(out.is_full(), "the length was computed");
     }
+}
+
+/// What is written for a table.
+pub struct Plan {
+    /// The columns that have a tick, as bits.
+    used: u32,
+    pub length: usize,
 }
 
 /// A row that is being filled; every tick is 0 at first.
@@ -247,30 +260,3 @@ const FACTORS: [u64; COLUMNS] = {
     }
     factors
 };
-
-/// Writes fields from the front of a slice that has room for them.
-struct Writer<'a> {
-    rest: &'a mut [u8],
-}
-
-impl<'a> Writer<'a> {
-    #[inline]
-    fn put<const N: usize>(&mut self, field: [u8; N]) {
-        let (place, rest) = std::mem::take(&mut self.rest).split_first_chunk_mut().expect("there is room");
-        *place = field;
-        self.rest = rest;
-    }
-
-    #[inline]
-    fn u32(&mut self, number: u32) {
-        self.put(number.to_be_bytes());
-    }
-
-    /// The places of fields that follow each other, to be written.
-    #[inline]
-    fn many<const N: usize>(&mut self, count: usize) -> &'a mut [[u8; N]] {
-        let (places, rest) = std::mem::take(&mut self.rest).split_at_mut(N * count);
-        self.rest = rest;
-        places.as_chunks_mut().0
-    }
-}

@@ -9,6 +9,9 @@ pub const VECTORS: usize = 65;
 pub type ItemId = [u8; 24];
 pub type ReplicaId = [u8; 16];
 
+pub const FIRST_ITEM: ItemId = [0; 24];
+pub const LAST_ITEM: ItemId = [255; 24];
+
 /// An item id as words, which are in the same order as the ids and quicker to compare.
 #[inline]
 pub fn words(id: &ItemId) -> (u128, u64) {
@@ -21,7 +24,12 @@ pub fn words(id: &ItemId) -> (u128, u64) {
 /// The bytes of an element of a clock vector.
 pub struct Element<'a>(&'a [u8; 12]);
 
-impl Element<'_> {
+impl<'a> Element<'a> {
+    #[inline]
+    pub fn new(bytes: &'a [u8; 12]) -> Self {
+        Self(bytes)
+    }
+
     #[inline]
     pub fn key(&self) -> usize {
         let &[a, b, c, d, ..] = self.0;
@@ -40,6 +48,11 @@ impl Element<'_> {
 pub struct Range<'a>(&'a [u8; 28]);
 
 impl<'a> Range<'a> {
+    #[inline]
+    pub fn new(bytes: &'a [u8; 28]) -> Self {
+        Self(bytes)
+    }
+
     #[inline]
     pub fn bound(self) -> &'a ItemId {
         self.0.first_chunk().expect("a range begins with its bound")
@@ -88,11 +101,11 @@ impl<'a> Ranges<'a> {
 /// How many bytes of a knowledge are left from each part on: kept while it is read, and borrowed by its view, so that
 /// nothing is copied.
 pub struct Starts {
-    replicas: usize,
-    ranges: usize,
+    pub replicas: usize,
+    pub ranges: usize,
     /// From the element count of each vector on; 0 for the first one, which has no elements. No accepted knowledge has 2^16
     /// bytes.
-    elements: [u16; VECTORS],
+    pub elements: [u16; VECTORS],
 }
 
 impl Starts {
@@ -132,13 +145,19 @@ impl<'a> View<'a> {
     #[inline(always)] // else it is copied from where it is returned
     pub fn read(bytes: &'a [u8], starts: &'a mut Starts) -> Result<Self, u32> {
         let sizes = read(bytes, starts)?;
+        Ok(Self::new(bytes, sizes.r as usize, sizes.g as usize, starts))
+    }
+
+    /// A knowledge without fault of so many replicas and ranges, whose parts start as was kept.
+    #[inline(always)] // else it is copied from where it is returned
+    pub fn new(bytes: &'a [u8], r: usize, g: usize, starts: &'a Starts) -> Self {
         let from = |left| &bytes[bytes.len() - left..];
-        Ok(Self {
+        Self {
             bytes,
-            replicas: &from(starts.replicas).as_chunks().0[..sizes.r as usize],
-            ranges: Ranges(&from(starts.ranges).as_chunks().0[..sizes.g as usize]),
+            replicas: &from(starts.replicas).as_chunks().0[..r],
+            ranges: Ranges(&from(starts.ranges).as_chunks().0[..g]),
             elements: &starts.elements,
-        })
+        }
     }
 
     pub fn replicas(&self) -> &'a [ReplicaId] {
@@ -152,9 +171,32 @@ impl<'a> View<'a> {
     /// The elements of a vector.
     #[inline]
     pub fn elements(&self, index: usize) -> impl Iterator<Item = Element<'a>> {
+        self.vector(index).iter().map(Element)
+    }
+
+    #[inline]
+    fn vector(&self, index: usize) -> &'a [[u8; 12]] {
         let left = self.elements[index] as usize;
         let (count, rest) = self.bytes[self.bytes.len() - left..].split_first_chunk().unwrap_or((&[0; 4], &[]));
-        rest.as_chunks().0[..u32::from_be_bytes(*count) as usize].iter().map(Element)
+        &rest.as_chunks().0[..u32::from_be_bytes(*count) as usize]
+    }
+
+    /// The tick of a replica in a vector, 0 where it has none.
+    #[inline]
+    pub fn tick(&self, index: usize, key: usize) -> u64 {
+        let vector = self.vector(index);
+        // In a vector with all replicas by rising key, each stands at its key's place.
+        match vector.get(key).map(Element) {
+            Some(element) if element.key() == key => element.tick(),
+            _ => vector.iter().map(Element).find(|element| element.key() == key).map_or(0, |element| element.tick()),
+        }
+    }
+
+    /// Where the tick of a replica that has one in a vector stands.
+    #[inline]
+    pub fn tick_place(&self, index: usize, key: usize) -> usize {
+        let place = self.elements(index).position(|element| element.key() == key).expect("it has a tick");
+        self.bytes.len() - self.elements[index] as usize + 4 + 12 * place + 4
     }
 
     /// The tick known for an item and a replica.

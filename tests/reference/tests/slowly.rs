@@ -1,6 +1,6 @@
 //! The quick code against the slow and plain meaning of a knowledge.
 
-use inputs::{Call, FIRST_ITEM, ItemId, Knowledge, LAST_ITEM, Plan, SplitMix64, item_id, replica_id};
+use inputs::{Call, FIRST_ITEM, ItemId, Knowledge, LAST_ITEM, Lookups, Plan, SplitMix64, item_id, replica_id};
 use reference::{check, contain, cover, lead};
 
 const PLAN: Plan = Plan { seed: 77, inputs: 200_000 };
@@ -37,7 +37,7 @@ fn slow_cover(first: &[u8], second: &[u8], first_item: &[u8], last_item: &[u8]) 
 
 #[test]
 fn calls_as_slowly() {
-    PLAN.try_for_each_call(|input| {
+    PLAN.try_for_each_call::<Lookups, _>(|input| {
         let right = match input.call {
             Call::Contain { knowledge, item, replica, tick } => {
                 contain(knowledge, item, replica, tick) == slow_contain(knowledge, item, replica, tick)

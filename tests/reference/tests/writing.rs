@@ -2,7 +2,7 @@
 
 use std::collections::BTreeMap;
 
-use inputs::{ItemId, Knowledge, LAST_ITEM, LONGEST, Plan, Room, Writing, item_id};
+use inputs::{ItemId, Knowledge, LAST_ITEM, LONGEST, Plan, Room, Writing, Writings, item_id};
 use reference::{check, merge, normalise, project};
 
 /// Has all fixed calls.
@@ -49,7 +49,7 @@ fn compare(right: Result<Vec<u8>, u32>, room: Room, call: impl Fn(&mut [u8]) -> 
 #[test]
 fn as_slowly() {
     let mut counts = Counts::new();
-    let Ok(()) = PLAN.try_for_each_writing(|input| {
+    let Ok(()) = PLAN.try_for_each_call::<Writings, _>(|input| {
         let (call, number) = match input.call {
             Writing::Normalise { knowledge, room } => {
                 let right = decoded(knowledge).and_then(|knowledge| result(knowledge.normalised()));

@@ -3,8 +3,8 @@ use Prim.Native.Nat.{_*_}
 use native.Mathlib.Omega.{arith}
 use Rattle.tables.specs.MethodWords.{stride}
 use Rattle.operations.specs.MethodCalls.{few}
-use Rattle.operations.proofs.Opening.{opened-few-replicas}
-use Rattle.operations.proofs.Scratch.{table-room, plan-room}
+use Rattle.filling.proofs.Scratch.{table-room}
+use Rattle.operations.proofs.Scratch.{opened-few-replicas, plan-room}
 use borrow.Author.Needs.{needs}
 use Rattle.operations.proofs.merge_few.Statement.{statement}
 use Rattle.operations.proofs.merge_few.Tie as tie

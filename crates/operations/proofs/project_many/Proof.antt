@@ -3,8 +3,8 @@ use Prim.Native.Nat.{_*_}
 use native.Mathlib.Omega.{arith}
 use Rattle.tables.specs.MethodWords.{stride}
 use Rattle.operations.specs.MethodCalls.{oneRows}
-use Rattle.operations.proofs.Opening.{opened-few-replicas, opened-few-ranges}
-use Rattle.operations.proofs.Scratch.{table-room, plan-room}
+use Rattle.filling.proofs.Scratch.{table-room}
+use Rattle.operations.proofs.Scratch.{opened-few-replicas, opened-few-ranges, plan-room}
 use borrow.Author.Needs.{needs}
 use Rattle.operations.proofs.project_many.Statement.{statement}
 use Rattle.operations.proofs.project_many.Tie as tie

@@ -1,5 +1,5 @@
-//! Compares the engine with the reference on a run of inputs, one of calls that look something up and one of calls that write, and
-//! says how often each answer was given; and tries the laws of the calls that write.
+//! Compares the engine with the reference on a run of inputs and on rows of calls, and says how often each answer was given; and tries
+//! the laws of the calls that write a knowledge.
 //!
 //! `SYNC_INPUTS` sets the number of inputs, and of calls; `SYNC_SEED` sets the seed.
 
@@ -7,7 +7,7 @@ use std::fmt::Display;
 use std::process::ExitCode;
 
 use inputs::Plan;
-use outside::{compare, engine};
+use outside::{compare, engine, linked};
 
 fn main() -> ExitCode {
     let plan = Plan::from_environment();
@@ -16,6 +16,8 @@ fn main() -> ExitCode {
     let passed = said(outside::calls::run(&plan, &engine::Linked)) && passed;
     let passed = said(outside::writing::run(&plan, &engine::Linked)) && passed;
     let passed = said(outside::laws::run(&plan, &engine::Linked)) && passed;
+    let passed = said(outside::reading::run(&plan.on_stores(), &linked::READING)) && passed;
+    let passed = said(outside::changing::run(&plan.on_stores(), &linked::CHANGING)) && passed;
     if passed { ExitCode::SUCCESS } else { ExitCode::FAILURE }
 }
 
