@@ -1,15 +1,14 @@
 -- What `sync_walk` tells is what a walker over the lent table gives: at a place where the length is not 0 the next part is that long and
 -- stands there, and the rest is what is given from the place behind it; where the length is 0 nothing follows.
 use Prim.Native.Nat.{ℕ, _+_, _≤_, _<_}
-use mathlib.Core.Path.{_≡_, refl, sym, ap, ap₂, _∙_, subst}
-use mathlib.Core.Bool.{true, false}
+use mathlib.Core.Path.{_≡_, sym, ap₂, _∙_, subst}
+use mathlib.Core.Bool.{true}
 use mathlib.Core.List.{List, [], _∷_}
 use native.Mathlib.Omega.{arith}
 use lib.ListN.{length, take, drop, getD}
-use Rattle.codec.specs.Number.{beAt}
 use Rattle.codec.proofs.Reading.{be-one}
 use Rattle.ticks.proofs.Lists.{less, same, more, order}
-use Rattle.replication.specs.Reading.{recLength, behind, whole}
+use Rattle.replication.specs.Reading.{whole}
 use Rattle.replication.specs.Queries.{toGive}
 use Rattle.replication.proofs.RecordBytes.{KnownKind, recSize, whole-exact}
 use Rattle.replication.proofs.QueriesWalk.{walk-step, walk-end}

@@ -20,7 +20,7 @@ use Rattle.replication.specs.declared.Coverage.{Coverage}
 use Rattle.replication.specs.declared.Coverage.the-variants as G
 use Rattle.replication.specs.Record.{Rec}
 use Rattle.replication.specs.Reading.{behind, recAt}
-use Rattle.replication.specs.OpenStore.{storeKnowledge, storeCount, storeTable, openStore}
+use Rattle.replication.specs.OpenStore.{storeKnowledge, storeTable}
 use Rattle.replication.specs.Queries.{countIn, thousandths, coverageAnswer}
 use Rattle.replication.specs.MethodRecords.{recordsAt, shapedAt}
 use Rattle.replication.specs.MethodOpening.{storeAt}

@@ -24,7 +24,7 @@ use Rattle.stores.specs.declared.OpenedStore.the-variants as S
 use Rattle.stores.specs.declared.OpenedBatch.{OpenedBatch}
 use Rattle.stores.specs.declared.OpenedBatch.the-variants as B
 use Rattle.stores.specs.Method.{storeOpened, batchOpened}
-use Rattle.stores.proofs.Opened.{StoreOpen, BatchOpen, store-open, store-closed, batch-open, batch-closed}
+use Rattle.stores.proofs.Opened.{BatchOpen, store-open, store-closed, batch-open, batch-closed}
 use Rattle.queries.specs.Method.{Inside}
 use Rattle.queries.proofs.Winning.{inside-refused, inside-store, inside-batch}
 

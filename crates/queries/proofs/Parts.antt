@@ -1,19 +1,19 @@
 -- The part that is handed out, for each answer: its bytes, its place in the lent slices, and the number beside it. A slice from a place on
 -- points that far into the slice that it was taken of.
-use Prim.Native.Nat.{ℕ, _+_, _-_, _≤_}
+use Prim.Native.Nat.{ℕ, _+_, _-_}
 use mathlib.Core.Path.{_≡_, sym, ap, subst, _∙_}
 use mathlib.Core.List.{List, []}
 use native.Mathlib.Omega.{arith}
-use lib.ListN.{length, take, drop}
+use lib.ListN.{take, drop}
 use denote.Ref.{RefT, now, ptr}
 use Rattle.replication.specs.declared.Part.{Part}
 use Rattle.replication.specs.declared.Part.the-variants as P
 use Rattle.replication.specs.Queries.{partBytes, partNumber}
-use Rattle.queries.specs.Lent.{PartOf}
+use Rattle.queries.specs.Lent.{PointsInto}
 
 -- what `part_of` ensures
 abbrev pub Handed : Part → RefT (List ℕ) → RefT (List ℕ) → RefT (List ℕ) → ℕ → Type 0
-Handed p s t r number = (now r ≡ partBytes p (now s) (now t)) × (PartOf p s t r × (number ≡ partNumber p))
+Handed p s t r number = (now r ≡ partBytes p (now s) (now t)) × (PointsInto p s t r × (number ≡ partNumber p))
 
 -- a slice from a place on for so many bytes
 taken : (s : List ℕ) (at n : ℕ) → take (at + n - at) (drop at s) ≡ take n (drop at s)

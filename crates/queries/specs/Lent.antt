@@ -5,6 +5,6 @@ use denote.Ref.{RefT, ptr}
 use Rattle.replication.specs.declared.Part.{Part}
 use Rattle.replication.specs.declared.Part.the-variants as P
 
-pub record PartOf (p : Part) (store batch r : RefT (List ℕ)) : Type 0 where
+pub record PointsInto (p : Part) (store batch r : RefT (List ℕ)) : Type 0 where
   pub ofStore : (at n : ℕ) → p ≡ P.OfStore at n → ptr r ≡ (ptr store .0, at + ptr store .1)
   pub ofBatch : (at n : ℕ) → p ≡ P.OfBatch at n → ptr r ≡ (ptr batch .0, at + ptr batch .1)

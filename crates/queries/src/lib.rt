@@ -21,7 +21,7 @@ ghost use Rattle.replication.specs.Queries.{knowledgePart, countIn, thousandths
 ghost use Rattle.replication.specs.MethodRecords.{recordsAt, shapedAt};
 ghost use Rattle.lookup.specs.Method.{Open};
 ghost use Rattle.versions.specs.Method.{changeIn};
-ghost use Rattle.queries.specs.Lent.{PartOf};
+ghost use Rattle.queries.specs.Lent.{PointsInto};
 ghost use Rattle.queries.specs.Method.{Inside, tally};
 
 // the places of a store's knowledge and of a batch's first one
@@ -35,7 +35,7 @@ const BATCH_NEEDED: usize = 61;
 fn part_of<'a>(p: Part, store: &'a [u8], batch: &'a [u8], number: &mut u32) -> &'a [u8]
     requires { ⌜ Inside p (now store) (now batch) ⌝ }
     ensures part { λ r. ⌜ now r ≡ partBytes p (now (store .entry)) (now (batch .entry)) ⌝ }
-    ensures place { λ r. ⌜ PartOf p (store .entry) (batch .entry) r ⌝ }
+    ensures place { λ r. ⌜ PointsInto p (store .entry) (batch .entry) r ⌝ }
     ensures number { λ _. ⌜ now (number .exit) ≡ partNumber p ⌝ }
 {
     match p {
@@ -157,7 +157,7 @@ pub fn winner_part(store: &[u8], batch: &[u8], item: &[u8]) -> Part
 pub fn winner<'a>(store: &'a [u8], batch: &'a [u8], item: &[u8], number: &mut u32) -> &'a [u8]
     ensures part { λ r. ⌜ now r ≡ partBytes
         (winnerPart base (now (store .entry)) (now (batch .entry)) (now (item .entry))) (now (store .entry)) (now (batch .entry)) ⌝ }
-    ensures place { λ r. ⌜ PartOf
+    ensures place { λ r. ⌜ PointsInto
         (winnerPart base (now (store .entry)) (now (batch .entry)) (now (item .entry))) (store .entry) (batch .entry) r ⌝ }
     ensures number { λ _. ⌜ now (number .exit) ≡ partNumber
         (winnerPart base (now (store .entry)) (now (batch .entry)) (now (item .entry))) ⌝ }
@@ -193,7 +193,7 @@ pub fn learned_part(batch: &[u8]) -> Part
 // part is empty.
 pub fn learned<'a>(batch: &'a [u8], number: &mut u32) -> &'a [u8]
     ensures part { λ r. ⌜ now r ≡ partBytes (learnedPart base (now (batch .entry))) (now (batch .entry)) (now (batch .entry)) ⌝ }
-    ensures place { λ r. ⌜ PartOf (learnedPart base (now (batch .entry))) (batch .entry) (batch .entry) r ⌝ }
+    ensures place { λ r. ⌜ PointsInto (learnedPart base (now (batch .entry))) (batch .entry) (batch .entry) r ⌝ }
     ensures number { λ _. ⌜ now (number .exit) ≡ partNumber (learnedPart base (now (batch .entry))) ⌝ }
 {
     let p = learned_part(batch);
@@ -222,7 +222,7 @@ pub fn knowledge_part(store: &[u8]) -> Part
 // A store's own knowledge, as a part of the store, and the number beside it: 0, or the refusal's, and then the part is empty.
 pub fn own_knowledge<'a>(store: &'a [u8], number: &mut u32) -> &'a [u8]
     ensures part { λ r. ⌜ now r ≡ partBytes (knowledgePart base (now (store .entry))) (now (store .entry)) (now (store .entry)) ⌝ }
-    ensures place { λ r. ⌜ PartOf (knowledgePart base (now (store .entry))) (store .entry) (store .entry) r ⌝ }
+    ensures place { λ r. ⌜ PointsInto (knowledgePart base (now (store .entry))) (store .entry) (store .entry) r ⌝ }
     ensures number { λ _. ⌜ now (number .exit) ≡ partNumber (knowledgePart base (now (store .entry))) ⌝ }
 {
     let p = knowledge_part(store);

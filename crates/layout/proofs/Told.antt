@@ -1,12 +1,12 @@
--- What `sync_check` leaves behind its pointers, for each of the check's two answers: the four stores of an accepted
--- knowledge are those that the definition names, and a refusal leaves the numbers as they were.
+-- What a caller of the check is told, for each of its two answers: the number; and the four stores of an accepted knowledge's sizes are
+-- those that the definition names, while a refusal leaves the numbers as they were.
 use Prim.Native.Nat.{ℕ}
 use mathlib.Core.Path.{_≡_, sym, ap}
 use mathlib.Core.List.{List}
 use lib.ListN.{set}
 use Rattle.layout.specs.declared.Checked.{Checked}
 use Rattle.layout.specs.declared.Checked.the-variants.{Accepted, Refused}
 use Rattle.layout.specs.Answer.{checkedNumber, checkedSizes}
 
 module _ (c : Checked) (r v e g : ℕ) (is : c ≡ Accepted r v e g) where
   pub number-accepted : 0 ≡ checkedNumber c
