@@ -15,10 +15,11 @@ ghost use Rattle.codec.specs.Number.{beAt};
 ghost use Rattle.codec.specs.Words.{words2};
 ghost use Rattle.ticks.specs.Meaning.{highest};
 ghost use Rattle.layout.specs.MethodPlaces.{idsPlace};
-ghost use Rattle.tables.specs.MethodWords.{boundAt, stride};
-ghost use Rattle.lookup.specs.Method.{advanced, elementsHere};
+ghost use Rattle.tables.specs.MethodWords.{stride};
+ghost use Rattle.lookup.specs.Method.{elementsHere};
 ghost use Rattle.filling.specs.MethodColumns.{columnOf, joinOf, joined, columnsOf, mapped};
-ghost use Rattle.filling.specs.MethodRows.{boundOf, itemOf, InWords, boundRead, firstItem, topItem, boundIn, turnOf, turn, putBound, rowsOf, grown, stopped, firstRow, after, lastRow};
+ghost use Rattle.filling.specs.MethodRows.{boundOf, itemOf, InWords, boundRead, firstItem, topItem, boundIn, turn};
+ghost use Rattle.filling.specs.MethodRows.{putBound, rowsOf, grown, stopped, firstRow, after, lastRow};
 ghost use Rattle.filling.specs.MethodCells.{raisedIn, raisedBy, filled, columnSet};
 ghost use Rattle.filling.specs.MethodTables.{fits, tableOf, oneTable, twoTable, spanTable, raisedTable};
 
@@ -157,17 +158,6 @@ fn bound_at(s: &[u8], at: usize, n: u32) -> Bound
     Bound { high, middle, low }
 }
 
-// A bound that is taken, and how many bounds of each list are then passed.
-fn took(bound: Bound, first: u32, second: u32) -> Turn
-    ensures { λ r. ⌜ r ≡ turnOf bound first second ⌝ }
-{
-    Turn {
-        bound,
-        first,
-        second,
-    }
-}
-
 // The next of a bounds and b bounds, of which i and j are passed: the smaller one, the first list's where both are the same.
 fn next_bound(s: &[u8], a: u32, at: usize, i: u32, t: &[u8], b: u32, bt: usize, j: u32) -> Turn
     requires { ⌜ (at + 28 * a ≤ length (now s)) × (bt + 28 * b ≤ length (now t)) × (i ≤ a) × (j ≤ b) × (i + j < a + b) ⌝ }
@@ -175,17 +165,34 @@ fn next_bound(s: &[u8], a: u32, at: usize, i: u32, t: &[u8], b: u32, bt: usize, 
         × (r .first ≤ a) × (r .second ≤ b) × (r .first + r .second ≡ i + j + 1) ⌝ }
 {
     if b <= j {
-        return took(bound_at(s, at, i), i + 1, j);
+        let bound = bound_at(s, at, i);
+        return Turn {
+            bound,
+            first: i + 1,
+            second: j,
+        };
     }
     let y = bound_at(t, bt, j);
     if a <= i {
-        return took(y, i, j + 1);
+        return Turn {
+            bound: y,
+            first: i,
+            second: j + 1,
+        };
     }
     let x = bound_at(s, at, i);
     if codec::less3(y.high, y.middle, y.low, x.high, x.middle, x.low) {
-        return took(y, i, j + 1);
+        return Turn {
+            bound: y,
+            first: i,
+            second: j + 1,
+        };
     }
-    took(x, i + 1, j)
+    Turn {
+        bound: x,
+        first: i + 1,
+        second: j,
+    }
 }
 
 // The bound of a row.
@@ -391,15 +398,6 @@ fn raise_row(s: &[u8], vector: usize, keys: &[u32], t: &mut [u64], k: u32)
     }
 }
 
-// Moves a cursor on to the bound of row k.
-fn move_to(s: &[u8], r: u32, c: Cursor, bounds: &[u64], k: u32) -> Cursor
-    requires { ⌜ 3 * (k + 1) ≤ length (now bounds) ⌝ }
-    ensures { λ d. ⌜ d ≡ advanced (now (s .entry)) r c (boundAt (now (bounds .entry)) k) ⌝ }
-{
-    let i = 3 * (k as usize);
-    lookup::advance(s, r, c, bounds[i], bounds[i + 1], bounds[i + 2])
-}
-
 // Raises the rows from the first to the last to what a knowledge knows at their bounds.
 fn fill(
     s: &[u8],
@@ -417,7 +415,8 @@ fn fill(
     let mut c = start;
     let mut k = from;
     while k <= top {
-        c = move_to(s, r, c, bounds, k);
+        let i = 3 * (k as usize);
+        c = lookup::advance(s, r, c, bounds[i], bounds[i + 1], bounds[i + 2]);
         raise_row(s, c.vector, keys, t, k);
         k += 1;
     }

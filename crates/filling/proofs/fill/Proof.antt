@@ -3,6 +3,7 @@ use native.Mathlib.Omega.{arith}
 use Prim.Native.Nat.{suc, _+_, _-_, _*_, _^_, _≤_, _<_}
 use mathlib.Core.Path.{_≡_, ap, _∙_}
 use lib.ListN.{length}
+use Rattle.tables.specs.MethodWords.{boundAt}
 use Rattle.filling.specs.MethodCells.{filledFrom, filled}
 use Rattle.filling.proofs.Filling.{fill-starts, fill-ends, fill-next, filled-length}
 use Rattle.filling.proofs.fill.Statement.{statement}
@@ -18,8 +19,38 @@ abbrev μ-loop : tie.MeasureT-loop
 loop-holds : tie.Need-loop-holds Inv-loop μ-loop
 loop-holds c = (fill-starts _ _ _ _ _ _ _ _, omega arith, omega arith)
 
-move-to-requires : tie.Need-move-to-requires Inv-loop μ-loop
-move-to-requires c κs = omega arith
+cast-i : tie.Need-cast-i Inv-loop μ-loop
+cast-i c = omega arith
+
+mul-i : tie.Need-mul-i Inv-loop μ-loop
+mul-i c = omega arith
+
+mul-advance : tie.Need-mul-advance Inv-loop μ-loop
+mul-advance c = omega arith
+
+shared-slice-read-advance : tie.Need-shared-slice-read-advance Inv-loop μ-loop
+shared-slice-read-advance c = omega arith
+
+add-advance : tie.Need-add-advance Inv-loop μ-loop
+add-advance c = omega arith
+
+mul-advance-2 : tie.Need-mul-advance-2 Inv-loop μ-loop
+mul-advance-2 c = omega arith
+
+shared-slice-read-advance-2 : tie.Need-shared-slice-read-advance-2 Inv-loop μ-loop
+shared-slice-read-advance-2 c = omega arith
+
+add-advance-2 : tie.Need-add-advance-2 Inv-loop μ-loop
+add-advance-2 c = omega arith
+
+mul-advance-3 : tie.Need-mul-advance-3 Inv-loop μ-loop
+mul-advance-3 c = omega arith
+
+shared-slice-read-advance-3 : tie.Need-shared-slice-read-advance-3 Inv-loop μ-loop
+shared-slice-read-advance-3 c = omega arith
+
+advance-requires : tie.Need-advance-requires Inv-loop μ-loop
+advance-requires c κs = tt
 
 raise-row-requires : tie.Need-raise-row-requires Inv-loop μ-loop
 raise-row-requires c κs = tt
@@ -31,7 +62,8 @@ loop-less : tie.Need-loop-less Inv-loop μ-loop
 loop-less c = omega arith
 
 loop-again : tie.Need-loop-again Inv-loop μ-loop
-loop-again c = (fill-next _ _ _ _ _ _ _ _ _ (c .before .before .before .before .before .before .loop .inv .0) (c .before .before .before .before .before .loop-test .taken) _ (c .before .before .before .before .move-to .ensures) _ (c .before .before .raise-row .ensures), omega arith, omega arith)
+unfolding boundAt
+loop-again c = (fill-next _ _ _ _ _ _ _ _ _ (c .before .before .before .before .before .before .before .before .before .loop .inv .0) (c .before .before .before .before .before .before .before .before .loop-test .taken) _ (c .before .before .before .before .advance .ensures) _ (c .before .before .raise-row .ensures), omega arith, omega arith)
 
 same-length : tie.Need-same-length Inv-loop μ-loop
 same-length c = ap length (fill-ends _ _ _ _ _ _ _ _ _ (c .before .loop .inv .0) (omega arith)) ∙ filled-length _ _ _ _ _ _ _ _
@@ -46,7 +78,17 @@ fill-spec =
     Inv-loop
     μ-loop
     loop-holds
-    move-to-requires
+    cast-i
+    mul-i
+    mul-advance
+    shared-slice-read-advance
+    add-advance
+    mul-advance-2
+    shared-slice-read-advance-2
+    add-advance-2
+    mul-advance-3
+    shared-slice-read-advance-3
+    advance-requires
     raise-row-requires
     add-k
     loop-less

@@ -1,6 +1,8 @@
 -- `filling::fill_one` meets its contract: columns for the replicas, rows at the bounds, and the rows raised; or nothing.
 use native.Mathlib.Omega.{arith}
+use Prim.Native.Nat.{_+_}
 use mathlib.Core.Path.{refl, sym, _∙_}
+use lib.ListN.{length}
 use Rattle.filling.proofs.Tables.{fits-tells, none-put, one-none, one-some, one-put}
 use borrow.Author.Needs.{needs}
 use Rattle.filling.proofs.fill_one.Statement.{statement}
@@ -22,21 +24,24 @@ fits-requires : tie.Need-fits-requires
 fits-requires c κs = tt
 
 slice-aggregate-add-ids : tie.Need-slice-aggregate-add-ids
-slice-aggregate-add-ids c = search needs
+slice-aggregate-add-ids c = refl
 
 add-ids-requires : tie.Need-add-ids-requires
-add-ids-requires c κs = let f = fits-tells _ _ _ _ _ _ _ _ (sym (c .before .before .before .fits2 .ensures) ∙ c .before .before .if1 .taken) in
+add-ids-requires c κs = let a = c .before .before .before .before .before .before .before .before .before .args in
+    let f = fits-tells (a .s .now) (a .r) (a .start) (a .r) (a .start .left + 1) (length (a .ids .now)) (length (a .bounds .now)) (length (a .t .now)) (sym (c .before .before .before .fits2 .ensures) ∙ c .before .before .if1 .taken) in
     (f .map, omega (arith, f .small), omega (arith, f .idWords), omega (arith, f .small))
 
 all-stops-requires : tie.Need-all-stops-requires
-all-stops-requires c κs = let f = fits-tells _ _ _ _ _ _ _ _ (sym (c .before .before .before .before .before .before .before .before .fits2 .ensures) ∙ c .before .before .before .before .before .before .before .if1 .taken) in
+all-stops-requires c κs = let a = c .before .before .before .before .before .before .before .before .before .before .before .before .before .before .args in
+    let f = fits-tells (a .s .now) (a .r) (a .start) (a .r) (a .start .left + 1) (length (a .ids .now)) (length (a .bounds .now)) (length (a .t .now)) (sym (c .before .before .before .before .before .before .before .before .fits2 .ensures) ∙ c .before .before .before .before .before .before .before .if1 .taken) in
     (f .ranges, omega (arith, f .ranges), omega (arith, f .rows), omega (arith, f .boundWords))
 
 slice-aggregate-fill : tie.Need-slice-aggregate-fill
 slice-aggregate-fill c = search needs
 
 fill-requires : tie.Need-fill-requires
-fill-requires c κs = let f = fits-tells _ _ _ _ _ _ _ _ (sym (c .before .before .before .before .before .before .before .before .before .before .before .before .before .before .fits2 .ensures) ∙ c .before .before .before .before .before .before .before .before .before .before .before .before .before .if1 .taken) in
+fill-requires c κs = let a = c .before .before .before .before .before .before .before .before .before .before .before .before .before .before .before .before .before .before .before .before .args in
+    let f = fits-tells (a .s .now) (a .r) (a .start) (a .r) (a .start .left + 1) (length (a .ids .now)) (length (a .bounds .now)) (length (a .t .now)) (sym (c .before .before .before .before .before .before .before .before .before .before .before .before .before .before .fits2 .ensures) ∙ c .before .before .before .before .before .before .before .before .before .before .before .before .before .if1 .taken) in
     let y = c .before .before .before .before .before .all-stops .ensures in
     (omega (arith, f .boundWords, y .1, y .2), omega (arith, f .rows, y .1))
 

@@ -1,5 +1,6 @@
 -- `filling::fill_raised` meets its contract: the table of one knowledge, and the column of a replica set; or nothing.
 use native.Mathlib.Omega.{arith}
+use Prim.Native.Nat.{_+_}
 use mathlib.Core.Path.{refl, sym, _∙_}
 use lib.ListN.{length}
 use Rattle.filling.proofs.Filling.{filled-length}
@@ -29,31 +30,36 @@ fits-requires : tie.Need-fits-requires
 fits-requires c κs = tt
 
 slice-aggregate-add-ids : tie.Need-slice-aggregate-add-ids
-slice-aggregate-add-ids c = search needs
+slice-aggregate-add-ids c = refl
 
 add-ids-requires : tie.Need-add-ids-requires
-add-ids-requires c κs = let f = fits-tells _ _ _ _ _ _ _ _ (sym (c .before .before .before .fits2 .ensures) ∙ c .before .before .if1 .taken) in
+add-ids-requires c κs = let a = c .before .before .before .before .before .before .before .before .before .args in
+    let f = fits-tells (a .s .now) (a .r) (a .start) (a .r + 1) (a .start .left + 1) (length (a .ids .now)) (length (a .bounds .now)) (length (a .t .now)) (sym (c .before .before .before .fits2 .ensures) ∙ c .before .before .if1 .taken) in
     (f .map, omega (arith, f .small), omega (arith, f .idWords), omega (arith, f .small))
 
 join-id-requires : tie.Need-join-id-requires
-join-id-requires c κs = let f = fits-tells _ _ _ _ _ _ _ _ (sym (c .before .before .before .before .before .before .before .before .fits2 .ensures) ∙ c .before .before .before .before .before .before .before .if1 .taken) in
+join-id-requires c κs = let a = c .before .before .before .before .before .before .before .before .before .before .before .before .before .before .args in
+    let f = fits-tells (a .s .now) (a .r) (a .start) (a .r + 1) (a .start .left + 1) (length (a .ids .now)) (length (a .bounds .now)) (length (a .t .now)) (sym (c .before .before .before .before .before .before .before .before .fits2 .ensures) ∙ c .before .before .before .before .before .before .before .if1 .taken) in
     let x = c .before .before .before .before .add-ids .ensures in
     (omega arith, omega (arith, f .idWords, x .1, x .2), omega (arith, f .small, x .1))
 
 all-stops-requires : tie.Need-all-stops-requires
-all-stops-requires c κs = let f = fits-tells _ _ _ _ _ _ _ _ (sym (c .before .before .before .before .before .before .before .before .before .before .before .before .fits2 .ensures) ∙ c .before .before .before .before .before .before .before .before .before .before .before .if1 .taken) in
+all-stops-requires c κs = let a = c .before .before .before .before .before .before .before .before .before .before .before .before .before .before .before .before .before .before .args in
+    let f = fits-tells (a .s .now) (a .r) (a .start) (a .r + 1) (a .start .left + 1) (length (a .ids .now)) (length (a .bounds .now)) (length (a .t .now)) (sym (c .before .before .before .before .before .before .before .before .before .before .before .before .fits2 .ensures) ∙ c .before .before .before .before .before .before .before .before .before .before .before .if1 .taken) in
     (f .ranges, omega (arith, f .ranges), omega (arith, f .rows), omega (arith, f .boundWords))
 
 slice-aggregate-fill : tie.Need-slice-aggregate-fill
 slice-aggregate-fill c = search needs
 
 fill-requires : tie.Need-fill-requires
-fill-requires c κs = let f = fits-tells _ _ _ _ _ _ _ _ (sym (c .before .before .before .before .before .before .before .before .before .before .before .before .before .before .before .before .before .before .fits2 .ensures) ∙ c .before .before .before .before .before .before .before .before .before .before .before .before .before .before .before .before .before .if1 .taken) in
+fill-requires c κs = let a = c .before .before .before .before .before .before .before .before .before .before .before .before .before .before .before .before .before .before .before .before .before .before .before .before .args in
+    let f = fits-tells (a .s .now) (a .r) (a .start) (a .r + 1) (a .start .left + 1) (length (a .ids .now)) (length (a .bounds .now)) (length (a .t .now)) (sym (c .before .before .before .before .before .before .before .before .before .before .before .before .before .before .before .before .before .before .fits2 .ensures) ∙ c .before .before .before .before .before .before .before .before .before .before .before .before .before .before .before .before .before .if1 .taken) in
     let y = c .before .before .before .before .before .all-stops .ensures in
     (omega (arith, f .boundWords, y .1, y .2), omega (arith, f .rows, y .1))
 
 raise-column-requires : tie.Need-raise-column-requires
-raise-column-requires c κs = let f = fits-tells _ _ _ _ _ _ _ _ (sym (c .before .before .before .before .before .before .before .before .before .before .before .before .before .before .before .before .before .before .before .before .before .before .fits2 .ensures) ∙ c .before .before .before .before .before .before .before .before .before .before .before .before .before .before .before .before .before .before .before .before .before .if1 .taken) in
+raise-column-requires c κs = let a = c .before .before .before .before .before .before .before .before .before .before .before .before .before .before .before .before .before .before .before .before .before .before .before .before .before .before .before .before .args in
+    let f = fits-tells (a .s .now) (a .r) (a .start) (a .r + 1) (a .start .left + 1) (length (a .ids .now)) (length (a .bounds .now)) (length (a .t .now)) (sym (c .before .before .before .before .before .before .before .before .before .before .before .before .before .before .before .before .before .before .before .before .before .before .fits2 .ensures) ∙ c .before .before .before .before .before .before .before .before .before .before .before .before .before .before .before .before .before .before .before .before .before .if1 .taken) in
     let y = c .before .before .before .before .before .before .before .before .before .all-stops .ensures in
     (omega (arith, f .small, c .before .before .before .before .before .before .before .before .before .before .before .before .before .before .before .before .before .before .add-ids .ensures .1, c .before .before .before .before .before .before .before .before .before .before .before .before .before .join-id .ensures .1), omega (arith, f .cells, y .1), omega (arith, f .rows, y .1))
 

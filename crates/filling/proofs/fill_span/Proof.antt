@@ -1,6 +1,8 @@
 -- `filling::fill_span` meets its contract: columns for the replicas, rows from the first item to behind the last one, and the rows between raised; or nothing.
 use native.Mathlib.Omega.{arith}
+use Prim.Native.Nat.{_+_}
 use mathlib.Core.Path.{refl, sym, _∙_}
+use lib.ListN.{length}
 use Rattle.filling.proofs.Tables.{fits-tells, none-put, span-none, span-some, span-put}
 use borrow.Author.Needs.{needs}
 use Rattle.filling.proofs.fill_span.Statement.{statement}
@@ -24,23 +26,27 @@ fits-requires : tie.Need-fits-requires
 fits-requires c κs = tt
 
 slice-aggregate-add-ids : tie.Need-slice-aggregate-add-ids
-slice-aggregate-add-ids c = search needs
+slice-aggregate-add-ids c = refl
 
 add-ids-requires : tie.Need-add-ids-requires
-add-ids-requires c κs = let f = fits-tells _ _ _ _ _ _ _ _ (sym (c .before .before .before .fits2 .ensures) ∙ c .before .before .if1 .taken) in
+add-ids-requires c κs = let a = c .before .before .before .before .before .before .before .before .before .args in
+    let f = fits-tells (a .s .now) (a .r) (a .start) (a .r) (a .start .left + 3) (length (a .ids .now)) (length (a .bounds .now)) (length (a .t .now)) (sym (c .before .before .before .fits2 .ensures) ∙ c .before .before .if1 .taken) in
     (f .map, omega (arith, f .small), omega (arith, f .idWords), omega (arith, f .small))
 
 first-row-requires : tie.Need-first-row-requires
-first-row-requires c κs = let f = fits-tells _ _ _ _ _ _ _ _ (sym (c .before .before .before .before .before .before .before .before .fits2 .ensures) ∙ c .before .before .before .before .before .before .before .if1 .taken) in
+first-row-requires c κs = let a = c .before .before .before .before .before .before .before .before .before .before .before .before .before .before .args in
+    let f = fits-tells (a .s .now) (a .r) (a .start) (a .r) (a .start .left + 3) (length (a .ids .now)) (length (a .bounds .now)) (length (a .t .now)) (sym (c .before .before .before .before .before .before .before .before .fits2 .ensures) ∙ c .before .before .before .before .before .before .before .if1 .taken) in
     omega (arith, f .boundWords)
 
 stops-requires : tie.Need-stops-requires
-stops-requires c κs = let f = fits-tells _ _ _ _ _ _ _ _ (sym (c .before .before .before .before .before .before .before .before .before .before .before .before .fits2 .ensures) ∙ c .before .before .before .before .before .before .before .before .before .before .before .if1 .taken) in
+stops-requires c κs = let a = c .before .before .before .before .before .before .before .before .before .before .before .before .before .before .before .before .before .before .args in
+    let f = fits-tells (a .s .now) (a .r) (a .start) (a .r) (a .start .left + 3) (length (a .ids .now)) (length (a .bounds .now)) (length (a .t .now)) (sym (c .before .before .before .before .before .before .before .before .before .before .before .before .fits2 .ensures) ∙ c .before .before .before .before .before .before .before .before .before .before .before .if1 .taken) in
     let x = c .before .before .before .first-row .ensures in
     (f .ranges, omega (arith, f .ranges), omega (arith, f .rows, x .2), omega (arith, f .boundWords, x .2, x .3))
 
 last-row-requires : tie.Need-last-row-requires
-last-row-requires c κs = let f = fits-tells _ _ _ _ _ _ _ _ (sym (c .before .before .before .before .before .before .before .before .before .before .before .before .before .before .before .before .fits2 .ensures) ∙ c .before .before .before .before .before .before .before .before .before .before .before .before .before .before .before .if1 .taken) in
+last-row-requires c κs = let a = c .before .before .before .before .before .before .before .before .before .before .before .before .before .before .before .before .before .before .before .before .before .before .args in
+    let f = fits-tells (a .s .now) (a .r) (a .start) (a .r) (a .start .left + 3) (length (a .ids .now)) (length (a .bounds .now)) (length (a .t .now)) (sym (c .before .before .before .before .before .before .before .before .before .before .before .before .before .before .before .before .fits2 .ensures) ∙ c .before .before .before .before .before .before .before .before .before .before .before .before .before .before .before .if1 .taken) in
     let x = c .before .before .before .before .before .before .before .first-row .ensures in
     let y = c .before .before .before .stops .ensures in
     (omega (arith, f .boundWords, x .2, x .3, y .2, y .3), omega (arith, f .rows, x .2, y .2))
@@ -49,7 +55,8 @@ slice-aggregate-fill : tie.Need-slice-aggregate-fill
 slice-aggregate-fill c = search needs
 
 fill-requires : tie.Need-fill-requires
-fill-requires c κs = let f = fits-tells _ _ _ _ _ _ _ _ (sym (c .before .before .before .before .before .before .before .before .before .before .before .before .before .before .before .before .before .before .before .before .before .before .fits2 .ensures) ∙ c .before .before .before .before .before .before .before .before .before .before .before .before .before .before .before .before .before .before .before .before .before .if1 .taken) in
+fill-requires c κs = let a = c .before .before .before .before .before .before .before .before .before .before .before .before .before .before .before .before .before .before .before .before .before .before .before .before .before .before .before .before .args in
+    let f = fits-tells (a .s .now) (a .r) (a .start) (a .r) (a .start .left + 3) (length (a .ids .now)) (length (a .bounds .now)) (length (a .t .now)) (sym (c .before .before .before .before .before .before .before .before .before .before .before .before .before .before .before .before .before .before .before .before .before .before .fits2 .ensures) ∙ c .before .before .before .before .before .before .before .before .before .before .before .before .before .before .before .before .before .before .before .before .before .if1 .taken) in
     let x = c .before .before .before .before .before .before .before .before .before .before .before .before .before .first-row .ensures in
     let y = c .before .before .before .before .before .before .before .before .before .stops .ensures in
     (omega (arith, f .boundWords, x .2, x .3, y .2, y .3, c .before .before .before .before .before .last-row .ensures .1), omega (arith, f .rows, x .2, y .2))

@@ -1,6 +1,8 @@
 -- `filling::fill_two` meets its contract: columns for the replicas of both maps, rows at the bounds of both, and the rows raised twice; or nothing.
 use native.Mathlib.Omega.{arith}
+use Prim.Native.Nat.{_+_}
 use mathlib.Core.Path.{refl, sym, _∙_}
+use lib.ListN.{length}
 use Rattle.filling.proofs.Tables.{fits-tells, none-put, two-none, two-no-second, two-some, two-put}
 use borrow.Author.Needs.{needs}
 use Rattle.filling.proofs.fill_two.Statement.{statement}
@@ -34,33 +36,37 @@ fits-requires-2 : tie.Need-fits-requires-2
 fits-requires-2 c κs = tt
 
 slice-aggregate-add-ids : tie.Need-slice-aggregate-add-ids
-slice-aggregate-add-ids c = search needs
+slice-aggregate-add-ids c = refl
 
 add-ids-requires : tie.Need-add-ids-requires
-add-ids-requires c κs = let f = fits-tells _ _ _ _ _ _ _ _ (sym (c .before .before .before .before .before .fits2 .ensures) ∙ c .before .before .before .before .if1 .taken) in
-    let g = fits-tells _ _ _ _ _ _ _ _ (sym (c .before .before .before .fits3 .ensures) ∙ c .before .before .if2 .taken) in
+add-ids-requires c κs = let a = c .before .before .before .before .before .before .before .before .before .before .before .before .before .args in
+    let f = fits-tells (a .s .now) (a .r) (a .start) (a .r + a .m) (a .start .left + a .begin .left + 1) (length (a .ids .now)) (length (a .bounds .now)) (length (a .t .now)) (sym (c .before .before .before .before .before .fits2 .ensures) ∙ c .before .before .before .before .if1 .taken) in
+    let g = fits-tells (a .other .now) (a .m) (a .begin) (a .r + a .m) (a .start .left + a .begin .left + 1) (length (a .ids .now)) (length (a .bounds .now)) (length (a .t .now)) (sym (c .before .before .before .fits3 .ensures) ∙ c .before .before .if2 .taken) in
     (f .map, omega (arith, f .small), omega (arith, f .idWords), omega (arith, f .small))
 
 slice-aggregate-add-ids-2 : tie.Need-slice-aggregate-add-ids-2
-slice-aggregate-add-ids-2 c = search needs
+slice-aggregate-add-ids-2 c = refl
 
 add-ids-requires-2 : tie.Need-add-ids-requires-2
-add-ids-requires-2 c κs = let f = fits-tells _ _ _ _ _ _ _ _ (sym (c .before .before .before .before .before .before .before .before .before .before .before .fits2 .ensures) ∙ c .before .before .before .before .before .before .before .before .before .before .if1 .taken) in
-    let g = fits-tells _ _ _ _ _ _ _ _ (sym (c .before .before .before .before .before .before .before .before .before .fits3 .ensures) ∙ c .before .before .before .before .before .before .before .before .if2 .taken) in
+add-ids-requires-2 c κs = let a = c .before .before .before .before .before .before .before .before .before .before .before .before .before .before .before .before .before .before .before .args in
+    let f = fits-tells (a .s .now) (a .r) (a .start) (a .r + a .m) (a .start .left + a .begin .left + 1) (length (a .ids .now)) (length (a .bounds .now)) (length (a .t .now)) (sym (c .before .before .before .before .before .before .before .before .before .before .before .fits2 .ensures) ∙ c .before .before .before .before .before .before .before .before .before .before .if1 .taken) in
+    let g = fits-tells (a .other .now) (a .m) (a .begin) (a .r + a .m) (a .start .left + a .begin .left + 1) (length (a .ids .now)) (length (a .bounds .now)) (length (a .t .now)) (sym (c .before .before .before .before .before .before .before .before .before .fits3 .ensures) ∙ c .before .before .before .before .before .before .before .before .if2 .taken) in
     let x = c .before .before .before .before .before .add-ids .ensures in
     (g .map, omega (arith, g .small), omega (arith, f .idWords, x .1, x .2), omega (arith, f .small, g .small, x .1))
 
 all-stops-requires : tie.Need-all-stops-requires
-all-stops-requires c κs = let f = fits-tells _ _ _ _ _ _ _ _ (sym (c .before .before .before .before .before .before .before .before .before .before .before .before .before .before .before .before .fits2 .ensures) ∙ c .before .before .before .before .before .before .before .before .before .before .before .before .before .before .before .if1 .taken) in
-    let g = fits-tells _ _ _ _ _ _ _ _ (sym (c .before .before .before .before .before .before .before .before .before .before .before .before .before .before .fits3 .ensures) ∙ c .before .before .before .before .before .before .before .before .before .before .before .before .before .if2 .taken) in
-    (f .ranges, g .ranges, omega (arith, f .rows), omega (arith, f .boundWords))
+all-stops-requires c κs = let a = c .before .before .before .before .before .before .before .before .before .before .before .before .before .before .before .before .before .before .before .before .before .before .before .before .args in
+    let f = fits-tells (a .s .now) (a .r) (a .start) (a .r + a .m) (a .start .left + a .begin .left + 1) (length (a .ids .now)) (length (a .bounds .now)) (length (a .t .now)) (sym (c .before .before .before .before .before .before .before .before .before .before .before .before .before .before .before .before .fits2 .ensures) ∙ c .before .before .before .before .before .before .before .before .before .before .before .before .before .before .before .if1 .taken) in
+    let g = fits-tells (a .other .now) (a .m) (a .begin) (a .r + a .m) (a .start .left + a .begin .left + 1) (length (a .ids .now)) (length (a .bounds .now)) (length (a .t .now)) (sym (c .before .before .before .before .before .before .before .before .before .before .before .before .before .before .fits3 .ensures) ∙ c .before .before .before .before .before .before .before .before .before .before .before .before .before .if2 .taken) in
+    (f .ranges, omega (arith, g .ranges), omega (arith, f .rows), omega (arith, f .boundWords))
 
 slice-aggregate-fill : tie.Need-slice-aggregate-fill
 slice-aggregate-fill c = search needs
 
 fill-requires : tie.Need-fill-requires
-fill-requires c κs = let f = fits-tells _ _ _ _ _ _ _ _ (sym (c .before .before .before .before .before .before .before .before .before .before .before .before .before .before .before .before .before .before .before .before .before .before .fits2 .ensures) ∙ c .before .before .before .before .before .before .before .before .before .before .before .before .before .before .before .before .before .before .before .before .before .if1 .taken) in
-    let g = fits-tells _ _ _ _ _ _ _ _ (sym (c .before .before .before .before .before .before .before .before .before .before .before .before .before .before .before .before .before .before .before .before .fits3 .ensures) ∙ c .before .before .before .before .before .before .before .before .before .before .before .before .before .before .before .before .before .before .before .if2 .taken) in
+fill-requires c κs = let a = c .before .before .before .before .before .before .before .before .before .before .before .before .before .before .before .before .before .before .before .before .before .before .before .before .before .before .before .before .before .before .args in
+    let f = fits-tells (a .s .now) (a .r) (a .start) (a .r + a .m) (a .start .left + a .begin .left + 1) (length (a .ids .now)) (length (a .bounds .now)) (length (a .t .now)) (sym (c .before .before .before .before .before .before .before .before .before .before .before .before .before .before .before .before .before .before .before .before .before .before .fits2 .ensures) ∙ c .before .before .before .before .before .before .before .before .before .before .before .before .before .before .before .before .before .before .before .before .before .if1 .taken) in
+    let g = fits-tells (a .other .now) (a .m) (a .begin) (a .r + a .m) (a .start .left + a .begin .left + 1) (length (a .ids .now)) (length (a .bounds .now)) (length (a .t .now)) (sym (c .before .before .before .before .before .before .before .before .before .before .before .before .before .before .before .before .before .before .before .before .fits3 .ensures) ∙ c .before .before .before .before .before .before .before .before .before .before .before .before .before .before .before .before .before .before .before .if2 .taken) in
     let y = c .before .before .before .before .before .all-stops .ensures in
     (omega (arith, f .boundWords, y .1, y .2), omega (arith, f .rows, y .1))
 
@@ -68,8 +74,9 @@ slice-aggregate-fill-2 : tie.Need-slice-aggregate-fill-2
 slice-aggregate-fill-2 c = search needs
 
 fill-requires-2 : tie.Need-fill-requires-2
-fill-requires-2 c κs = let f = fits-tells _ _ _ _ _ _ _ _ (sym (c .before .before .before .before .before .before .before .before .before .before .before .before .before .before .before .before .before .before .before .before .before .before .before .before .before .before .before .before .fits2 .ensures) ∙ c .before .before .before .before .before .before .before .before .before .before .before .before .before .before .before .before .before .before .before .before .before .before .before .before .before .before .before .if1 .taken) in
-    let g = fits-tells _ _ _ _ _ _ _ _ (sym (c .before .before .before .before .before .before .before .before .before .before .before .before .before .before .before .before .before .before .before .before .before .before .before .before .before .before .fits3 .ensures) ∙ c .before .before .before .before .before .before .before .before .before .before .before .before .before .before .before .before .before .before .before .before .before .before .before .before .before .if2 .taken) in
+fill-requires-2 c κs = let a = c .before .before .before .before .before .before .before .before .before .before .before .before .before .before .before .before .before .before .before .before .before .before .before .before .before .before .before .before .before .before .before .before .before .before .before .before .args in
+    let f = fits-tells (a .s .now) (a .r) (a .start) (a .r + a .m) (a .start .left + a .begin .left + 1) (length (a .ids .now)) (length (a .bounds .now)) (length (a .t .now)) (sym (c .before .before .before .before .before .before .before .before .before .before .before .before .before .before .before .before .before .before .before .before .before .before .before .before .before .before .before .before .fits2 .ensures) ∙ c .before .before .before .before .before .before .before .before .before .before .before .before .before .before .before .before .before .before .before .before .before .before .before .before .before .before .before .if1 .taken) in
+    let g = fits-tells (a .other .now) (a .m) (a .begin) (a .r + a .m) (a .start .left + a .begin .left + 1) (length (a .ids .now)) (length (a .bounds .now)) (length (a .t .now)) (sym (c .before .before .before .before .before .before .before .before .before .before .before .before .before .before .before .before .before .before .before .before .before .before .before .before .before .before .fits3 .ensures) ∙ c .before .before .before .before .before .before .before .before .before .before .before .before .before .before .before .before .before .before .before .before .before .before .before .before .before .if2 .taken) in
     let y = c .before .before .before .before .before .before .before .before .before .before .before .all-stops .ensures in
     (omega (arith, f .boundWords, y .1, y .2), omega (arith, f .rows, y .1))
 

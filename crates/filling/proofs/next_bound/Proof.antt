@@ -7,26 +7,20 @@ use Rattle.filling.proofs.next_bound.Tie as tie
 bound-at-requires : tie.Need-bound-at-requires
 bound-at-requires c κs = omega arith
 
-add-took : tie.Need-add-took
-add-took c = omega arith
-
-took-requires : tie.Need-took-requires
-took-requires c κs = tt
+add-t13 : tie.Need-add-t13
+add-t13 c = omega arith
 
 returns : tie.Need-returns
-returns c = rw (c .took .ensures) (turn-first _ _ _ _ _ _ _ _ (c .before .before .if1 .taken) _ (c .before .bound-at .ensures), omega arith, omega arith, omega arith)
+returns c = (turn-first _ _ _ _ _ _ _ _ (c .before .if1 .taken) _ (c .bound-at .ensures), omega arith, omega arith, omega arith)
 
 bound-at-requires-2 : tie.Need-bound-at-requires-2
 bound-at-requires-2 c κs = omega arith
 
-add-took-2 : tie.Need-add-took-2
-add-took-2 c = omega arith
-
-took-requires-2 : tie.Need-took-requires-2
-took-requires-2 c κs = tt
+add-t14 : tie.Need-add-t14
+add-t14 c = omega arith
 
 returns-2 : tie.Need-returns-2
-returns-2 c = rw (c .took2 .ensures) (turn-second _ _ _ _ _ _ _ _ (omega arith) (c .before .if2 .taken) _ (c .before .before .bound-at2 .ensures), omega arith, omega arith, omega arith)
+returns-2 c = (turn-second _ _ _ _ _ _ _ _ (omega arith) (c .if2 .taken) _ (c .before .bound-at2 .ensures), omega arith, omega arith, omega arith)
 
 bound-at-requires-3 : tie.Need-bound-at-requires-3
 bound-at-requires-3 c κs = omega arith
@@ -34,41 +28,31 @@ bound-at-requires-3 c κs = omega arith
 less3-requires : tie.Need-less3-requires
 less3-requires c κs = tt
 
-add-took-3 : tie.Need-add-took-3
-add-took-3 c = omega arith
-
-took-requires-3 : tie.Need-took-requires-3
-took-requires-3 c κs = tt
+add-t16 : tie.Need-add-t16
+add-t16 c = omega arith
 
 returns-3 : tie.Need-returns-3
-returns-3 c = rw (c .took3 .ensures) (turn-lower _ _ _ _ _ _ _ _ (omega arith) (omega arith) _ _ (c .before .before .before .bound-at3 .ensures) (c .before .before .before .before .before .bound-at2 .ensures) _ (c .before .before .less3 .ensures) (c .before .if3 .taken), omega arith, omega arith, omega arith)
+returns-3 c = (turn-lower _ _ _ _ _ _ _ _ (omega arith) (omega arith) _ _ (c .before .before .bound-at3 .ensures) (c .before .before .before .before .bound-at2 .ensures) _ (c .before .less3 .ensures) (c .if3 .taken), omega arith, omega arith, omega arith)
 
-add-took-4 : tie.Need-add-took-4
-add-took-4 c = omega arith
-
-took-requires-4 : tie.Need-took-requires-4
-took-requires-4 c κs = tt
+add-t17 : tie.Need-add-t17
+add-t17 c = omega arith
 
 returns-4 : tie.Need-returns-4
-returns-4 c = rw (c .took4 .ensures) (turn-upper _ _ _ _ _ _ _ _ (omega arith) (omega arith) _ _ (c .before .before .before .bound-at3 .ensures) (c .before .before .before .before .before .bound-at2 .ensures) _ (c .before .before .less3 .ensures) (c .before .if3 .left), omega arith, omega arith, omega arith)
+returns-4 c = (turn-upper _ _ _ _ _ _ _ _ (omega arith) (omega arith) _ _ (c .before .before .bound-at3 .ensures) (c .before .before .before .before .bound-at2 .ensures) _ (c .before .less3 .ensures) (c .if3 .left), omega arith, omega arith, omega arith)
 
 pub next-bound-spec : {M : Type 1} → statement M
 next-bound-spec =
     tie.close
     (tie.spec
     bound-at-requires
-    add-took
-    took-requires
+    add-t13
     returns
     bound-at-requires-2
-    add-took-2
-    took-requires-2
+    add-t14
     returns-2
     bound-at-requires-3
     less3-requires
-    add-took-3
-    took-requires-3
+    add-t16
     returns-3
-    add-took-4
-    took-requires-4
+    add-t17
     returns-4)
