@@ -501,7 +501,7 @@ fn project_many(
 }
 
 // Whether two ids are no span: one is not 24 bytes long, or the first is above the last.
-fn wrong_span(first: &[u8], last: &[u8]) -> bool
+pub fn wrong_span(first: &[u8], last: &[u8]) -> bool
     ensures { λ b. ⌜ b ≡ wrongSpan (now (first .entry)) (now (last .entry)) ⌝ }
 {
     if first.len() != 24 {
