@@ -21,6 +21,14 @@ extern "C" {
 #endif
 
 /*
+ * The longest knowledge, store and batch, in bytes. A buffer as long as these is never too short for a result, and a file that is longer is none
+ * of ours. (Proved: theorem `enough`, crates/replication/proofs/Enough.antt.)
+ */
+#define SYNC_LARGEST_KNOWLEDGE 14933
+#define SYNC_LARGEST_STORE 37742
+#define SYNC_LARGEST_BATCH 52711
+
+/*
  * The numbers of the refusals. A knowledge is read from left to right, and the number is that of the first field with a
  * fault. Each id, count, key, tick, bound and index is a field of its own.
  *
