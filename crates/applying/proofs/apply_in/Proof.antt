@@ -9,7 +9,9 @@ add-mine : tie.Need-add-mine
 add-mine c = search needs
 
 add-theirs : tie.Need-add-theirs
-add-theirs c = omega (arith, c .before .before .before .before .before .before .before .before .before .before .before .before .before .before .pre .0 .otherRoom, c .before .before .before .before .before .before .before .before .before .before .before .before .before .before .good .1 .1 .1 .1 .1 .0 .0)
+add-theirs c =
+    let s = c .before .before .before .before .before .before .before .before .before .before .before .before .before .before in
+    omega (arith, s .pre .0 .otherRoom, s .good .1 .1 .1 .1 .1 .0 .0)
 
 fill-two-requires : tie.Need-fill-two-requires
 fill-two-requires c κs = search needs
@@ -24,7 +26,9 @@ same-length : tie.Need-same-length
 same-length c = search needs
 
 same-length-2 : tie.Need-same-length-2
-same-length-2 c = omega (arith, c .before .before .before .before .before .before .before .before .before .before .before .before .before .before .before .before .before .before .before .before .before .before .before .before .before .before .before .before .before .before .ids .given)
+same-length-2 c =
+    let p = c .before .before .before .before .before .before .before .before .before .before .before .before .before .before .before .before .before .before .before in
+    omega (arith, p .before .before .before .before .before .before .before .before .before .before .before .ids .given)
 
 same-length-3 : tie.Need-same-length-3
 same-length-3 c = search needs
@@ -46,12 +50,16 @@ same-length-8 c = search needs
 
 returns : tie.Need-returns
 returns c =
-    let a = c .before .before .before .before .before .before .before .before .before .before .before .before .before .before .before .before .before .before .before .before .before .before .before .before .before .before .before .before .before .before .before .before .before .before .before .before .before .before .before .before .before .before .before .before .before .before .before .before .before .args in
-    let h = c .before .before .before .before .before .before .before .before .before .before .before .before .before .before .before .before .before .before .before .before .before .before .before .before .before .before .before .before .before .before .before .before .before .before .before .before .before .before .before .before .before .before .before .before .before .before .before .before .before .pre in
-    apply-ends (a .replicas) (a .ranges) (a .records) _ _ _ _ _ _ _ _ (h .0) _ _ _ _ _ _ (h .1) (h .2) _ _ _ _ (c .before .before .before .before .before .before .before .before .before .before .before .before .before .before .before .before .before .before .before .before .before .before .before .before .before .before .before .before .before .before .before .fill-two .ensures)
-    (record { below = λ i. omega (arith, c .before .before .before .before .before .before .before .before .before .before .before .before .before .before .before .before .before .before .before .before .before .before .before .before .before .before .before .before .before .slice-known9 .given i) })
-    (record { below = λ i. omega (arith, c .before .before .before .before .before .before .before .before .before .before .before .before .before .before .before .before .before .before .before .before .before .before .before .before .before .before .before .slice-known10 .given i) }) _ _ _ _ (c .before .before .before .before .before .before .before .before .before .before .before .before .before .before .before .before .before .before .before .prepare .ensures)
-    (a .picks .now) (h .3) (a .out .now) _ _ (c .before .before .before .before .finish-store .ensures .0) (c .before .before .before .before .finish-store .ensures .1)
+    let d = c .before .before .before .before in
+    let p = d .before .before .before .before .before .before .before .before .before .before .before .before .before .before .before in
+    let f = p .before .before .before .before .before .before .before .before .before .before .before .before in
+    let s = f .before .before .before .before .before .before .before .before .before .before .before .before .before .before .before .before .before .before in
+    let a = s .args in
+    let h = s .pre in
+    apply-ends (a .replicas) (a .ranges) (a .records) _ _ _ _ _ _ _ _ (h .0) _ _ _ _ _ _ (h .1) (h .2) _ _ _ _ (f .fill-two .ensures)
+    (record { below = λ i. omega (arith, p .before .before .before .before .before .before .before .before .before .before .slice-known9 .given i) })
+    (record { below = λ i. omega (arith, p .before .before .before .before .before .before .before .before .slice-known10 .given i) })
+    _ _ _ _ (p .prepare .ensures) (a .picks .now) (h .3) (a .out .now) _ _ (d .finish-store .ensures .0) (d .finish-store .ensures .1)
 
 pub apply-in-spec : {M : Type 1} → statement M
 apply-in-spec =

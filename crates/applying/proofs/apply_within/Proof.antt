@@ -31,18 +31,21 @@ enum-told-2 c = search needs
 
 returns-2 : tie.Need-returns-2
 returns-2 c =
-    let a = c .before .before .before .before .before .before .before .before .before .before .args in
-    let y : Bytes (a .store .now) = record { below = λ i. omega (arith, c .before .before .before .before .before .before .before .before .before .shared-slice-known .given i) } in
-    not-batch (a .replicas) (a .ranges) (a .records) _ _ _ (c .before .before .before .before .before .before .open-store .ensures) y _ _ (c .before .before .before .before .own .given .1) _
+    let o = c .before .before .before .before .before .before in
+    let a = o .before .before .before .before .args in
+    let y : Bytes (a .store .now) = record { below = λ i. omega (arith, o .before .before .before .shared-slice-known .given i) } in
+    not-batch (a .replicas) (a .ranges) (a .records) _ _ _ (o .open-store .ensures) y _ _ (c .before .before .before .before .own .given .1) _
     (c .before .before .open-batch .ensures) _ (c .enum-told2 .given .1)
 
 apply-open-requires : tie.Need-apply-open-requires
 apply-open-requires c κs =
-    let a = c .before .before .before .before .before .before .before .before .before .before .before .before .args in
-    let y : Bytes (a .store .now) = record { below = λ i. omega (arith, c .before .before .before .before .before .before .before .before .before .before .before .shared-slice-known .given i) } in
-    let z : Bytes (a .batch .now) = record { below = λ i. omega (arith, c .before .before .before .before .before .before .before .before .before .before .shared-slice-known2 .given i) } in
-    both-valid (a .replicas) (a .ranges) (a .records) _ _ _ (c .before .before .before .before .before .before .before .before .open-store .ensures) y _ _ (c .before .before .before .before .before .before .own .given .1) _
-    (c .before .before .before .before .open-batch .ensures) z _ _ _ (c .before .before .needed .given .1)
+    let b = c .before .before .before .before in
+    let o = b .before .before .before .before in
+    let a = o .before .before .before .before .args in
+    let y : Bytes (a .store .now) = record { below = λ i. omega (arith, o .before .before .before .shared-slice-known .given i) } in
+    let z : Bytes (a .batch .now) = record { below = λ i. omega (arith, o .before .before .shared-slice-known2 .given i) } in
+    both-valid (a .replicas) (a .ranges) (a .records) _ _ _ (o .open-store .ensures) y _ _ (b .before .before .own .given .1) _
+    (b .open-batch .ensures) z _ _ _ (c .before .before .needed .given .1)
 
 same-length : tie.Need-same-length
 same-length c = search needs

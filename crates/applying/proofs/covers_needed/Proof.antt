@@ -45,18 +45,22 @@ enum-told-2 c = search needs
 
 returns : tie.Need-returns
 returns c =
-    let h = c .before .before .before .before .before .before .before .before .before .before .before .before .pre in
-    needed-covered _ _ _ _ _ _ (c .before .before .before .before .before .before .before .before .before .before .before .before .args .batch .now) (h .0) (h .1) (h .2) (h .3) _ _ _ _ _ _
-    (record { high = c .before .before .before .before .before .before .before .before .read8 .ensures .0; middle = c .before .before .before .before .before .before .before .read82 .ensures .0; low = c .before .before .before .before .before .before .read83 .ensures .0 })
-    (record { high = c .before .before .before .before .before .read84 .ensures .0; middle = c .before .before .before .before .read85 .ensures .0; low = c .before .before .before .read86 .ensures .0 })
+    let l = c .before .before .before in
+    let f = l .before .before .before in
+    let s = f .before .before .before .before .before .before in
+    needed-covered _ _ _ _ _ _ (s .args .batch .now) (s .pre .0) (s .pre .1) (s .pre .2) (s .pre .3) _ _ _ _ _ _
+    (record { high = f .before .before .read8 .ensures .0; middle = f .before .read82 .ensures .0; low = f .read83 .ensures .0 })
+    (record { high = l .before .before .read84 .ensures .0; middle = l .before .read85 .ensures .0; low = l .read86 .ensures .0 })
     _ (c .before .before .lacking .ensures) (c .enum-told .given .1)
 
 returns-2 : tie.Need-returns-2
 returns-2 c =
-    let h = c .before .before .before .before .before .before .before .before .before .before .before .before .pre in
-    needed-lacking _ _ _ _ _ _ (c .before .before .before .before .before .before .before .before .before .before .before .before .args .batch .now) (h .0) (h .1) (h .2) (h .3) _ _ _ _ _ _
-    (record { high = c .before .before .before .before .before .before .before .before .read8 .ensures .0; middle = c .before .before .before .before .before .before .before .read82 .ensures .0; low = c .before .before .before .before .before .before .read83 .ensures .0 })
-    (record { high = c .before .before .before .before .before .read84 .ensures .0; middle = c .before .before .before .before .read85 .ensures .0; low = c .before .before .before .read86 .ensures .0 })
+    let l = c .before .before .before in
+    let f = l .before .before .before in
+    let s = f .before .before .before .before .before .before in
+    needed-lacking _ _ _ _ _ _ (s .args .batch .now) (s .pre .0) (s .pre .1) (s .pre .2) (s .pre .3) _ _ _ _ _ _
+    (record { high = f .before .before .read8 .ensures .0; middle = f .before .read82 .ensures .0; low = f .read83 .ensures .0 })
+    (record { high = l .before .before .read84 .ensures .0; middle = l .before .read85 .ensures .0; low = l .read86 .ensures .0 })
     _ (c .before .before .lacking .ensures) _ _ _ _ _ (c .enum-told2 .given .1)
 
 pub covers-needed-spec : {M : Type 1} → statement M

@@ -17,7 +17,8 @@ top-key-requires c κs = search needs
 returns : tie.Need-returns
 returns c =
     let h = c .before .before .before .before .before .pre in
-    own-covered _ _ _ _ _ _ _ (h .0) (h .1) (h .2) _ (c .before .before .known-tick .ensures) _ (c .before .key-of .ensures) _ (c .top-key .ensures) _ refl
+    own-covered _ _ _ _ _ _ _ (h .0) (h .1) (h .2) _ (c .before .before .known-tick .ensures) _ (c .before .key-of .ensures)
+    _ (c .top-key .ensures) _ refl
 
 pub covers-own-spec : {M : Type 1} → statement M
 covers-own-spec = tie.close (tie.spec known-tick-requires key-of-requires top-key-requires returns)
