@@ -5,6 +5,7 @@
 // up in the given knowledge as it stands, which contains the same versions as its normal form.
 use codec::Answer;
 use filling::Bound;
+use joining::Extent;
 use lookup::Opened;
 use operations::Prepared;
 use stores::KnowledgePart;
@@ -19,7 +20,8 @@ ghost use Rattle.layout.specs.Permitted.{within};
 ghost use Rattle.filling.specs.MethodTables.{TableRoom};
 ghost use Rattle.operations.specs.MethodCalls.{few, PlanRoom, Ended};
 ghost use Rattle.replication.specs.Calls.{makeReply};
-ghost use Rattle.making.specs.Method.{Small, Sized, Inputs, Makes, Learns, Finishes};
+ghost use Rattle.joining.specs.MethodJoin.{sizeFrom, fronted};
+ghost use Rattle.making.specs.Method.{Small, Sized, Inputs, chosenPlaces, Makes, Learns, Finishes};
 
 // the place of a store's knowledge
 const STORE_KNOWLEDGE: usize = 25;
@@ -37,6 +39,32 @@ struct Task {
 }
 
 // ---- the records, and the end
+
+// The places of the records that the batch carries, into the front of `picks`; how many there are, and how many bytes they have.
+fn select_records(store: &[u8], knowledge: &[u8], w: Task, picks: &mut [usize]) -> Extent
+    ensures { λ e. ⌜ (e .count ≡ length (chosenPlaces (now (store .entry)) (now (knowledge .entry)) w))
+        × (e .length ≡ sizeFrom (now (store .entry)) (now (store .entry)) (chosenPlaces (now (store .entry)) (now (knowledge .entry)) w)) ⌝ }
+    ensures { λ _. ⌜ now (picks .exit) ≡ fronted (now (picks .entry)) (chosenPlaces (now (store .entry)) (now (knowledge .entry)) w) ⌝ }
+{
+    let r = w.given.r;
+    let start = w.given.start;
+    let f = w.first;
+    let l = w.last;
+    selecting::select(
+        store,
+        w.table,
+        knowledge,
+        r,
+        start,
+        f.high,
+        f.middle,
+        f.low,
+        l.high,
+        l.middle,
+        l.low,
+        picks,
+    )
+}
 
 // Selects the records, and writes the batch where the buffer has room. The tables of needed and of learned are ready.
 fn finish_batch(
@@ -66,31 +94,16 @@ fn finish_batch(
         (now (ids2 .entry)) (now (bounds2 .entry)) (now (t2 .entry)) (now (cols2 .entry)) (now (firsts2 .entry)) (now (numbers2 .entry)) z2 rows2
         (now (out .entry)) (now (out .exit)) a ⌝ }
 {
-    let f = w.first;
-    let l = w.last;
     let mut picks = [0usize; layout::LARGEST_RECORDS as usize];
-    let e = selecting::select(
-        store,
-        w.table,
-        knowledge,
-        w.given.r,
-        w.given.start,
-        f.high,
-        f.middle,
-        f.low,
-        l.high,
-        l.middle,
-        l.low,
-        &mut picks,
-    );
+    let e = select_records(store, knowledge, w, &mut picks);
     storing::put_batch(
         out,
-        f.high,
-        f.middle,
-        f.low,
-        l.high,
-        l.middle,
-        l.low,
+        w.first.high,
+        w.first.middle,
+        w.first.low,
+        w.last.high,
+        w.last.middle,
+        w.last.low,
         z,
         rows,
         ids,

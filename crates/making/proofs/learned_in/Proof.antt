@@ -11,16 +11,16 @@ use Rattle.making.proofs.finish_batch.Reads as finish-batch-reads
 use Rattle.operations.proofs.prepare.Reads as prepare-reads
 
 fill-span-requires : tie.Need-fill-span-requires
-fill-span-requires c κs = search needs
+fill-span-requires c κs = tt
 
 prepare-requires : tie.Need-prepare-requires
-prepare-requires c κs = search needs
+prepare-requires c κs = tt
 
 enum-known-p : tie.Need-enum-known-p
 enum-known-p c = search needs
 
 finish-batch-requires : tie.Need-finish-batch-requires
-finish-batch-requires c κs = search needs
+finish-batch-requires c κs = tt
 
 enum-known-p-2 : tie.Need-enum-known-p-2
 enum-known-p-2 c = search needs

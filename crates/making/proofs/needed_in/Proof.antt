@@ -11,10 +11,10 @@ use Rattle.making.proofs.make_learned.Reads as make-learned-reads
 use Rattle.operations.proofs.prepare.Reads as prepare-reads
 
 fill-one-requires : tie.Need-fill-one-requires
-fill-one-requires c κs = search needs
+fill-one-requires c κs = tt
 
 prepare-requires : tie.Need-prepare-requires
-prepare-requires c κs = search needs
+prepare-requires c κs = tt
 
 enum-known-p : tie.Need-enum-known-p
 enum-known-p c = search needs
