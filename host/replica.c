@@ -112,10 +112,6 @@ uint64_t own_tick(const struct file *store)
 }
 
 /* What stands in the file last-tick: a replica id in 32 digits, a space, a tick in decimal digits, a line feed. */
-struct last {
-    uint8_t own[REPLICA];
-    uint64_t tick;
-};
 enum { LAST_TEXT = 2 * REPLICA + 24 };
 
 static size_t last_text(const struct file *store, char text[LAST_TEXT])
@@ -126,22 +122,23 @@ static size_t last_text(const struct file *store, char text[LAST_TEXT])
     return 2 * REPLICA + (size_t)sprintf(text + 2 * REPLICA, " %" PRIu64 "\n", own_tick(store));
 }
 
-/* Reads the file last-tick; whether it is there. */
-static int read_last(const char *folder, struct last *last)
+struct last read_last(const char *folder)
 {
     static struct file file;
+    struct last last = {0, {0}, 0};
     struct path place = inside(folder, "last-tick");
     char id[2 * REPLICA + 1], back[LAST_TEXT];
     if (!is_there(place.text))
-        return 0;
+        return last;
     read_file(&file, place.text);
     if (file.n < LAST_TEXT) {
         file.bytes[file.n] = 0;
-        if (sscanf((const char *)file.bytes, "%32[0-9a-f] %" SCNu64, id, &last->tick) == 2) {
-            snprintf(back, sizeof back, "%s %" PRIu64 "\n", id, last->tick);
+        if (sscanf((const char *)file.bytes, "%32[0-9a-f] %" SCNu64, id, &last.tick) == 2) {
+            snprintf(back, sizeof back, "%s %" PRIu64 "\n", id, last.tick);
             if (strlen(id) == 2 * REPLICA && strlen(back) == file.n && memcmp(back, file.bytes, file.n) == 0) {
-                read_id(&replicas, id, last->own);
-                return 1;
+                read_id(&replicas, id, last.own);
+                last.is_there = 1;
+                return last;
             }
         }
     }
@@ -162,32 +159,33 @@ static _Noreturn void not_latest(const char *folder, const char *reason)
             reason, folder);
 }
 
-void need_latest(const char *folder, const struct file *store)
+void need_latest(const char *folder, const struct last *last, const struct file *store)
 {
-    struct last last;
     char text[ID_TEXT], reason[160];
-    if (!read_last(folder, &last))
+    if (!last->is_there)
         not_latest(folder, "the store was put here from elsewhere: there is no file last-tick beside it");
-    if (memcmp(last.own, store->bytes + STORE_OWN, REPLICA) != 0) {
-        snprintf(reason, sizeof reason, "the store was put here from elsewhere: this folder is replica %s's", id_text(&replicas, last.own, text));
+    if (memcmp(last->own, store->bytes + STORE_OWN, REPLICA) != 0) {
+        snprintf(reason, sizeof reason, "the store was put here from elsewhere: this folder is replica %s's",
+                 id_text(&replicas, last->own, text));
         not_latest(folder, reason);
     }
-    if (own_tick(store) < last.tick) {
-        snprintf(reason, sizeof reason,
-                 "the store was put back from a copy: its own tick is %" PRIu64 ", and the last one written here is %" PRIu64, own_tick(store),
-                 last.tick);
+    if (own_tick(store) < last->tick) {
+        snprintf(reason, sizeof reason, "the store was put back from a copy: its own tick is %" PRIu64
+                 ", and the last one written here is %" PRIu64, own_tick(store), last->tick);
         not_latest(folder, reason);
     }
 }
 
 void load_to_change(struct file *store, const char *folder)
 {
+    struct last last;
     if (!is_folder(folder))
         trouble(folder, is_there(folder) ? "is no folder, so it is no replica" : "is not there; collector new makes a replica");
     lock_folder(folder);
+    last = read_last(folder);
     load(store, folder);
     need_store(store);
-    need_latest(folder, store);
+    need_latest(folder, &last, store);
 }
 
 void save_new(const char *folder, const struct file *store)
@@ -199,7 +197,8 @@ void save_new(const char *folder, const struct file *store)
     lock_folder(folder);
     if (is_there(inside(folder, "store").text))
         trouble(folder, "there is a store in it already");
-    if (read_last(folder, &last) && last.tick > 0)
+    last = read_last(folder);
+    if (last.tick > 0)
         trouble(folder, "its store is gone, and had given ticks up to %" PRIu64 "; make the new replica in another folder", last.tick);
     /* The tick before the store, so that no store of ours is ever without one. */
     prepare(&tick, inside(folder, "last-tick").text, NEW, (const uint8_t *)text, last_text(store, text));
@@ -211,9 +210,8 @@ void save_new(const char *folder, const struct file *store)
 void save(const char *folder, const struct file *store)
 {
     struct replacement tick, place;
-    struct last last = {{0}, 0};
     char text[LAST_TEXT];
-    int grown = !read_last(folder, &last) || last.tick != own_tick(store);
+    int grown = read_last(folder).tick != own_tick(store);
     if (grown)
         prepare(&tick, inside(folder, "last-tick").text, NEW, (const uint8_t *)text, last_text(store, text));
     prepare(&place, inside(folder, "store").text, NEW, store->bytes, store->n);
