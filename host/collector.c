@@ -1,6 +1,6 @@
 /*
- * The collector: replicas in folders, and the files that their servers send one another. It does nothing but read files, call the engine (sync.h) and
- * write files; each command is one function here.
+ * The collector: replicas in folders, and the files that their servers send one another. It reads files, calls the engine (sync.h) and
+ * writes files; each command is one function here.
  */
 
 #define _DEFAULT_SOURCE
@@ -220,10 +220,14 @@ static void command_apply(char **arguments)
 
 static void command_check(char **arguments)
 {
+    struct last last;
+    int folder = is_folder(arguments[0]);
+    if (folder)
+        last = read_last(arguments[0]);
     load(&store, arguments[0]);
     add_ids(&store);
-    if (is_folder(arguments[0]))
-        need_latest(arguments[0], &store);
+    if (folder)
+        need_latest(arguments[0], &last, &store);
     printf("%s: valid ", store.name);
     show_kind(&store);
 }
@@ -253,7 +257,8 @@ static void say_known(const uint8_t *item)
     for (at = 0; at < sizes[0]; at++) {
         const uint8_t *replica = own.bytes + KNOWLEDGE_REPLICAS + REPLICA * at;
         uint64_t tick = known_tick(own, item, replica);
-        printf(tick > 0 ? "%s%s's edits to tick %" PRIu64 : "%snone of %s's edits", at > 0 ? ", " : "", id_text(&replicas, replica, text), tick);
+        printf(tick > 0 ? "%s%s's edits to tick %" PRIu64 : "%snone of %s's edits", at > 0 ? ", " : "",
+               id_text(&replicas, replica, text), tick);
     }
     puts(sizes[0] == 0 ? "no edit of any replica" : "");
 }

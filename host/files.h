@@ -34,8 +34,8 @@ void read_file(struct file *file, const char *name);
 void write_result(const char *name, const uint8_t *bytes, size_t n);
 
 /*
- * Replacing a file takes two steps: it is written beside its place, down to the disk, and then renamed. So two files can both be written before
- * either is renamed, and a full disk changes neither. Where the renaming fails, the program ends and says what holds otherwise.
+ * Replacing a file takes two steps: it is written beside its place, down to the disk, and then renamed. So two files can both be written
+ * before either is renamed, and a full disk changes neither. Where the renaming fails, the program ends and says what holds otherwise.
  */
 struct replacement {
     struct path place, beside;

@@ -12,8 +12,7 @@ struct ids items = {.length = ITEM, .front = FRONT};
 struct ids replicas = {.length = REPLICA, .front = FRONT};
 int full_ids;
 
-/* The digits of bytes, each two to a byte. */
-static void all_digits(const uint8_t *bytes, size_t n, char *text)
+void all_digits(const uint8_t *bytes, size_t n, char *text)
 {
     size_t at;
     for (at = 0; at < n; at++)
@@ -59,11 +58,13 @@ const char *id_text(const struct ids *ids, const uint8_t *id, char text[ID_TEXT]
 {
     size_t digits = digits_of(id, ids->length);
     all_digits(id, ids->length, text);
+    if (full_ids)
+        return text;
     if (is_top(ids, id))
         strcpy(text, "top");
-    else if (!full_ids && digits <= WHOLE)
+    else if (digits <= WHOLE)
         memmove(text, text + 2 * ids->length - digits, digits + 1);
-    else if (!full_ids && ids->front + 1 < ids->length)
+    else if (ids->front + 1 < ids->length)
         strcpy(text + 2 * ids->front, "..");
     return text;
 }
@@ -76,8 +77,7 @@ static int digit(char c)
     return found ? (int)((found - digits) % 16) : -1;
 }
 
-/* Reads digits into the last places of n bytes; the others are 0. Whether these are digits, and not too many. */
-static int read_digits(const char *text, size_t length, uint8_t *bytes, size_t n)
+int read_digits(const char *text, size_t length, uint8_t *bytes, size_t n)
 {
     size_t at;
     memset(bytes, 0, n);

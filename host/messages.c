@@ -41,17 +41,17 @@ static const struct {
     [SYNC_OVER_REPLICAS] = {"over 16 replicas would have edited; a replica that has never edited does not count",
                             BEGIN_AGAIN "  Let at most 16 servers edit. Those that only apply batches may be any number.\n"},
     [SYNC_OVER_RANGES] = {"the knowledge would have over 64 ranges; use batches over all items instead of spans",
-                          "  This does not pass by itself: each span adds up to two ranges. A batch over all items, made by a server that has\n"
-                          "  caught up, joins them: ask it with your present knowledge, and give no FIRST and LAST.\n"},
+                          "  This does not pass by itself: each span adds up to two ranges. A batch over all items, made by a server that\n"
+                          "  has caught up, joins them: ask it with your present knowledge, and give no FIRST and LAST.\n"},
     [SYNC_OVER_RECORDS] = {"the store would have over 256 records; put further items into another folder",
-                           "  This does not pass by itself: no record leaves a store, and those of deleted items stay too. Another folder has\n"
-                           "  replicas of its own, under ids of their own. If many records are of deleted items, begin again without them:\n"
+                           "  This does not pass by itself: no record leaves a store, and those of deleted items stay too. Another folder\n"
+                           "  has replicas of its own, under ids of their own. If many items are deleted, begin again without them:\n"
                            "    collector new FRESH\n"
                            "    collector show --list OLD | while read -r item tag; do collector edit FRESH \"$item\" \"$tag\"; done\n"},
     [SYNC_SHORT_BUFFER] = {"the buffer is too short; this program's buffers never are: please report it", ""},
     [SYNC_STORE] = {"this is no valid store; do not mend it, and do not put a copy in its place",
-                    "  This does not pass by itself: something else wrote the file, or the disk damaged it. Keep it, and take what it held from a\n"
-                    "  copy that is only read, or from the other servers:\n" NEW_ID},
+                    "  This does not pass by itself: something else wrote the file, or the disk damaged it. Keep it, and take what it\n"
+                    "  held from a copy that is only read, or from the other servers:\n" NEW_ID},
     [SYNC_BATCH] = {"this is no valid batch; have it sent again, or made again with your present knowledge", ""},
     [SYNC_ARGUMENT] = {"the first item is above the last; give the lower one first", ""},
     [SYNC_NOT_COVERED] = {"this batch builds on one that has not arrived yet; ask again with your present knowledge", ""},

@@ -111,41 +111,33 @@ uint64_t own_tick(const struct file *store)
     return known_tick(knowledge_of(store), any, store->bytes + STORE_OWN);
 }
 
-/* What stands in the file last-tick: a replica id in 32 digits, a space, a tick in decimal digits, a line feed. */
-struct last {
-    uint8_t own[REPLICA];
-    uint64_t tick;
-};
+/* The text of a file last-tick, and its length: a replica id in 32 digits, a space, a tick in decimal digits, a line feed. */
 enum { LAST_TEXT = 2 * REPLICA + 24 };
 
-static size_t last_text(const struct file *store, char text[LAST_TEXT])
+static size_t last_text(const uint8_t *own, uint64_t tick, char text[LAST_TEXT])
 {
-    size_t at;
-    for (at = 0; at < REPLICA; at++)
-        sprintf(text + 2 * at, "%02x", store->bytes[STORE_OWN + at]);
-    return 2 * REPLICA + (size_t)sprintf(text + 2 * REPLICA, " %" PRIu64 "\n", own_tick(store));
+    all_digits(own, REPLICA, text);
+    return 2 * REPLICA + (size_t)sprintf(text + 2 * REPLICA, " %" PRIu64 "\n", tick);
 }
 
-/* Reads the file last-tick; whether it is there. */
-static int read_last(const char *folder, struct last *last)
+struct last read_last(const char *folder)
 {
     static struct file file;
+    struct last last = {0, {0}, 0};
     struct path place = inside(folder, "last-tick");
-    char id[2 * REPLICA + 1], back[LAST_TEXT];
+    const char *text = (const char *)file.bytes;
+    char same[LAST_TEXT];
     if (!is_there(place.text))
-        return 0;
+        return last;
     read_file(&file, place.text);
-    if (file.n < LAST_TEXT) {
+    if (file.n > 2 * REPLICA && file.n < LAST_TEXT && read_digits(text, 2 * REPLICA, last.own, REPLICA)) {
         file.bytes[file.n] = 0;
-        if (sscanf((const char *)file.bytes, "%32[0-9a-f] %" SCNu64, id, &last->tick) == 2) {
-            snprintf(back, sizeof back, "%s %" PRIu64 "\n", id, last->tick);
-            if (strlen(id) == 2 * REPLICA && strlen(back) == file.n && memcmp(back, file.bytes, file.n) == 0) {
-                read_id(&replicas, id, last->own);
-                return 1;
-            }
-        }
+        last.tick = strtoull(text + 2 * REPLICA, NULL, 10);
+        last.is_there = last_text(last.own, last.tick, same) == file.n && memcmp(same, text, file.n) == 0;
     }
-    trouble(place.text, "is not as this program wrote it; the store beside it is only read from now on");
+    if (!last.is_there)
+        trouble(place.text, "is not as this program wrote it; the store beside it is only read from now on");
+    return last;
 }
 
 /* Ends the program because a store is not the one that was written last in its folder. */
@@ -162,32 +154,33 @@ static _Noreturn void not_latest(const char *folder, const char *reason)
             reason, folder);
 }
 
-void need_latest(const char *folder, const struct file *store)
+void need_latest(const char *folder, const struct last *last, const struct file *store)
 {
-    struct last last;
     char text[ID_TEXT], reason[160];
-    if (!read_last(folder, &last))
+    if (!last->is_there)
         not_latest(folder, "the store was put here from elsewhere: there is no file last-tick beside it");
-    if (memcmp(last.own, store->bytes + STORE_OWN, REPLICA) != 0) {
-        snprintf(reason, sizeof reason, "the store was put here from elsewhere: this folder is replica %s's", id_text(&replicas, last.own, text));
+    if (memcmp(last->own, store->bytes + STORE_OWN, REPLICA) != 0) {
+        snprintf(reason, sizeof reason, "the store was put here from elsewhere: this folder is replica %s's",
+                 id_text(&replicas, last->own, text));
         not_latest(folder, reason);
     }
-    if (own_tick(store) < last.tick) {
-        snprintf(reason, sizeof reason,
-                 "the store was put back from a copy: its own tick is %" PRIu64 ", and the last one written here is %" PRIu64, own_tick(store),
-                 last.tick);
+    if (own_tick(store) < last->tick) {
+        snprintf(reason, sizeof reason, "the store was put back from a copy: its own tick is %" PRIu64
+                 ", and the last one written here is %" PRIu64, own_tick(store), last->tick);
         not_latest(folder, reason);
     }
 }
 
 void load_to_change(struct file *store, const char *folder)
 {
+    struct last last;
     if (!is_folder(folder))
         trouble(folder, is_there(folder) ? "is no folder, so it is no replica" : "is not there; collector new makes a replica");
     lock_folder(folder);
+    last = read_last(folder);
     load(store, folder);
     need_store(store);
-    need_latest(folder, store);
+    need_latest(folder, &last, store);
 }
 
 void save_new(const char *folder, const struct file *store)
@@ -195,14 +188,16 @@ void save_new(const char *folder, const struct file *store)
     struct replacement tick, place;
     struct last last;
     char text[LAST_TEXT];
+    size_t n = last_text(store->bytes + STORE_OWN, 0, text);
     make_folder(folder);
     lock_folder(folder);
     if (is_there(inside(folder, "store").text))
         trouble(folder, "there is a store in it already");
-    if (read_last(folder, &last) && last.tick > 0)
+    last = read_last(folder);
+    if (last.tick > 0)
         trouble(folder, "its store is gone, and had given ticks up to %" PRIu64 "; make the new replica in another folder", last.tick);
     /* The tick before the store, so that no store of ours is ever without one. */
-    prepare(&tick, inside(folder, "last-tick").text, NEW, (const uint8_t *)text, last_text(store, text));
+    prepare(&tick, inside(folder, "last-tick").text, NEW, (const uint8_t *)text, n);
     prepare(&place, inside(folder, "store").text, NEW, store->bytes, store->n);
     finish(&tick, NOTHING_CHANGED);
     finish(&place, "there is no replica yet");
@@ -211,11 +206,11 @@ void save_new(const char *folder, const struct file *store)
 void save(const char *folder, const struct file *store)
 {
     struct replacement tick, place;
-    struct last last = {{0}, 0};
     char text[LAST_TEXT];
-    int grown = !read_last(folder, &last) || last.tick != own_tick(store);
+    size_t n = last_text(store->bytes + STORE_OWN, own_tick(store), text);
+    int grown = read_last(folder).tick != own_tick(store);
     if (grown)
-        prepare(&tick, inside(folder, "last-tick").text, NEW, (const uint8_t *)text, last_text(store, text));
+        prepare(&tick, inside(folder, "last-tick").text, NEW, (const uint8_t *)text, n);
     prepare(&place, inside(folder, "store").text, NEW, store->bytes, store->n);
     /* The store before the tick: a crash between the two leaves a store that is ahead of the tick, which is no fault. */
     finish(&place, NOTHING_CHANGED);

@@ -38,8 +38,19 @@ uint64_t known_tick(struct part knowledge, const uint8_t *item, const uint8_t *r
 /* The tick that a store knows of its own replica, which is the same for all items. */
 uint64_t own_tick(const struct file *store);
 
+/*
+ * What a folder's file last-tick says. It is read before the store: a program that changes both at that moment changes the store first, so
+ * a store that is read later is not behind.
+ */
+struct last {
+    int is_there;
+    uint8_t own[16];
+    uint64_t tick;
+};
+struct last read_last(const char *folder);
+
 /* Refuses a store that is not the one that was written last in this folder. */
-void need_latest(const char *folder, const struct file *store);
+void need_latest(const char *folder, const struct last *last, const struct file *store);
 
 /* Locks the folder and reads its store, to change it. Refuses one that is not valid or not the latest. */
 void load_to_change(struct file *store, const char *folder);

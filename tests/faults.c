@@ -1,6 +1,6 @@
 /*
- * Faults for the tests of the host program. It is linked with the program, in front of the calls that touch files (gcc -Wl,--wrap=open and so on). The
- * environment variable COLLECTOR_FAULT says what happens:
+ * Faults for the tests of the host program. It is linked with the program, in front of the calls that touch files (gcc -Wl,--wrap=open and
+ * so on). The environment variable COLLECTOR_FAULT says what happens:
  *
  *   stop N   the program ends right after the N-th call of open, write, fsync, rename or mkdir
  *   half N   likewise, and if that is a write only half of its bytes are written
@@ -11,7 +11,8 @@
  *   broken   each read fails: input or output error
  *   busy     another program has the lock, and time flies
  *
- * If COLLECTOR_UNSYNCED is set, fsync does nothing: what is then lost shows that the tests would notice a missing one. A program that is stopped says after which call, and has the status 77.
+ * If COLLECTOR_UNSYNCED is set, fsync does nothing: what is then lost shows that the tests would notice a missing one. A program that is
+ * stopped says after which call, and has the status 77.
  */
 
 #define _DEFAULT_SOURCE

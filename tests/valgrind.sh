@@ -1,7 +1,7 @@
 #!/usr/bin/env bash
 # Compares the engine with the reference under valgrind, which sees reading and writing beyond a buffer, on inputs and on calls, those
-# that write included, and tries the laws. The inputs are those of the tests, fewer of them. SYNC_INPUTS sets their number, SYNC_SEED
-# the seed, SYNC_ENGINE_LIB the folder of the engine's library.
+# that write included, and tries the laws. The inputs are those of the tests, fewer of them. Then tests the host program under it.
+# SYNC_INPUTS sets the number of inputs, SYNC_SEED the seed, SYNC_ENGINE_LIB the folder of the engine's library.
 set -euo pipefail
 export SYNC_ENGINE_LIB SYNC_INPUTS
 SYNC_ENGINE_LIB=$(realpath -m "${SYNC_ENGINE_LIB:-$(dirname "${BASH_SOURCE[0]}")/../target/staticlib}")
@@ -13,4 +13,6 @@ echo "valgrind: building"
 cargo build --quiet --release --offline --locked --bin inputs
 echo "valgrind: $SYNC_INPUTS inputs, and as many calls of each row, under memcheck"
 valgrind --quiet --tool=memcheck --leak-check=full --error-exitcode=1 target/release/inputs
+echo "valgrind: the host program under memcheck"
+COLLECTOR_UNDER="valgrind --quiet --tool=memcheck --leak-check=full --error-exitcode=99" ./try-host
 echo "valgrind: no errors"
