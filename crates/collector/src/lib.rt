@@ -15,6 +15,8 @@ ghost use Rattle.layout.specs.Answer.{checkedNumber, checkedSizes};
 ghost use Rattle.ticks.specs.Calls.{containNumber, containValue, containAnswer, leadNumber, leadValue, leadAnswer};
 ghost use Rattle.ticks.specs.Calls.{coverNumber, coverValue, coverAnswer};
 ghost use Rattle.ticks.specs.Calls.{normaliseReply, mergeReply, projectReply};
+ghost use Rattle.replication.specs.Calls.{newReply, editReply, deleteReply, makeReply, applyReply};
+ghost use Rattle.replication.specs.MethodReplies.{brings};
 ghost use Rattle.layout.specs.Permitted.{base};
 ghost use Rattle.replication.specs.Queries.{partNumber, partSide, partAtPlace, partLength, winnerPart, learnedPart, knowledgePart};
 ghost use Rattle.replication.specs.Queries.{coverageNumber, coverageContained, coverageAll, coverageThousandths, coverageAnswer};
@@ -180,6 +182,80 @@ pub extern "C" fn sync_project(
         (projectReply basic (now (knowledge .entry)) (now (first .entry)) (now (last .entry))) (now (out .entry)) ⌝ }
 {
     let a = operations::project(knowledge, first, last, out);
+    ended(a, written)
+}
+
+// ---- stores and batches: the calls that write one
+
+// Writes a new store under a replica id, with the empty knowledge and no records, and its length; or gives the refusal's number, and then
+// nothing changes.
+#[no_mangle]
+pub extern "C" fn sync_new(own: &[u8], out: &mut [u8], written: &mut u64) -> u32
+    ensures number { λ r. ⌜ r ≡ numberOf (answer (newReply (now (own .entry)))
+        (length (now (out .entry)))) ⌝ }
+    ensures count { λ _. ⌜ now (written .exit) ≡ writtenOf (answer (newReply (now (own .entry)))
+        (length (now (out .entry)))) (now (written .entry)) ⌝ }
+    ensures bytes { λ _. ⌜ now (out .exit) ≡ after (newReply (now (own .entry)))
+        (now (out .entry)) ⌝ }
+{
+    let a = headers::new(own, out);
+    ended(a, written)
+}
+
+// Writes a store with an item edited, and its length; or gives the refusal's number, and then nothing changes.
+#[no_mangle]
+pub extern "C" fn sync_edit(store: &[u8], item: &[u8], tag: &[u8], out: &mut [u8], written: &mut u64) -> u32
+    ensures number { λ r. ⌜ r ≡ numberOf (answer (editReply base (now (store .entry)) (now (item .entry)) (brings (now (tag .entry))))
+        (length (now (out .entry)))) ⌝ }
+    ensures count { λ _. ⌜ now (written .exit) ≡ writtenOf (answer (editReply base (now (store .entry)) (now (item .entry)) (brings (now (tag .entry))))
+        (length (now (out .entry)))) (now (written .entry)) ⌝ }
+    ensures bytes { λ _. ⌜ now (out .exit) ≡ after (editReply base (now (store .entry)) (now (item .entry)) (brings (now (tag .entry))))
+        (now (out .entry)) ⌝ }
+{
+    let a = editing::edit(store, item, tag, out);
+    ended(a, written)
+}
+
+// Writes a store with an item deleted, and its length; or gives the refusal's number, and then nothing changes.
+#[no_mangle]
+pub extern "C" fn sync_delete(store: &[u8], item: &[u8], out: &mut [u8], written: &mut u64) -> u32
+    ensures number { λ r. ⌜ r ≡ numberOf (answer (deleteReply base (now (store .entry)) (now (item .entry)))
+        (length (now (out .entry)))) ⌝ }
+    ensures count { λ _. ⌜ now (written .exit) ≡ writtenOf (answer (deleteReply base (now (store .entry)) (now (item .entry)))
+        (length (now (out .entry)))) (now (written .entry)) ⌝ }
+    ensures bytes { λ _. ⌜ now (out .exit) ≡ after (deleteReply base (now (store .entry)) (now (item .entry)))
+        (now (out .entry)) ⌝ }
+{
+    let a = editing::delete(store, item, out);
+    ended(a, written)
+}
+
+// Writes the batch that a store makes for a knowledge and a span of items, and its length; or gives the refusal's number, and then
+// nothing changes.
+#[no_mangle]
+pub extern "C" fn sync_make(store: &[u8], knowledge: &[u8], first: &[u8], last: &[u8], out: &mut [u8], written: &mut u64) -> u32
+    ensures number { λ r. ⌜ r ≡ numberOf (answer (makeReply basic (now (store .entry)) (now (knowledge .entry)) (now (first .entry)) (now (last .entry)))
+        (length (now (out .entry)))) ⌝ }
+    ensures count { λ _. ⌜ now (written .exit) ≡ writtenOf (answer (makeReply basic (now (store .entry)) (now (knowledge .entry)) (now (first .entry)) (now (last .entry)))
+        (length (now (out .entry)))) (now (written .entry)) ⌝ }
+    ensures bytes { λ _. ⌜ now (out .exit) ≡ after (makeReply basic (now (store .entry)) (now (knowledge .entry)) (now (first .entry)) (now (last .entry)))
+        (now (out .entry)) ⌝ }
+{
+    let a = making::make(store, knowledge, first, last, out);
+    ended(a, written)
+}
+
+// Writes a store with a batch applied, and its length; or gives the refusal's number, and then nothing changes.
+#[no_mangle]
+pub extern "C" fn sync_apply(store: &[u8], batch: &[u8], out: &mut [u8], written: &mut u64) -> u32
+    ensures number { λ r. ⌜ r ≡ numberOf (answer (applyReply base (now (store .entry)) (now (batch .entry)))
+        (length (now (out .entry)))) ⌝ }
+    ensures count { λ _. ⌜ now (written .exit) ≡ writtenOf (answer (applyReply base (now (store .entry)) (now (batch .entry)))
+        (length (now (out .entry)))) (now (written .entry)) ⌝ }
+    ensures bytes { λ _. ⌜ now (out .exit) ≡ after (applyReply base (now (store .entry)) (now (batch .entry)))
+        (now (out .entry)) ⌝ }
+{
+    let a = applying::apply(store, batch, out);
     ended(a, written)
 }
 
