@@ -429,8 +429,8 @@ fn raise_column(t: &mut [u64], c: ReplicaKey, from: u32, top: u32, tick: u64)
 {
     let mut k = from;
     while k <= top {
-        let i = tables::STRIDE * (k as usize) + (c.0 as usize);
-        t[i] = tick;
+        let place = tables::STRIDE * (k as usize) + (c.0 as usize);
+        t[place] = tick;
         k += 1;
     }
 }

@@ -20,17 +20,17 @@ abbrev μ-loop : tie.MeasureT-loop
 loop-holds : tie.Need-loop-holds Inv-loop μ-loop
 loop-holds c = (set-starts _ _ _ _ _, refl, omega arith, omega arith, omega arith)
 
-cast-i : tie.Need-cast-i Inv-loop μ-loop
-cast-i c = omega arith
+cast-place : tie.Need-cast-place Inv-loop μ-loop
+cast-place c = omega arith
 
-mul-i : tie.Need-mul-i Inv-loop μ-loop
-mul-i c = omega arith
+mul-place : tie.Need-mul-place Inv-loop μ-loop
+mul-place c = omega arith
 
-cast-i-2 : tie.Need-cast-i-2 Inv-loop μ-loop
-cast-i-2 c = omega arith
+cast-place-2 : tie.Need-cast-place-2 Inv-loop μ-loop
+cast-place-2 c = omega arith
 
-add-i : tie.Need-add-i Inv-loop μ-loop
-add-i c = omega arith
+add-place : tie.Need-add-place Inv-loop μ-loop
+add-place c = omega arith
 
 mul-t : tie.Need-mul-t Inv-loop μ-loop
 mul-t c = omega arith
@@ -60,10 +60,10 @@ raise-column-spec =
     Inv-loop
     μ-loop
     loop-holds
-    cast-i
-    mul-i
-    cast-i-2
-    add-i
+    cast-place
+    mul-place
+    cast-place-2
+    add-place
     mul-t
     slice-write-t
     add-k
