@@ -24,10 +24,16 @@ same-length c = search needs
 
 returns : tie.Need-returns
 returns c =
-    let a = c .before .before .before .before .before .before .before .before .before .before .before .before .before .before .before .before .before .before .before .before .before .before .before .args in
-    let e = c .before .before .before .before .before .before .select-records .ensures in
-    let u = c .before .before .put-batch .ensures in
-    finishes (a .store .now) (a .knowledge .now) (a .w) _ _ _ _ (e .0 .0) (e .0 .1) (e .1) _ _ _ _ _ _ _ _ _ _ _ _ _ _ _ _ (a .out .now) _ _
+    let b2 = c .before .before in
+    let b6 = b2 .before .before .before .before in
+    let b18 = b6 .before .before .before .before .before .before .before .before .before .before .before .before in
+    let b23 = b18 .before .before .before .before .before in
+    let a = b23 .args in
+    let e = b6 .select-records .ensures in
+    let u = b2 .put-batch .ensures in
+    finishes (a .store .now) (a .knowledge .now) (a .w) _ _ _ _ (e .0 .0) (e .0 .1) (e .1)
+    (a .ids .now) (a .bounds .now) (a .t .now) (a .cols .now) (a .firsts .now) (a .numbers .now) (a .z) (a .rows)
+    (a .ids2 .now) (a .bounds2 .now) (a .t2 .now) (a .cols2 .now) (a .firsts2 .now) (a .numbers2 .now) (a .z2) (a .rows2) (a .out .now) _ _
     (omega (arith, zeros-length largestRecords)) (u .0) (u .1)
 
 pub finish-batch-spec : {M : Type 1} → statement M

@@ -1,5 +1,5 @@
 -- `making::learned_few` meets its contract: scratch for few rows has room.
-use Prim.Native.Nat.{_*_}
+use Prim.Native.Nat.{_+_, _*_}
 use native.Mathlib.Omega.{arith}
 use Rattle.tables.specs.MethodWords.{stride}
 use Rattle.operations.specs.MethodCalls.{few}
@@ -32,9 +32,14 @@ slice-aggregate-learned-in-6 c = search needs
 
 learned-in-requires : tie.Need-learned-in-requires
 learned-in-requires c κs =
-    let h = c .before .before .before .before .before .before .before .before .before .before .before .before .before .before .before .before .before .pre .0 in (
-      table-room _ _ (2 * stride) (3 * few) (stride * few) (omega (arith, h .replicas, c .before .before .before .before .before .before .before .before .before .before .before .before .before .before .before .before .before .pre .1)) (omega (arith, h .replicas, c .before .before .before .before .before .before .before .before .before .before .before .before .before .before .before .before .before .pre .1)) (omega (arith, h .replicas, c .before .before .before .before .before .before .before .before .before .before .before .before .before .before .before .before .before .pre .1)) (omega (arith, h .replicas, c .before .before .before .before .before .before .before .before .before .before .before .before .before .before .before .before .before .pre .1)) (omega (arith, h .replicas, c .before .before .before .before .before .before .before .before .before .before .before .before .before .before .before .before .before .pre .1)),
-      plan-room _ _ stride few few (omega (arith, h .replicas, c .before .before .before .before .before .before .before .before .before .before .before .before .before .before .before .before .before .pre .1)) (omega (arith, h .replicas, c .before .before .before .before .before .before .before .before .before .before .before .before .before .before .before .before .before .pre .1)) (omega (arith, h .replicas, c .before .before .before .before .before .before .before .before .before .before .before .before .before .before .before .before .before .pre .1)),
+    let s = c .before .before .before .before .before .before .before .before .before .before .before .before .before .before .before .before .before in
+    let w = s .args .w in
+    let l = s .pre .1 in
+    let h = s .pre .0 in (
+      table-room (w .own .r) (w .own .start .left + 3) (2 * stride) (3 * few) (stride * few) (omega (arith, h .replicas, l))
+          (omega (arith, h .replicas, l)) (omega (arith, h .replicas, l)) (omega (arith, h .replicas, l)) (omega (arith, h .replicas, l)),
+      plan-room (w .own .r) (w .own .start .left + 3) stride few few (omega (arith, h .replicas, l))
+          (omega (arith, h .replicas, l)) (omega (arith, h .replicas, l)),
     )
 
 same-length : tie.Need-same-length

@@ -29,13 +29,24 @@ same-length : tie.Need-same-length
 same-length c = search needs
 
 same-length-2 : tie.Need-same-length-2
-same-length-2 c = c .before .before .before .before .before .before .before .before .before .before .before .before .before .before .before .before .before .before .before .before .before .before .before .before .before .before .before .before .before .before .ids2 .given
+same-length-2 c =
+    let b12 = c .before .before .before .before .before .before .before .before .before .before .before .before in
+    let b24 = b12 .before .before .before .before .before .before .before .before .before .before .before .before in
+    let b30 = b24 .before .before .before .before .before .before in
+    b30 .ids2 .given
 
 same-length-3 : tie.Need-same-length-3
-same-length-3 c = c .before .before .before .before .before .before .before .before .before .before .before .before .before .before .before .before .before .before .before .before .before .before .before .before .before .before .before .before .bounds2 .given
+same-length-3 c =
+    let b12 = c .before .before .before .before .before .before .before .before .before .before .before .before in
+    let b24 = b12 .before .before .before .before .before .before .before .before .before .before .before .before in
+    let b28 = b24 .before .before .before .before in
+    b28 .bounds2 .given
 
 same-length-4 : tie.Need-same-length-4
-same-length-4 c = c .before .before .before .before .before .before .before .before .before .before .before .before .before .before .before .before .before .before .before .before .before .before .before .before .before .before .t2 .given
+same-length-4 c =
+    let b12 = c .before .before .before .before .before .before .before .before .before .before .before .before in
+    let b26 = b12 .before .before .before .before .before .before .before .before .before .before .before .before .before .before in
+    b26 .t2 .given
 
 same-length-5 : tie.Need-same-length-5
 same-length-5 c = search needs
@@ -48,12 +59,20 @@ same-length-7 c = search needs
 
 returns : tie.Need-returns
 returns c =
-    let a = c .before .before .before .before .before .before .before .before .before .before .before .before .before .before .before .before .before .before .before .before .before .before .before .before .before .before .before .before .before .before .before .before .before .before .before .before .before .before .before .before .before .before .before .before .before .before .before .before .before .before .before .args in
-    learned-ready (a .w) (a .store .now) (a .mine .now) (a .knowledge .now) _ _ _ _ _ _ _ _ _ _ _ _ _ _ (c .before .before .before .before .before .before .before .before .before .before .before .before .before .before .before .before .before .before .before .prepare .ensures)
-    (record { below = λ i. omega (arith, c .before .before .before .before .before .before .before .before .before .before .before .before .before .before .before .before .before .before .before .before .before .before .before .before .before .before .before .before .before .slice-known8 .given i) })
-    (record { below = λ i. omega (arith, c .before .before .before .before .before .before .before .before .before .before .before .before .before .before .before .before .before .before .before .before .before .before .before .before .before .before .before .slice-known9 .given i) }) (a .out .now)
+    let b2 = c .before .before in
+    let b11 = b2 .before .before .before .before .before .before .before .before .before in
+    let b19 = b11 .before .before .before .before .before .before .before .before in
+    let b27 = b19 .before .before .before .before .before .before .before .before in
+    let b29 = b27 .before .before in
+    let b31 = b29 .before .before in
+    let b43 = b31 .before .before .before .before .before .before .before .before .before .before .before .before in
+    let b51 = b43 .before .before .before .before .before .before .before .before in
+    let a = b51 .args in
+    learned-ready (a .w) (a .store .now) (a .mine .now) (a .knowledge .now) _ _ _ _ _ _ _ _ _ _ _ _ _ _ (b19 .prepare .ensures)
+    (record { below = λ i. omega (arith, b29 .slice-known8 .given i) })
+    (record { below = λ i. omega (arith, b27 .slice-known9 .given i) }) (a .out .now)
     (a .ids .now) (a .bounds .now) (a .t .now) (a .cols .now) (a .firsts .now) (a .numbers .now) (a .z) (a .rows)
-    (c .before .before .before .before .before .before .before .before .before .before .before .before .before .before .before .before .before .before .before .before .before .before .before .before .before .before .before .before .before .before .before .fill-span .ensures) (c .before .before .before .before .before .before .before .before .before .before .before .before .before .before .before .before .before .before .before .before .before .before .before .before .before .before .before .before .before .before .before .before .before .before .before .before .before .before .before .before .before .before .before .before .before .before .before .before .before .before .before .pre .0) (c .before .before .before .before .before .before .before .before .before .before .before .before .before .before .before .before .before .before .before .before .before .before .before .before .before .before .before .before .before .before .before .before .before .before .before .before .before .before .before .before .before .before .before .before .before .before .before .before .before .before .before .pre .1) _ _ (c .before .before .before .before .before .before .before .before .before .before .before .p .given .1) _ _ (c .before .before .finish-batch .ensures)
+    (b31 .fill-span .ensures) (b51 .pre .0) (b51 .pre .1) _ _ (b11 .p .given .1) _ _ (b2 .finish-batch .ensures)
 
 same-length-8 : tie.Need-same-length-8
 same-length-8 c = search needs
@@ -75,12 +94,19 @@ same-length-13 c = search needs
 
 returns-2 : tie.Need-returns-2
 returns-2 c =
-    let a = c .before .before .before .before .before .before .before .before .before .before .before .before .before .before .before .before .before .before .before .before .before .before .before .before .before .before .before .before .before .before .before .before .before .before .before .before .before .before .before .before .before .args in
-    learned-not (a .w) (a .store .now) (a .mine .now) (a .knowledge .now) _ _ _ _ _ _ _ _ _ _ _ _ _ _ (c .before .before .before .before .before .before .before .before .before .prepare .ensures)
-    (record { below = λ i. omega (arith, c .before .before .before .before .before .before .before .before .before .before .before .before .before .before .before .before .before .before .before .slice-known8 .given i) })
-    (record { below = λ i. omega (arith, c .before .before .before .before .before .before .before .before .before .before .before .before .before .before .before .before .before .slice-known9 .given i) }) (a .out .now)
+    let b1 = c .before in
+    let b9 = b1 .before .before .before .before .before .before .before .before in
+    let b17 = b9 .before .before .before .before .before .before .before .before in
+    let b19 = b17 .before .before in
+    let b21 = b19 .before .before in
+    let b33 = b21 .before .before .before .before .before .before .before .before .before .before .before .before in
+    let b41 = b33 .before .before .before .before .before .before .before .before in
+    let a = b41 .args in
+    learned-not (a .w) (a .store .now) (a .mine .now) (a .knowledge .now) _ _ _ _ _ _ _ _ _ _ _ _ _ _ (b9 .prepare .ensures)
+    (record { below = λ i. omega (arith, b19 .slice-known8 .given i) })
+    (record { below = λ i. omega (arith, b17 .slice-known9 .given i) }) (a .out .now)
     (a .ids .now) (a .bounds .now) (a .t .now) (a .cols .now) (a .firsts .now) (a .numbers .now) (a .z) (a .rows)
-    (c .before .before .before .before .before .before .before .before .before .before .before .before .before .before .before .before .before .before .before .before .before .fill-span .ensures) (c .before .before .before .before .before .before .before .before .before .before .before .before .before .before .before .before .before .before .before .before .before .before .before .before .before .before .before .before .before .before .before .before .before .before .before .before .before .before .before .before .before .pre .0) (c .before .before .before .before .before .before .before .before .before .before .before .before .before .before .before .before .before .before .before .before .before .before .before .before .before .before .before .before .before .before .before .before .before .before .before .before .before .before .before .before .before .pre .1) _ (c .before .p2 .given .1)
+    (b21 .fill-span .ensures) (b41 .pre .0) (b41 .pre .1) _ (b1 .p2 .given .1)
 
 pub learned-in-spec : {M : Type 1} → statement M
 learned-in-spec =

@@ -1,5 +1,5 @@
 -- `making::learned_many` meets its contract: scratch for many rows has room.
-use Prim.Native.Nat.{_*_}
+use Prim.Native.Nat.{_+_, _*_}
 use native.Mathlib.Omega.{arith}
 use Rattle.tables.specs.MethodWords.{stride}
 use Rattle.operations.specs.MethodCalls.{oneRows}
@@ -32,9 +32,14 @@ slice-aggregate-learned-in-6 c = search needs
 
 learned-in-requires : tie.Need-learned-in-requires
 learned-in-requires c κs =
-    let h = c .before .before .before .before .before .before .before .before .before .before .before .before .before .before .before .before .before .pre in (
-      table-room _ _ (2 * stride) (3 * oneRows) (stride * oneRows) (omega (arith, h .replicas, h .ranges)) (omega (arith, h .replicas, h .ranges)) (omega (arith, h .replicas, h .ranges)) (omega (arith, h .replicas, h .ranges)) (omega (arith, h .replicas, h .ranges)),
-      plan-room _ _ stride oneRows oneRows (omega (arith, h .replicas, h .ranges)) (omega (arith, h .replicas, h .ranges)) (omega (arith, h .replicas, h .ranges)),
+    let s = c .before .before .before .before .before .before .before .before .before .before .before .before .before .before .before .before .before in
+    let w = s .args .w in
+    let h = s .pre in (
+      table-room (w .own .r) (w .own .start .left + 3) (2 * stride) (3 * oneRows) (stride * oneRows) (omega (arith, h .replicas, h .ranges))
+          (omega (arith, h .replicas, h .ranges)) (omega (arith, h .replicas, h .ranges)) (omega (arith, h .replicas, h .ranges))
+          (omega (arith, h .replicas, h .ranges)),
+      plan-room (w .own .r) (w .own .start .left + 3) stride oneRows oneRows (omega (arith, h .replicas, h .ranges))
+          (omega (arith, h .replicas, h .ranges)) (omega (arith, h .replicas, h .ranges)),
     )
 
 same-length : tie.Need-same-length

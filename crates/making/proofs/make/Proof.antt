@@ -15,8 +15,10 @@ same-length c = search needs
 
 returns : tie.Need-returns
 returns c =
-    let a = c .before .before .before .before .before .before .before .before .before .args in
-    make-basic (a .store .now) (a .knowledge .now) (a .first .now) (a .last .now) (a .out .now) _ _ (c .before .before .make-within .ensures)
+    let b2 = c .before .before in
+    let b9 = b2 .before .before .before .before .before .before .before in
+    let a = b9 .args in
+    make-basic (a .store .now) (a .knowledge .now) (a .first .now) (a .last .now) (a .out .now) _ _ (b2 .make-within .ensures)
 
 pub make-spec : {M : Type 1} → statement M
 make-spec = tie.close (tie.spec make-within-requires same-length returns)

@@ -15,9 +15,12 @@ wrong-span-requires c κs = search needs
 
 returns : tie.Need-returns
 returns c =
-    let a = c .before .before .before .before .before .before .before .args in
-    λ m h. make-no-span (a .replicas) (a .ranges) m (a .store .now) (a .own) (a .knowledge .now) (a .given) h (a .first .now) (a .last .now) (a .out .now)
-    (sym (c .before .wrong-span .ensures) ∙ c .if1 .taken)
+    let b1 = c .before in
+    let b7 = b1 .before .before .before .before .before .before in
+    let a = b7 .args in
+    λ m h. make-no-span (a .replicas) (a .ranges) m (a .store .now) (a .own) (a .knowledge .now) (a .given) h (a .first .now)
+    (a .last .now) (a .out .now)
+    (sym (b1 .wrong-span .ensures) ∙ c .if1 .taken)
 
 bound-of-requires : tie.Need-bound-of-requires
 bound-of-requires c κs = search needs
@@ -45,10 +48,18 @@ same-length c = search needs
 
 returns-2 : tie.Need-returns-2
 returns-2 c =
-    let a = c .before .before .before .before .before .before .before .before .before .before .before .before .before .before .before .args in
-    λ m h. make-ends (a .replicas) (a .ranges) m (a .store .now) (a .own) (a .knowledge .now) (a .given) h (a .first .now) (a .last .now) (a .out .now)
-    (sym (c .before .before .before .before .before .before .before .before .before .wrong-span .ensures) ∙ c .before .before .before .before .before .before .before .before .if1 .left) _ _ (c .before .before .before .before .before .before .before .bound-of .ensures .0) (c .before .before .before .before .before .before .bound-of2 .ensures .0) (c .before .before .before .before .before .before .bound-of2 .ensures .1) _ refl _ _
-    (c .before .before .make-needed .ensures)
+    let b2 = c .before .before in
+    let b6 = b2 .before .before .before .before in
+    let b7 = b6 .before in
+    let b8 = b7 .before in
+    let b9 = b8 .before in
+    let b15 = b9 .before .before .before .before .before .before in
+    let a = b15 .args in
+    λ m h. make-ends (a .replicas) (a .ranges) m (a .store .now) (a .own) (a .knowledge .now) (a .given) h (a .first .now)
+    (a .last .now) (a .out .now)
+    (sym (b9 .wrong-span .ensures) ∙ b8 .if1 .left) _ _ (b7 .bound-of .ensures .0) (b6 .bound-of2 .ensures .0)
+    (b6 .bound-of2 .ensures .1) _ refl _ _
+    (b2 .make-needed .ensures)
 
 pub make-open-spec : {M : Type 1} → statement M
 make-open-spec =

@@ -22,8 +22,11 @@ enum-told c = search needs
 
 returns : tie.Need-returns
 returns c =
-    let a = c .before .before .before .before .before .before .before .before .args in
-    make-not-store (a .replicas) (a .ranges) (a .records) (a .store .now) (a .knowledge .now) (a .first .now) (a .last .now) _ (c .before .before .open-store .ensures) (a .out .now)
+    let b2 = c .before .before in
+    let b8 = b2 .before .before .before .before .before .before in
+    let a = b8 .args in
+    make-not-store (a .replicas) (a .ranges) (a .records) (a .store .now) (a .knowledge .now) (a .first .now) (a .last .now) _
+    (b2 .open-store .ensures) (a .out .now)
     (c .enum-told .given .1)
 
 open-within-requires : tie.Need-open-within-requires
@@ -34,11 +37,19 @@ enum-known-r c = search needs
 
 make-open-requires : tie.Need-make-open-requires
 make-open-requires c κs =
-    let a = c .before .before .before .before .before .before .before .before .before .before .before .before .before .before .args in
-    let y : Bytes (a .store .now) = record { below = λ i. omega (arith, c .before .before .before .before .before .before .before .before .before .before .before .before .before .shared-slice-known .given i) } in
-    let z : Bytes (a .knowledge .now) = record { below = λ i. omega (arith, c .before .before .before .before .before .before .before .before .before .before .before .before .shared-slice-known2 .given i) } in
-    make-sized (a .replicas) (a .ranges) (a .records) (a .store .now) (a .knowledge .now) (a .first .now) (a .last .now) _ (c .before .before .before .before .before .before .before .before .open-store .ensures) (a .out .now)
-    y _ _ (c .before .before .before .before .before .before .own .given .1) _ (c .before .before .before .before .open-within .ensures) z _ _ (c .before .before .r .given .1) _
+    let b2 = c .before .before in
+    let b4 = b2 .before .before in
+    let b6 = b4 .before .before in
+    let b8 = b6 .before .before in
+    let b12 = b8 .before .before .before .before in
+    let b13 = b12 .before in
+    let b14 = b13 .before in
+    let a = b14 .args in
+    let y : Bytes (a .store .now) = record { below = λ i. omega (arith, b13 .shared-slice-known .given i) } in
+    let z : Bytes (a .knowledge .now) = record { below = λ i. omega (arith, b12 .shared-slice-known2 .given i) } in
+    make-sized (a .replicas) (a .ranges) (a .records) (a .store .now) (a .knowledge .now) (a .first .now) (a .last .now) _
+    (b8 .open-store .ensures) (a .out .now)
+    y _ _ (b6 .own .given .1) _ (b4 .open-within .ensures) z _ _ (b2 .r .given .1) _
 
 enum-known-n : tie.Need-enum-known-n
 enum-known-n c = search needs
@@ -48,19 +59,36 @@ same-length c = search needs
 
 returns-2 : tie.Need-returns-2
 returns-2 c =
-    let a = c .before .before .before .before .before .before .before .before .before .before .before .before .before .before .before .before .before .args in
-    let y : Bytes (a .store .now) = record { below = λ i. omega (arith, c .before .before .before .before .before .before .before .before .before .before .before .before .before .before .before .before .shared-slice-known .given i) } in
-    let z : Bytes (a .knowledge .now) = record { below = λ i. omega (arith, c .before .before .before .before .before .before .before .before .before .before .before .before .before .before .before .shared-slice-known2 .given i) } in
-    c .before .before .make-open .ensures (a .records) (make-inputs (a .replicas) (a .ranges) (a .records) (a .store .now) (a .knowledge .now) (a .first .now) (a .last .now) _ (c .before .before .before .before .before .before .before .before .before .before .before .open-store .ensures) (a .out .now)
-    y _ _ (c .before .before .before .before .before .before .before .before .before .own .given .1) _ (c .before .before .before .before .before .before .before .open-within .ensures) z _ _ (c .before .before .before .before .before .r .given .1) _)
+    let b2 = c .before .before in
+    let b5 = b2 .before .before .before in
+    let b7 = b5 .before .before in
+    let b9 = b7 .before .before in
+    let b11 = b9 .before .before in
+    let b15 = b11 .before .before .before .before in
+    let b16 = b15 .before in
+    let b17 = b16 .before in
+    let a = b17 .args in
+    let y : Bytes (a .store .now) = record { below = λ i. omega (arith, b16 .shared-slice-known .given i) } in
+    let z : Bytes (a .knowledge .now) = record { below = λ i. omega (arith, b15 .shared-slice-known2 .given i) } in
+    b2 .make-open .ensures (a .records)
+    (make-inputs (a .replicas) (a .ranges) (a .records) (a .store .now) (a .knowledge .now) (a .first .now) (a .last .now) _ (b11 .open-store .ensures) (a .out .now)
+    y _ _ (b9 .own .given .1) _ (b7 .open-within .ensures) z _ _ (b5 .r .given .1) _)
 
 returns-3 : tie.Need-returns-3
 returns-3 c =
-    let a = c .before .before .before .before .before .before .before .before .before .before .before .before .before .args in
-    let y : Bytes (a .store .now) = record { below = λ i. omega (arith, c .before .before .before .before .before .before .before .before .before .before .before .before .shared-slice-known .given i) } in
-    let z : Bytes (a .knowledge .now) = record { below = λ i. omega (arith, c .before .before .before .before .before .before .before .before .before .before .before .shared-slice-known2 .given i) } in
-    make-not-read (a .replicas) (a .ranges) (a .records) (a .store .now) (a .knowledge .now) (a .first .now) (a .last .now) _ (c .before .before .before .before .before .before .before .open-store .ensures) (a .out .now)
-    y _ _ (c .before .before .before .before .before .own .given .1) _ (c .before .before .before .open-within .ensures) _ (c .before .n .given .1)
+    let b1 = c .before in
+    let b3 = b1 .before .before in
+    let b5 = b3 .before .before in
+    let b7 = b5 .before .before in
+    let b11 = b7 .before .before .before .before in
+    let b12 = b11 .before in
+    let b13 = b12 .before in
+    let a = b13 .args in
+    let y : Bytes (a .store .now) = record { below = λ i. omega (arith, b12 .shared-slice-known .given i) } in
+    let z : Bytes (a .knowledge .now) = record { below = λ i. omega (arith, b11 .shared-slice-known2 .given i) } in
+    make-not-read (a .replicas) (a .ranges) (a .records) (a .store .now) (a .knowledge .now) (a .first .now) (a .last .now) _
+    (b7 .open-store .ensures) (a .out .now)
+    y _ _ (b5 .own .given .1) _ (b3 .open-within .ensures) _ (b1 .n .given .1)
 
 pub make-within-spec : {M : Type 1} → statement M
 make-within-spec =

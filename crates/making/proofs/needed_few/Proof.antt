@@ -1,5 +1,5 @@
 -- `making::needed_few` meets its contract: scratch for few rows has room.
-use Prim.Native.Nat.{_*_}
+use Prim.Native.Nat.{_+_, _*_}
 use native.Mathlib.Omega.{arith}
 use Rattle.tables.specs.MethodWords.{stride}
 use Rattle.operations.specs.MethodCalls.{few}
@@ -32,10 +32,15 @@ slice-aggregate-needed-in-6 c = search needs
 
 needed-in-requires : tie.Need-needed-in-requires
 needed-in-requires c κs =
-    let h = c .before .before .before .before .before .before .before .before .before .before .before .pre .1 in (
-      c .before .before .before .before .before .before .before .before .before .before .before .pre .0,
-      table-room _ _ (2 * stride) (3 * few) (stride * few) (omega (arith, h .replicas, c .before .before .before .before .before .before .before .before .before .before .before .pre .2)) (omega (arith, h .replicas, c .before .before .before .before .before .before .before .before .before .before .before .pre .2)) (omega (arith, h .replicas, c .before .before .before .before .before .before .before .before .before .before .before .pre .2)) (omega (arith, h .replicas, c .before .before .before .before .before .before .before .before .before .before .before .pre .2)) (omega (arith, h .replicas, c .before .before .before .before .before .before .before .before .before .before .before .pre .2)),
-      plan-room _ _ stride few few (omega (arith, h .replicas, c .before .before .before .before .before .before .before .before .before .before .before .pre .2)) (omega (arith, h .replicas, c .before .before .before .before .before .before .before .before .before .before .before .pre .2)) (omega (arith, h .replicas, c .before .before .before .before .before .before .before .before .before .before .before .pre .2)),
+    let s = c .before .before .before .before .before .before .before .before .before .before .before in
+    let w = s .args .w in
+    let l = s .pre .2 in
+    let h = s .pre .1 in (
+      s .pre .0,
+      table-room (w .given .r) (w .given .start .left + 1) (2 * stride) (3 * few) (stride * few) (omega (arith, h .replicas, l))
+          (omega (arith, h .replicas, l)) (omega (arith, h .replicas, l)) (omega (arith, h .replicas, l)) (omega (arith, h .replicas, l)),
+      plan-room (w .given .r) (w .given .start .left + 1) stride few few (omega (arith, h .replicas, l))
+          (omega (arith, h .replicas, l)) (omega (arith, h .replicas, l)),
     )
 
 same-length : tie.Need-same-length

@@ -20,7 +20,12 @@ enum-known-p : tie.Need-enum-known-p
 enum-known-p c = search needs
 
 make-learned-requires : tie.Need-make-learned-requires
-make-learned-requires c κs = c .before .before .before .before .before .before .before .before .before .before .before .before .before .before .before .before .before .before .before .before .before .before .before .before .before .before .before .before .before .before .before .before .before .before .before .before .before .before .before .before .before .before .pre .0
+make-learned-requires c κs =
+    let b12 = c .before .before .before .before .before .before .before .before .before .before .before .before in
+    let b24 = b12 .before .before .before .before .before .before .before .before .before .before .before .before in
+    let b36 = b24 .before .before .before .before .before .before .before .before .before .before .before .before in
+    let b42 = b36 .before .before .before .before .before .before in
+    b42 .pre .0
 
 enum-known-p-2 : tie.Need-enum-known-p-2
 enum-known-p-2 c = search needs
@@ -29,13 +34,24 @@ same-length : tie.Need-same-length
 same-length c = search needs
 
 same-length-2 : tie.Need-same-length-2
-same-length-2 c = c .before .before .before .before .before .before .before .before .before .before .before .before .before .before .before .before .before .before .before .before .before .before .before .before .before .before .before .before .before .before .ids .given
+same-length-2 c =
+    let b12 = c .before .before .before .before .before .before .before .before .before .before .before .before in
+    let b24 = b12 .before .before .before .before .before .before .before .before .before .before .before .before in
+    let b30 = b24 .before .before .before .before .before .before in
+    b30 .ids .given
 
 same-length-3 : tie.Need-same-length-3
-same-length-3 c = c .before .before .before .before .before .before .before .before .before .before .before .before .before .before .before .before .before .before .before .before .before .before .before .before .before .before .before .before .bounds .given
+same-length-3 c =
+    let b12 = c .before .before .before .before .before .before .before .before .before .before .before .before in
+    let b24 = b12 .before .before .before .before .before .before .before .before .before .before .before .before in
+    let b28 = b24 .before .before .before .before in
+    b28 .bounds .given
 
 same-length-4 : tie.Need-same-length-4
-same-length-4 c = c .before .before .before .before .before .before .before .before .before .before .before .before .before .before .before .before .before .before .before .before .before .before .before .before .before .before .t .given
+same-length-4 c =
+    let b12 = c .before .before .before .before .before .before .before .before .before .before .before .before in
+    let b26 = b12 .before .before .before .before .before .before .before .before .before .before .before .before .before .before in
+    b26 .t .given
 
 same-length-5 : tie.Need-same-length-5
 same-length-5 c = search needs
@@ -48,11 +64,18 @@ same-length-7 c = search needs
 
 returns : tie.Need-returns
 returns c =
-    let a = c .before .before .before .before .before .before .before .before .before .before .before .before .before .before .before .before .before .before .before .before .before .before .before .before .before .before .before .before .before .before .before .before .before .before .before .before .before .before .before .before .before .before .before .before .before .args in
-    needed-ready (a .w) (a .store .now) (a .mine .now) (a .knowledge .now) _ _ _ _ _ _ _ _ _ _ _ _ _ _ (c .before .before .before .before .before .before .before .before .before .before .before .before .before .before .before .before .before .before .before .prepare .ensures)
-    (record { below = λ i. omega (arith, c .before .before .before .before .before .before .before .before .before .before .before .before .before .before .before .before .before .before .before .before .before .before .before .before .before .before .before .before .before .slice-known8 .given i) })
-    (record { below = λ i. omega (arith, c .before .before .before .before .before .before .before .before .before .before .before .before .before .before .before .before .before .before .before .before .before .before .before .before .before .before .before .slice-known9 .given i) }) (a .out .now)
-    (c .before .before .before .before .before .before .before .before .before .before .before .before .before .before .before .before .before .before .before .before .before .before .before .before .before .before .before .before .before .before .before .fill-one .ensures) (c .before .before .before .before .before .before .before .before .before .before .before .before .before .before .before .before .before .before .before .before .before .before .before .before .before .before .before .before .before .before .before .before .before .before .before .before .before .before .before .before .before .before .before .before .before .pre .1) (c .before .before .before .before .before .before .before .before .before .before .before .before .before .before .before .before .before .before .before .before .before .before .before .before .before .before .before .before .before .before .before .before .before .before .before .before .before .before .before .before .before .before .before .before .before .pre .2) _ _ (c .before .before .before .before .before .before .before .before .before .before .before .p .given .1) _ _ (c .before .before .make-learned .ensures)
+    let b2 = c .before .before in
+    let b11 = b2 .before .before .before .before .before .before .before .before .before in
+    let b19 = b11 .before .before .before .before .before .before .before .before in
+    let b27 = b19 .before .before .before .before .before .before .before .before in
+    let b29 = b27 .before .before in
+    let b31 = b29 .before .before in
+    let b45 = b31 .before .before .before .before .before .before .before .before .before .before .before .before .before .before in
+    let a = b45 .args in
+    needed-ready (a .w) (a .store .now) (a .mine .now) (a .knowledge .now) _ _ _ _ _ _ _ _ _ _ _ _ _ _ (b19 .prepare .ensures)
+    (record { below = λ i. omega (arith, b29 .slice-known8 .given i) })
+    (record { below = λ i. omega (arith, b27 .slice-known9 .given i) }) (a .out .now)
+    (b31 .fill-one .ensures) (b45 .pre .1) (b45 .pre .2) _ _ (b11 .p .given .1) _ _ (b2 .make-learned .ensures)
 
 same-length-8 : tie.Need-same-length-8
 same-length-8 c = search needs
@@ -74,11 +97,17 @@ same-length-13 c = search needs
 
 returns-2 : tie.Need-returns-2
 returns-2 c =
-    let a = c .before .before .before .before .before .before .before .before .before .before .before .before .before .before .before .before .before .before .before .before .before .before .before .before .before .before .before .before .before .before .before .before .before .before .before .args in
-    needed-not (a .w) (a .store .now) (a .mine .now) (a .knowledge .now) _ _ _ _ _ _ _ _ _ _ _ _ _ _ (c .before .before .before .before .before .before .before .before .before .prepare .ensures)
-    (record { below = λ i. omega (arith, c .before .before .before .before .before .before .before .before .before .before .before .before .before .before .before .before .before .before .before .slice-known8 .given i) })
-    (record { below = λ i. omega (arith, c .before .before .before .before .before .before .before .before .before .before .before .before .before .before .before .before .before .slice-known9 .given i) }) (a .out .now)
-    (c .before .before .before .before .before .before .before .before .before .before .before .before .before .before .before .before .before .before .before .before .before .fill-one .ensures) (c .before .before .before .before .before .before .before .before .before .before .before .before .before .before .before .before .before .before .before .before .before .before .before .before .before .before .before .before .before .before .before .before .before .before .before .pre .1) (c .before .before .before .before .before .before .before .before .before .before .before .before .before .before .before .before .before .before .before .before .before .before .before .before .before .before .before .before .before .before .before .before .before .before .before .pre .2) _ (c .before .p2 .given .1)
+    let b1 = c .before in
+    let b9 = b1 .before .before .before .before .before .before .before .before in
+    let b17 = b9 .before .before .before .before .before .before .before .before in
+    let b19 = b17 .before .before in
+    let b21 = b19 .before .before in
+    let b35 = b21 .before .before .before .before .before .before .before .before .before .before .before .before .before .before in
+    let a = b35 .args in
+    needed-not (a .w) (a .store .now) (a .mine .now) (a .knowledge .now) _ _ _ _ _ _ _ _ _ _ _ _ _ _ (b9 .prepare .ensures)
+    (record { below = λ i. omega (arith, b19 .slice-known8 .given i) })
+    (record { below = λ i. omega (arith, b17 .slice-known9 .given i) }) (a .out .now)
+    (b21 .fill-one .ensures) (b35 .pre .1) (b35 .pre .2) _ (b1 .p2 .given .1)
 
 pub needed-in-spec : {M : Type 1} → statement M
 needed-in-spec =

@@ -1,5 +1,5 @@
 -- `making::needed_many` meets its contract: scratch for many rows has room.
-use Prim.Native.Nat.{_*_}
+use Prim.Native.Nat.{_+_, _*_}
 use native.Mathlib.Omega.{arith}
 use Rattle.tables.specs.MethodWords.{stride}
 use Rattle.operations.specs.MethodCalls.{oneRows}
@@ -32,10 +32,16 @@ slice-aggregate-needed-in-6 c = search needs
 
 needed-in-requires : tie.Need-needed-in-requires
 needed-in-requires c κs =
-    let h = c .before .before .before .before .before .before .before .before .before .before .before .pre .1 in (
-      c .before .before .before .before .before .before .before .before .before .before .before .pre .0,
-      table-room _ _ (2 * stride) (3 * oneRows) (stride * oneRows) (omega (arith, h .replicas, h .ranges)) (omega (arith, h .replicas, h .ranges)) (omega (arith, h .replicas, h .ranges)) (omega (arith, h .replicas, h .ranges)) (omega (arith, h .replicas, h .ranges)),
-      plan-room _ _ stride oneRows oneRows (omega (arith, h .replicas, h .ranges)) (omega (arith, h .replicas, h .ranges)) (omega (arith, h .replicas, h .ranges)),
+    let s = c .before .before .before .before .before .before .before .before .before .before .before in
+    let w = s .args .w in
+    let h = s .pre .1 in (
+      s .pre .0,
+      table-room (w .given .r) (w .given .start .left + 1) (2 * stride) (3 * oneRows) (stride * oneRows)
+          (omega (arith, h .replicas, h .ranges))
+          (omega (arith, h .replicas, h .ranges)) (omega (arith, h .replicas, h .ranges)) (omega (arith, h .replicas, h .ranges))
+          (omega (arith, h .replicas, h .ranges)),
+      plan-room (w .given .r) (w .given .start .left + 1) stride oneRows oneRows (omega (arith, h .replicas, h .ranges))
+          (omega (arith, h .replicas, h .ranges)) (omega (arith, h .replicas, h .ranges)),
     )
 
 same-length : tie.Need-same-length
