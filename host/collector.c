@@ -65,11 +65,6 @@ static struct span read_span(char **arguments)
     return span;
 }
 
-static int is_standard_output(const char *name)
-{
-    return strcmp(name, "-") == 0;
-}
-
 static void command_new(char **arguments)
 {
     uint8_t own[REPLICA];
@@ -146,8 +141,8 @@ static void command_knowledge(char **arguments)
     struct part knowledge;
     load(&store, arguments[0]);
     knowledge = knowledge_of(&store);
-    write_result(arguments[1], knowledge.bytes, knowledge.n);
-    if (!is_standard_output(arguments[1]))
+    write_out(arguments[1], knowledge.bytes, knowledge.n);
+    if (!is_standard(arguments[1]))
         printf("%s has what %s %s, %zu bytes\n", arguments[1], arguments[0], kind_of(&store) == BATCH ? "teaches" : "knows", knowledge.n);
 }
 
@@ -166,8 +161,8 @@ static void command_make(char **arguments)
     if (number != 0)
         refused(number == SYNC_ARGUMENT ? "FIRST and LAST" : store.name, number, NULL);
     result.n = (size_t)written;
-    write_result(arguments[2], result.bytes, result.n);
-    if (!is_standard_output(arguments[2])) {
+    write_out(arguments[2], result.bytes, result.n);
+    if (!is_standard(arguments[2])) {
         add_ids(&result);
         printf("%s is a ", arguments[2]);
         show_kind(&result);

@@ -43,7 +43,13 @@ int is_there(const char *name)
     return stat(name, &about) == 0;
 }
 
-static int is_standard(const char *name)
+int is_regular(const char *name)
+{
+    struct stat about;
+    return stat(name, &about) == 0 && S_ISREG(about.st_mode);
+}
+
+int is_standard(const char *name)
 {
     return strcmp(name, "-") == 0;
 }
@@ -165,12 +171,11 @@ static void write_through(const char *name, int descriptor, const uint8_t *bytes
 
 void write_result(const char *name, const uint8_t *bytes, size_t n)
 {
-    struct stat about;
     if (is_standard(name)) {
         write_through("standard output", STDOUT_FILENO, bytes, n);
-    } else if (stat(name, &about) == 0 && S_ISDIR(about.st_mode)) {
+    } else if (is_folder(name)) {
         trouble(name, "is a folder, not a file");
-    } else if (stat(name, &about) == 0 && !S_ISREG(about.st_mode)) {
+    } else if (is_there(name) && !is_regular(name)) {
         write_through(name, open(name, O_WRONLY | O_CLOEXEC), bytes, n);
     } else {
         struct replacement new;

@@ -27,10 +27,15 @@ int is_folder(const char *name);
 /* Whether a file or folder of this name is there. */
 int is_there(const char *name);
 
-/* Reads a whole file; "-" is standard input. Ends the program where it cannot. */
+int is_regular(const char *name);
+
+/* Whether a name stands for standard input or output: "-". */
+int is_standard(const char *name);
+
+/* Reads a whole file, or standard input. Ends the program where it cannot. */
 void read_file(struct file *file, const char *name);
 
-/* Writes a result where the user wants it: replaces the file, or writes to standard output ("-"), a pipe or a device. */
+/* Writes a result where the user wants it: replaces the file, or writes to standard output, a pipe or a device. */
 void write_result(const char *name, const uint8_t *bytes, size_t n);
 
 /*

@@ -32,6 +32,16 @@ void load(struct file *file, const char *name)
     }
 }
 
+void write_out(const char *name, const uint8_t *bytes, size_t n)
+{
+    FILE *old = is_standard(name) || !is_regular(name) ? NULL : fopen(name, "rb");
+    if (old && fgetc(old) == KIND_STORE)
+        trouble(name, "is a store, which is not replaced; give another name");
+    if (old)
+        fclose(old);
+    write_result(name, bytes, n);
+}
+
 /* What can be seen from outside of a store or batch that is not valid. */
 static const char *fault_of(const struct file *file, enum kind wanted)
 {

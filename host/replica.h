@@ -25,6 +25,9 @@ extern const char *const kind_names[];
 /* Reads a file, or a folder's store. */
 void load(struct file *file, const char *name);
 
+/* Writes a knowledge or a batch where the user wants it, but not in the place of a store. */
+void write_out(const char *name, const uint8_t *bytes, size_t n);
+
 /* What a file knows: a knowledge itself, a store its own, a batch what it has learned. Refuses a file that is not valid. */
 struct part knowledge_of(const struct file *file);
 

@@ -4,7 +4,8 @@
  *
  *   stop N   the program ends right after the N-th call of open, write, fsync, rename or mkdir
  *   half N   likewise, and if that is a write only half of its bytes are written
- *   lose N   likewise, and as after a power failure what was not synced is lost: the bytes of files, and the first renaming
+ *   lose N   likewise, and as after a power failure the bytes of files that were not synced are lost
+ *   undo N   likewise, and the first renaming that no sync of a folder has followed is undone
  *   full N   the N-th call fails: no space left on the device
  *   slow     each read gives one byte
  *   cut      each file ends after 20 bytes
@@ -73,6 +74,10 @@ static void lose(void)
     for (at = 0; at < file_count; at++)
         if (files[at].unsynced && truncate(files[at].path, 0) != 0)
             abort();
+}
+
+static void undo(void)
+{
     if (renaming_count > 0 && __real_rename(renamings[0].before, renamings[0].path) != 0)
         unlink(renamings[0].path);
 }
@@ -80,10 +85,12 @@ static void lose(void)
 /* Counts a call that has been made, and stops the program behind it. */
 static void stop(const char *call)
 {
-    if (!is_now() || !(is_mode("stop") || is_mode("half") || is_mode("lose")))
+    if (!is_now() || !(is_mode("stop") || is_mode("half") || is_mode("lose") || is_mode("undo")))
         return;
     if (is_mode("lose"))
         lose();
+    if (is_mode("undo"))
+        undo();
     fprintf(stderr, "stopped after %s\n", call);
     _exit(77);
 }
@@ -102,7 +109,7 @@ static int fails(const char *call)
 int __wrap_open(const char *path, int flags, ...)
 {
     mode_t mode = 0;
-    int descriptor;
+    int descriptor, at;
     if (flags & O_CREAT) {
         va_list rest;
         va_start(rest, flags);
@@ -112,6 +119,9 @@ int __wrap_open(const char *path, int flags, ...)
     if (fails("open"))
         return -1;
     descriptor = __real_open(path, flags, mode);
+    for (at = 0; at < file_count; at++)
+        if (files[at].descriptor == descriptor)
+            files[at].descriptor = -1; /* it was closed */
     if (descriptor >= 0 && (flags & O_WRONLY) && file_count < MOST) {
         snprintf(files[file_count].path, ROOM, "%s", path);
         files[file_count++].descriptor = descriptor;
@@ -155,10 +165,8 @@ int __wrap_fsync(int descriptor)
         return -1;
     done = getenv("COLLECTOR_UNSYNCED") ? 0 : __real_fsync(descriptor);
     for (at = 0; at < file_count; at++)
-        if (files[at].descriptor == descriptor) {
-            files[at].unsynced &= getenv("COLLECTOR_UNSYNCED") != NULL;
-            files[at].descriptor = -1;
-        }
+        if (files[at].descriptor == descriptor && !getenv("COLLECTOR_UNSYNCED"))
+            files[at].unsynced = 0;
     if (fstat(descriptor, &about) == 0 && S_ISDIR(about.st_mode) && !getenv("COLLECTOR_UNSYNCED"))
         while (renaming_count > 0)
             unlink(renamings[--renaming_count].before);
@@ -171,7 +179,7 @@ int __wrap_rename(const char *from, const char *to)
     int done, at;
     if (fails("rename"))
         return -1;
-    if (is_mode("lose") && renaming_count < MOST) {
+    if (is_mode("undo") && renaming_count < MOST) {
         snprintf(renamings[renaming_count].path, ROOM, "%s", to);
         snprintf(renamings[renaming_count].before, ROOM, "%s.before", to);
         if (link(to, renamings[renaming_count].before) != 0 && errno != ENOENT)
