@@ -1,7 +1,7 @@
 -- An edit or a delete of a store that was opened. The new record's tick is one more than the largest tick known, and the change version of
--- the item's record is contained, so the new record wins over it: joining the store's table with the table of the new record puts it in its place.
--- The knowledge with the own tick raised was prepared, and what is then written ends the call as its reply says. Before that, the lines of the
--- table in their order.
+-- the item's record is contained, so the new record wins over it: joining the store's table with the table of the new record puts it in its
+-- place. The knowledge with the own tick raised was prepared, and what is then written ends the call as its reply says. Before that, the
+-- lines of the table in their order.
 use Prim.Native.Nat.{ℕ, _+_, _-_, _*_, _^_, _≤_, _<_}
 use mathlib.Core.Path.{_≡_, refl, sym, ap, ap₂, _∙_, subst}
 use mathlib.Core.Logic.{inl, inr}
@@ -100,7 +100,8 @@ tag-is s t0 t1 e a b = rw (a, b) (read-id2 s 0 (omega arith))
 -- ---- the record of the item
 
 -- what was found is the item's record in the table
-pub found-is : (s : List ℕ) (found : Found) (i at : ℕ) → foundPlace found ≡ placeOf s i (places s at) → foundRead s found ≡ find i (tableAt s at)
+pub found-is : (s : List ℕ) (found : Found) (i at : ℕ) → foundPlace found ≡ placeOf s i (places s at)
+    → foundRead s found ≡ find i (tableAt s at)
 unfolding foundRead
 found-is s (F.At a) i at h =
     let e : placeOf s i (places s at) ≡ some a = sym h ∙ found-at a in
@@ -147,9 +148,10 @@ module _ (s : List ℕ) (found : Found) where
 -- ---- what is written
 
 -- the new record's bytes alone are the other table
-pub put-becomes : (s k : List ℕ) (w : RecordWords) (d one : List ℕ) (st : Store) → length d ≡ recSize → one ≡ placed d 0 (putRec (recordOf w) [])
+pub put-becomes : (s k : List ℕ) (w : RecordWords) (d one : List ℕ) (st : Store) → length d ≡ recSize
+    → one ≡ placed d 0 (putRec (recordOf w) [])
     → Becomes s k (recordOf w .changeReplica) (recordOf w .changeTick) (putRec (recordOf w) []) st
-    → Becomes s k (words2 (w .change .replica .high) (w .change .replica .low)) (w .change .tick) one st
+    → Becomes s k (versionReplica (w .change)) (w .change .tick) one st
 unfolding recordOf
 put-becomes s k w d one st e f h =
     subst (λ (x : List ℕ). Becomes s k (recordOf w .changeReplica) (recordOf w .changeTick) x st)
@@ -157,7 +159,8 @@ put-becomes s k w d one st e f h =
 
 -- a table that was filled, prepared and finished
 pub change-finishes : (replicas ranges records : ℕ) (s k : List ℕ) (r : ℕ) (start : Cursor) (p0 p1 tick : ℕ) (one : List ℕ)
-    (ids bounds t ids' bounds' t' cols firsts numbers cols' firsts' numbers' picks : List ℕ) (q : Filled) (p : Prepared) (out u : List ℕ) (x : Answer)
+    (ids bounds t ids' bounds' t' cols firsts numbers cols' firsts' numbers' picks : List ℕ) (q : Filled) (p : Prepared) (out u : List ℕ)
+    (x : Answer)
     → Opens (anyId (within replicas ranges records)) k r start
     → TableRoom (r + 1) (start .left + 1) ids bounds t → PlanRoom (r + 1) (start .left + 1) cols firsts numbers
     → brought records largestRecords ≤ length picks → Words ids' → Words bounds' → Bytes s → Bytes one
@@ -167,17 +170,17 @@ pub change-finishes : (replicas ranges records : ℕ) (s k : List ℕ) (r : ℕ)
     (sizeFrom s one (joinAt s (storeKnowledge + length k) one 0)) (length out)
     → u ≡ finishedOut p (brought records largestRecords) (length (joinAt s (storeKnowledge + length k) one 0))
     (sizeFrom s one (joinAt s (storeKnowledge + length k) one 0)) out
-    (storeWritten (words2 p0 p1) ids' bounds' t' cols' firsts' numbers' s one (fronted picks (joinAt s (storeKnowledge + length k) one 0))
-    (length (joinAt s (storeKnowledge + length k) one 0)) out)
+    (storeWritten (words2 p0 p1) ids' bounds' t' cols' firsts' numbers' s one
+    (fronted picks (joinAt s (storeKnowledge + length k) one 0)) (length (joinAt s (storeKnowledge + length k) one 0)) out)
     → (st : Store) → Becomes s k (words2 p0 p1) tick one st → Ended (storeReply (within replicas ranges records) st) out u x
-change-finishes replicas ranges records s k r start p0 p1 tick one ids bounds t ids' bounds' t' cols firsts numbers cols' firsts' numbers' picks q p
-    out u x o room make few wi wb bytes others filled planning answers leaves st b =
+change-finishes replicas ranges records s k r start p0 p1 tick one ids bounds t ids' bounds' t' cols firsts numbers cols' firsts' numbers'
+    picks q p out u x o room make few wi wb bytes others filled planning answers leaves st b =
     let L = within replicas ranges records in
-    finish-ends L st (words2 p0 p1) (b .own) ids' bounds' t' cols' firsts' numbers' s (storeKnowledge + length k) one 0 bytes others (b .records)
-    picks (brought records largestRecords) refl few out u x p
+    finish-ends L st (words2 p0 p1) (b .own) ids' bounds' t' cols' firsts' numbers' s (storeKnowledge + length k) one 0 bytes others
+    (b .records) picks (brought records largestRecords) refl few out u x p
     (subst (λ y. Prepares (resultReply L y) ids' bounds' t' cols' firsts' numbers' p) (b .knowledge)
-    (raise-prepares replicas ranges records (anyId L) refl ids' bounds' t' cols firsts numbers cols' firsts' numbers' q p planning wi wb ids bounds t
-    k r start o p0 p1 tick filled room make))
+    (raise-prepares replicas ranges records (anyId L) refl ids' bounds' t' cols firsts numbers cols' firsts' numbers' q p planning wi wb
+    ids bounds t k r start o p0 p1 tick filled room make))
     answers leaves
 
 -- scratch of so many rows has room
@@ -188,8 +191,8 @@ pub change-room : (a b n : ℕ) (k : List ℕ) (r : ℕ) (start : Cursor) → Op
     × (brought n largestRecords ≤ length (replicate {A = ℕ} largestRecords 0))
 change-room a b n k r start o rows h l =
     let f = scratch-replicas (anyId (within a b n)) a b n refl k r start o in (
-      table-room (r + 1) (start .left + 1) (2 * stride) (3 * rows) (stride * rows) (omega (arith, f)) (omega arith) (omega (arith, f)) (omega arith)
-          (omega arith),
+      table-room (r + 1) (start .left + 1) (2 * stride) (3 * rows) (stride * rows) (omega (arith, f)) (omega arith) (omega (arith, f))
+          (omega arith) (omega arith),
       plan-room (r + 1) (start .left + 1) stride rows rows (omega (arith, f)) (omega arith) (omega arith),
       omega (arith, zeros-length largestRecords, brought-within n largestRecords (omega arith) .1),
     )
@@ -304,12 +307,15 @@ module _ (a b n : ℕ) (s : List ℕ) (bytes : Bytes s) (k : List ℕ) (own : Kn
       becomes =
           record {
             own = new-is .changeReplica;
-            knowledge = ap₂ (λ (p x : ℕ). raise p x (decode k)) (new-is .changeReplica) (new-is .changeTick) ∙ ap (raise (st .own) (nextTick st)) decodes;
+            knowledge =
+                ap₂ (λ (p x : ℕ). raise p x (decode k)) (new-is .changeReplica) (new-is .changeTick)
+                ∙ ap (raise (st .own) (nextTick st)) decodes;
             records = joins;
           }
 
       pub change-done : (out u : List ℕ) (x : Answer)
-          → ((y : Store) → Becomes s k (recordOf w .changeReplica) (recordOf w .changeTick) (putRec (recordOf w) []) y → Ended (storeReply L y) out u x)
+          → ((y : Store) → Becomes s k (recordOf w .changeReplica) (recordOf w .changeTick) (putRec (recordOf w) []) y
+          → Ended (storeReply L y) out u x)
           → Ended (changeReply L st content item) out u x
       change-done out u x g =
           subst (λ (r : Reply). Ended r out u x) (sym (change-on L st content item (omega (arith, largest-is, below))))
@@ -340,15 +346,18 @@ module _ (a b n : ℕ) (s : List ℕ) (o : OpenedStore) (e : o ≡ storeOpened (
     pub opened-end : storeKnowledge + own .length ≤ length s
     opened-end = store-room (within a b n) s own count opens
 
-    pub edit-no-item : (tag : List ℕ) → (length item ≡ 24 → ⊥) → Ended (editReply (within a b n) s item (brings tag)) out out (Refused 17)
+    pub edit-no-item : (tag : List ℕ) → (length item ≡ 24 → ⊥)
+        → Ended (editReply (within a b n) s item (brings tag)) out out (Refused 17)
     edit-no-item tag g =
         ended-refused (editReply (within a b n) s item (brings tag)) out 17
         (edit-17 (within a b n) (within-permitted a b n) s item (brings tag) bytes (storeAt (within a b n) s) (opens .value) .1 (inl g))
 
-    pub edit-no-tag : (tag : List ℕ) → (length tag ≡ 16 → ⊥) → Ended (editReply (within a b n) s item (brings tag)) out out (Refused 17)
+    pub edit-no-tag : (tag : List ℕ) → (length tag ≡ 16 → ⊥)
+        → Ended (editReply (within a b n) s item (brings tag)) out out (Refused 17)
     edit-no-tag tag g =
         ended-refused (editReply (within a b n) s item (brings tag)) out 17
-        (edit-17 (within a b n) (within-permitted a b n) s item (brings tag) bytes (storeAt (within a b n) s) (opens .value) .1 (inr (λ b. g (b .tag))))
+        (edit-17 (within a b n) (within-permitted a b n) s item (brings tag) bytes (storeAt (within a b n) s) (opens .value) .1
+        (inr (λ b. g (b .tag))))
 
     pub delete-no-item : (length item ≡ 24 → ⊥) → Ended (deleteReply (within a b n) s item) out out (Refused 17)
     delete-no-item g =
@@ -356,7 +365,8 @@ module _ (a b n : ℕ) (s : List ℕ) (o : OpenedStore) (e : o ≡ storeOpened (
         (delete-17 (within a b n) (within-permitted a b n) s item bytes (storeAt (within a b n) s) (opens .value) .1 g)
 
     module _ (octets : Bytes item) (long : length item ≡ 24) (i : ItemWords) (is : words3 (i .high) (i .middle) (i .low) ≡ beAt item 24 0)
-        (found : Found) (place : foundPlace found ≡ placeOf s (words3 (i .high) (i .middle) (i .low)) (places s (storeKnowledge + own .length))) where
+        (found : Found)
+        (place : foundPlace found ≡ placeOf s (words3 (i .high) (i .middle) (i .low)) (places s (storeKnowledge + own .length))) where
       abbrev words : ℕ
       words = words3 (i .high) (i .middle) (i .low)
 
@@ -384,7 +394,8 @@ module _ (a b n : ℕ) (s : List ℕ) (o : OpenedStore) (e : o ≡ storeOpened (
           → Asked (within a b n) s (take (storeKnowledge + own .length - storeKnowledge) (drop storeKnowledge s)) own found (changeOf i true t)
       delete-asked t zeros = asked true t (subst (λ (x : ℕ). x < 256 ^ 16) (sym zeros) (power-positive 16))
 
-      pub edit-done : (tag : List ℕ) → length tag ≡ 16 → (t : TagWords) → words2 (t .high) (t .low) ≡ beAt tag 16 0 → (u : List ℕ) (x : Answer)
+      pub edit-done : (tag : List ℕ) → length tag ≡ 16 → (t : TagWords) → words2 (t .high) (t .low) ≡ beAt tag 16 0
+          → (u : List ℕ) (x : Answer)
           → Ended (changeReply (within a b n) (storeAt (within a b n) s) (contentOf (changeOf i false t)) (itemOf (changeOf i false t))) out u x
           → Ended (editReply (within a b n) s item (brings tag)) out u x
       unfolding liveContent

@@ -1,5 +1,5 @@
--- An edit or a delete as the code has it: what is written by its words, what was found of the item, and what the changed store is made of. There
--- is nothing to believe here: the contracts of the calls cite the replies of `replication`.
+-- An edit or a delete as the code has it: what is written, by its words, what was found of the item, and what the changed store is made of.
+-- There is nothing to believe here: the contracts of the calls cite the replies of `replication`.
 use Rattle.codec.specs.Prelude.{ℕ, _+_, _^_, _<_, _≡_, List, Option, none, some, length}
 use Rattle.codec.specs.Words.{words2, words3}
 use Rattle.layout.specs.Knowledge.{Limits}

@@ -124,9 +124,7 @@ fn change_in(
     k: &[u8],
     r: u32,
     start: Cursor,
-    p0: u64,
-    p1: u64,
-    tick: u64,
+    change: VersionWords,
     one: &[u8],
     replicas: u32,
     ranges: u32,
@@ -144,11 +142,13 @@ fn change_in(
         × (TableRoom (r + 1) (start .left + 1) (now ids) (now bounds) (now t))
         × (PlanRoom (r + 1) (start .left + 1) (now cols) (now firsts) (now numbers))
         × (brought records largestRecords ≤ length (now picks)) ⌝ }
-    ensures { λ a. ⌜ ((st : Store) → Becomes (now (store .entry)) (now (k .entry)) (words2 p0 p1) tick (now (one .entry)) st
+    ensures { λ a. ⌜ ((st : Store) → Becomes (now (store .entry)) (now (k .entry)) (versionReplica change) (change .tick) (now (one .entry)) st
         → Ended (storeReply (within replicas ranges records) st) (now (out .entry)) (now (out .exit)) a) ⌝ }
 {
     let at = headers::STORE + k.len();
-    let q = filling::fill_raised(k, r, start, p0, p1, tick, ids, bounds, t);
+    let p0 = change.replica.high;
+    let p1 = change.replica.low;
+    let q = filling::fill_raised(k, r, start, p0, p1, change.tick, ids, bounds, t);
     let p = operations::prepare(q, replicas, ranges, ids, t, cols, firsts, numbers);
     storing::finish_store(
         out,
@@ -175,9 +175,7 @@ fn change_few(
     k: &[u8],
     r: u32,
     start: Cursor,
-    p0: u64,
-    p1: u64,
-    tick: u64,
+    change: VersionWords,
     one: &[u8],
     replicas: u32,
     ranges: u32,
@@ -185,7 +183,7 @@ fn change_few(
     out: &mut [u8],
 ) -> Answer
     requires { ⌜ (Opens (anyId (within replicas ranges records)) (now k) r start) × (start .left + 1 < few) ⌝ }
-    ensures { λ a. ⌜ ((st : Store) → Becomes (now (store .entry)) (now (k .entry)) (words2 p0 p1) tick (now (one .entry)) st
+    ensures { λ a. ⌜ ((st : Store) → Becomes (now (store .entry)) (now (k .entry)) (versionReplica change) (change .tick) (now (one .entry)) st
         → Ended (storeReply (within replicas ranges records) st) (now (out .entry)) (now (out .exit)) a) ⌝ }
 {
     let mut ids = [0u64; 2 * tables::STRIDE];
@@ -200,9 +198,7 @@ fn change_few(
         k,
         r,
         start,
-        p0,
-        p1,
-        tick,
+        change,
         one,
         replicas,
         ranges,
@@ -223,9 +219,7 @@ fn change_many(
     k: &[u8],
     r: u32,
     start: Cursor,
-    p0: u64,
-    p1: u64,
-    tick: u64,
+    change: VersionWords,
     one: &[u8],
     replicas: u32,
     ranges: u32,
@@ -233,7 +227,7 @@ fn change_many(
     out: &mut [u8],
 ) -> Answer
     requires { ⌜ Opens (anyId (within replicas ranges records)) (now k) r start ⌝ }
-    ensures { λ a. ⌜ ((st : Store) → Becomes (now (store .entry)) (now (k .entry)) (words2 p0 p1) tick (now (one .entry)) st
+    ensures { λ a. ⌜ ((st : Store) → Becomes (now (store .entry)) (now (k .entry)) (versionReplica change) (change .tick) (now (one .entry)) st
         → Ended (storeReply (within replicas ranges records) st) (now (out .entry)) (now (out .exit)) a) ⌝ }
 {
     let mut ids = [0u64; 2 * tables::STRIDE];
@@ -248,9 +242,7 @@ fn change_many(
         k,
         r,
         start,
-        p0,
-        p1,
-        tick,
+        change,
         one,
         replicas,
         ranges,
@@ -282,9 +274,7 @@ fn put_changed(
     ensures { λ a. ⌜ ((st : Store) → Becomes (now (store .entry)) (now (k .entry)) (recordOf new .changeReplica) (recordOf new .changeTick)
         (putRec (recordOf new) []) st → Ended (storeReply (within replicas ranges records) st) (now (out .entry)) (now (out .exit)) a) ⌝ }
 {
-    let p0 = new.change.replica.high;
-    let p1 = new.change.replica.low;
-    let tick = new.change.tick;
+    let change = new.change;
     let short = start.left < operations::FEW as u32 - 1;
     let mut one = [0u8; joining::RECORD_LENGTH];
     joining::write_record(&mut one, 0, new);
@@ -294,9 +284,7 @@ fn put_changed(
             k,
             r,
             start,
-            p0,
-            p1,
-            tick,
+            change,
             &one,
             replicas,
             ranges,
@@ -309,9 +297,7 @@ fn put_changed(
         k,
         r,
         start,
-        p0,
-        p1,
-        tick,
+        change,
         &one,
         replicas,
         ranges,
@@ -374,12 +360,8 @@ fn edit_within(
     ensures { λ a. ⌜ Ended (editReply (within replicas ranges records) (now (store .entry)) (now (item .entry)) (brings (now (tag .entry))))
         (now (out .entry)) (now (out .exit)) a ⌝ }
 {
-    let OpenedStore::Valid { own, count: _ } = stores::open_store(
-        &store[..],
-        replicas,
-        ranges,
-        records,
-    ) else {
+    let opened = stores::open_store(&store[..], replicas, ranges, records);
+    let OpenedStore::Valid { own, count: _ } = opened else {
         return Answer::Refused(15);
     };
     if item.len() != 24 {
@@ -439,12 +421,8 @@ fn delete_within(
     ensures { λ a. ⌜ Ended (deleteReply (within replicas ranges records) (now (store .entry)) (now (item .entry)))
         (now (out .entry)) (now (out .exit)) a ⌝ }
 {
-    let OpenedStore::Valid { own, count: _ } = stores::open_store(
-        &store[..],
-        replicas,
-        ranges,
-        records,
-    ) else {
+    let opened = stores::open_store(&store[..], replicas, ranges, records);
+    let OpenedStore::Valid { own, count: _ } = opened else {
         return Answer::Refused(15);
     };
     if item.len() != 24 {

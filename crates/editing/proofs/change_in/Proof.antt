@@ -48,7 +48,7 @@ returns c =
     let h = c .before .before .before .before .before .before .before .before .before .before .before .before .before .before .before .before .before .before .before .before .before .before .before .before .before .before .before .before .before .before .before .before .before .before .before .before .before .before .before .before .before .before .before .before .before .before .pre in
     let bytes : Bytes (a .store .now) = record { below = λ i. omega (arith, c .before .before .before .before .before .before .before .before .before .before .before .before .before .before .before .before .before .before .before .before .before .before .before .before .before .before .before .before .before .before .before .before .before .before .before .before .before .before .before .before .before .before .before .before .before .shared-slice-known .given i) } in
     let others : Bytes (a .one .now) = record { below = λ i. omega (arith, c .before .before .before .before .before .before .before .before .before .before .before .before .before .before .before .before .before .before .before .before .before .before .before .before .before .before .before .before .before .before .before .before .before .before .before .before .before .before .before .before .before .before .before .shared-slice-known3 .given i) } in
-    change-finishes (a .replicas) (a .ranges) (a .records) (a .store .now) (a .k .now) (a .r) (a .start) (a .p0) (a .p1) (a .tick) (a .one .now)
+    change-finishes (a .replicas) (a .ranges) (a .records) (a .store .now) (a .k .now) (a .r) (a .start) (a .change .replica .high) (a .change .replica .low) (a .change .tick) (a .one .now)
     _ _ _ _ _ _ _ _ _ _ _ _ (a .picks .now) _ _ (a .out .now) _ _ (h .0) (h .1) (h .2) (h .3)
     (record { below = λ i. omega (arith, c .before .before .before .before .before .before .before .before .before .before .before .before .before .before .before .before .before .before .before .before .before .before .before .before .before .before .before .before .before .slice-known9 .given i) })
     (record { below = λ i. omega (arith, c .before .before .before .before .before .before .before .before .before .before .before .before .before .before .before .before .before .before .before .before .before .before .before .before .before .before .before .slice-known10 .given i) }) bytes others

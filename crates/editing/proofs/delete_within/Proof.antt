@@ -9,8 +9,8 @@ use Rattle.editing.proofs.delete_within.Tie as tie
 open-store-requires : tie.Need-open-store-requires
 open-store-requires c κs = search needs
 
-enum-known-own : tie.Need-enum-known-own
-enum-known-own c = search needs
+enum-known-opened : tie.Need-enum-known-opened
+enum-known-opened c = search needs
 
 enum-told : tie.Need-enum-told
 enum-told c = search needs
@@ -24,7 +24,7 @@ returns-2 : tie.Need-returns-2
 returns-2 c =
     let a = c .before .before .before .before .before .before .before .before .args in
     let bytes : Bytes (a .store .now) = record { below = λ i. omega (arith, c .before .before .before .before .before .before .before .shared-slice-known .given i) } in
-    delete-no-item (a .replicas) (a .ranges) (a .records) (a .store .now) _ (c .before .before .before .before .open-store .ensures) (a .item .now) (a .out .now) bytes _ _ (c .before .before .own .given .1) (c .if1 .taken)
+    delete-no-item (a .replicas) (a .ranges) (a .records) (a .store .now) _ (c .before .before .before .before .open-store .ensures) (a .item .now) (a .out .now) bytes _ _ (c .before .before .opened .given .1) (c .if1 .taken)
 
 item-words-requires : tie.Need-item-words-requires
 item-words-requires c κs = c .if1 .left
@@ -33,7 +33,7 @@ add-end : tie.Need-add-end
 add-end c =
     let a = c .before .before .before .before .before .before .before .before .before .before .args in
     let bytes : Bytes (a .store .now) = record { below = λ i. omega (arith, c .before .before .before .before .before .before .before .before .before .shared-slice-known .given i) } in
-    let end = opened-end (a .replicas) (a .ranges) (a .records) (a .store .now) _ (c .before .before .before .before .before .before .open-store .ensures) (a .item .now) (a .out .now) bytes _ _ (c .before .before .before .before .own .given .1) in
+    let end = opened-end (a .replicas) (a .ranges) (a .records) (a .store .now) _ (c .before .before .before .before .before .before .open-store .ensures) (a .item .now) (a .out .now) bytes _ _ (c .before .before .before .before .opened .given .1) in
     omega (arith, end)
 
 place-of-requires : tie.Need-place-of-requires
@@ -47,7 +47,7 @@ returns-3 c =
     let a = c .before .before .before .before .before .before .before .before .before .before .before .before .before .args in
     let bytes : Bytes (a .store .now) = record { below = λ i. omega (arith, c .before .before .before .before .before .before .before .before .before .before .before .before .shared-slice-known .given i) } in
     let octets : Bytes (a .item .now) = record { below = λ i. omega (arith, c .before .before .before .before .before .before .before .before .before .before .before .shared-slice-known2 .given i) } in
-    delete-19 (a .replicas) (a .ranges) (a .records) (a .store .now) _ (c .before .before .before .before .before .before .before .before .before .open-store .ensures) (a .item .now) (a .out .now) bytes _ _ (c .before .before .before .before .before .before .before .own .given .1) octets (c .before .before .before .before .before .if1 .left) _ (c .before .before .before .before .item-words .ensures) _ (c .before .before .place-of .ensures)
+    delete-19 (a .replicas) (a .ranges) (a .records) (a .store .now) _ (c .before .before .before .before .before .before .before .before .before .open-store .ensures) (a .item .now) (a .out .now) bytes _ _ (c .before .before .before .before .before .before .before .opened .given .1) octets (c .before .before .before .before .before .if1 .left) _ (c .before .before .before .before .item-words .ensures) _ (c .before .before .place-of .ensures)
     _ (c .before .gone .ensures) (c .if2 .taken)
 
 sub-change-item : tie.Need-sub-change-item
@@ -60,7 +60,7 @@ part-change-item-end : tie.Need-part-change-item-end
 part-change-item-end c =
     let a = c .before .before .before .before .before .before .before .before .before .before .before .before .before .args in
     let bytes : Bytes (a .store .now) = record { below = λ i. omega (arith, c .before .before .before .before .before .before .before .before .before .before .before .before .shared-slice-known .given i) } in
-    let end = opened-end (a .replicas) (a .ranges) (a .records) (a .store .now) _ (c .before .before .before .before .before .before .before .before .before .open-store .ensures) (a .item .now) (a .out .now) bytes _ _ (c .before .before .before .before .before .before .before .own .given .1) in
+    let end = opened-end (a .replicas) (a .ranges) (a .records) (a .store .now) _ (c .before .before .before .before .before .before .before .before .before .open-store .ensures) (a .item .now) (a .out .now) bytes _ _ (c .before .before .before .before .before .before .before .opened .given .1) in
     omega (arith, end)
 
 change-item-requires : tie.Need-change-item-requires
@@ -68,7 +68,7 @@ change-item-requires c κs =
     let a = c .before .before .before .before .before .before .before .before .before .before .before .before .before .before .before .args in
     let bytes : Bytes (a .store .now) = record { below = λ i. omega (arith, c .before .before .before .before .before .before .before .before .before .before .before .before .before .before .shared-slice-known .given i) } in
     let octets : Bytes (a .item .now) = record { below = λ i. omega (arith, c .before .before .before .before .before .before .before .before .before .before .before .before .before .shared-slice-known2 .given i) } in
-    delete-asked (a .replicas) (a .ranges) (a .records) (a .store .now) _ (c .before .before .before .before .before .before .before .before .before .before .before .open-store .ensures) (a .item .now) (a .out .now) bytes _ _ (c .before .before .before .before .before .before .before .before .before .own .given .1) octets (c .before .before .before .before .before .before .before .if1 .left) _ (c .before .before .before .before .before .before .item-words .ensures) _ (c .before .before .before .before .place-of .ensures) _ zero-tag
+    delete-asked (a .replicas) (a .ranges) (a .records) (a .store .now) _ (c .before .before .before .before .before .before .before .before .before .before .before .open-store .ensures) (a .item .now) (a .out .now) bytes _ _ (c .before .before .before .before .before .before .before .before .before .opened .given .1) octets (c .before .before .before .before .before .before .before .if1 .left) _ (c .before .before .before .before .before .before .item-words .ensures) _ (c .before .before .before .before .place-of .ensures) _ zero-tag
 
 same-length : tie.Need-same-length
 same-length c = search needs
@@ -78,7 +78,7 @@ returns-4 c =
     let a = c .before .before .before .before .before .before .before .before .before .before .before .before .before .before .before .before .before .before .args in
     let bytes : Bytes (a .store .now) = record { below = λ i. omega (arith, c .before .before .before .before .before .before .before .before .before .before .before .before .before .before .before .before .before .shared-slice-known .given i) } in
     let octets : Bytes (a .item .now) = record { below = λ i. omega (arith, c .before .before .before .before .before .before .before .before .before .before .before .before .before .before .before .before .shared-slice-known2 .given i) } in
-    delete-done (a .replicas) (a .ranges) (a .records) (a .store .now) _ (c .before .before .before .before .before .before .before .before .before .before .before .before .before .before .open-store .ensures) (a .item .now) (a .out .now) bytes _ _ (c .before .before .before .before .before .before .before .before .before .before .before .before .own .given .1) octets (c .before .before .before .before .before .before .before .before .before .before .if1 .left) _ (c .before .before .before .before .before .before .before .before .before .item-words .ensures) _ (c .before .before .before .before .before .before .before .place-of .ensures)
+    delete-done (a .replicas) (a .ranges) (a .records) (a .store .now) _ (c .before .before .before .before .before .before .before .before .before .before .before .before .before .before .open-store .ensures) (a .item .now) (a .out .now) bytes _ _ (c .before .before .before .before .before .before .before .before .before .before .before .before .opened .given .1) octets (c .before .before .before .before .before .before .before .before .before .before .if1 .left) _ (c .before .before .before .before .before .before .before .before .before .item-words .ensures) _ (c .before .before .before .before .before .before .before .place-of .ensures)
     _ (c .before .before .before .before .before .before .gone .ensures) (c .before .before .before .before .before .if2 .left) _ zero-tag _ _ (c .before .before .change-item .ensures)
 
 pub delete-within-spec : {M : Type 1} → statement M
@@ -86,7 +86,7 @@ delete-within-spec =
     tie.close
     (tie.spec
     open-store-requires
-    enum-known-own
+    enum-known-opened
     enum-told
     returns
     returns-2

@@ -9,8 +9,8 @@ use Rattle.editing.proofs.edit_within.Tie as tie
 open-store-requires : tie.Need-open-store-requires
 open-store-requires c κs = search needs
 
-enum-known-own : tie.Need-enum-known-own
-enum-known-own c = search needs
+enum-known-opened : tie.Need-enum-known-opened
+enum-known-opened c = search needs
 
 enum-told : tie.Need-enum-told
 enum-told c = search needs
@@ -24,13 +24,13 @@ returns-2 : tie.Need-returns-2
 returns-2 c =
     let a = c .before .before .before .before .before .before .before .before .before .args in
     let bytes : Bytes (a .store .now) = record { below = λ i. omega (arith, c .before .before .before .before .before .before .before .before .shared-slice-known .given i) } in
-    edit-no-item (a .replicas) (a .ranges) (a .records) (a .store .now) _ (c .before .before .before .before .open-store .ensures) (a .item .now) (a .out .now) bytes _ _ (c .before .before .own .given .1) (a .tag .now) (c .if1 .taken)
+    edit-no-item (a .replicas) (a .ranges) (a .records) (a .store .now) _ (c .before .before .before .before .open-store .ensures) (a .item .now) (a .out .now) bytes _ _ (c .before .before .opened .given .1) (a .tag .now) (c .if1 .taken)
 
 returns-3 : tie.Need-returns-3
 returns-3 c =
     let a = c .before .before .before .before .before .before .before .before .before .before .args in
     let bytes : Bytes (a .store .now) = record { below = λ i. omega (arith, c .before .before .before .before .before .before .before .before .before .shared-slice-known .given i) } in
-    edit-no-tag (a .replicas) (a .ranges) (a .records) (a .store .now) _ (c .before .before .before .before .before .open-store .ensures) (a .item .now) (a .out .now) bytes _ _ (c .before .before .before .own .given .1) (a .tag .now) (c .if2 .taken)
+    edit-no-tag (a .replicas) (a .ranges) (a .records) (a .store .now) _ (c .before .before .before .before .before .open-store .ensures) (a .item .now) (a .out .now) bytes _ _ (c .before .before .before .opened .given .1) (a .tag .now) (c .if2 .taken)
 
 item-words-requires : tie.Need-item-words-requires
 item-words-requires c κs = c .before .if1 .left
@@ -39,7 +39,7 @@ add-end : tie.Need-add-end
 add-end c =
     let a = c .before .before .before .before .before .before .before .before .before .before .before .before .args in
     let bytes : Bytes (a .store .now) = record { below = λ i. omega (arith, c .before .before .before .before .before .before .before .before .before .before .before .shared-slice-known .given i) } in
-    let end = opened-end (a .replicas) (a .ranges) (a .records) (a .store .now) _ (c .before .before .before .before .before .before .before .open-store .ensures) (a .item .now) (a .out .now) bytes _ _ (c .before .before .before .before .before .own .given .1) in
+    let end = opened-end (a .replicas) (a .ranges) (a .records) (a .store .now) _ (c .before .before .before .before .before .before .before .open-store .ensures) (a .item .now) (a .out .now) bytes _ _ (c .before .before .before .before .before .opened .given .1) in
     omega (arith, end)
 
 place-of-requires : tie.Need-place-of-requires
@@ -58,7 +58,7 @@ part-change-item-end : tie.Need-part-change-item-end
 part-change-item-end c =
     let a = c .before .before .before .before .before .before .before .before .before .before .before .before .before .before .args in
     let bytes : Bytes (a .store .now) = record { below = λ i. omega (arith, c .before .before .before .before .before .before .before .before .before .before .before .before .before .shared-slice-known .given i) } in
-    let end = opened-end (a .replicas) (a .ranges) (a .records) (a .store .now) _ (c .before .before .before .before .before .before .before .before .before .open-store .ensures) (a .item .now) (a .out .now) bytes _ _ (c .before .before .before .before .before .before .before .own .given .1) in
+    let end = opened-end (a .replicas) (a .ranges) (a .records) (a .store .now) _ (c .before .before .before .before .before .before .before .before .before .open-store .ensures) (a .item .now) (a .out .now) bytes _ _ (c .before .before .before .before .before .before .before .opened .given .1) in
     omega (arith, end)
 
 change-item-requires : tie.Need-change-item-requires
@@ -67,7 +67,7 @@ change-item-requires c κs =
     let bytes : Bytes (a .store .now) = record { below = λ i. omega (arith, c .before .before .before .before .before .before .before .before .before .before .before .before .before .before .before .shared-slice-known .given i) } in
     let octets : Bytes (a .item .now) = record { below = λ i. omega (arith, c .before .before .before .before .before .before .before .before .before .before .before .before .before .before .shared-slice-known2 .given i) } in
     let tags : Bytes (a .tag .now) = record { below = λ i. omega (arith, c .before .before .before .before .before .before .before .before .before .before .before .before .before .shared-slice-known3 .given i) } in
-    edit-asked (a .replicas) (a .ranges) (a .records) (a .store .now) _ (c .before .before .before .before .before .before .before .before .before .before .before .open-store .ensures) (a .item .now) (a .out .now) bytes _ _ (c .before .before .before .before .before .before .before .before .before .own .given .1) octets (c .before .before .before .before .before .before .before .if1 .left) _ (c .before .before .before .before .before .item-words .ensures) _ (c .before .before .before .place-of .ensures)
+    edit-asked (a .replicas) (a .ranges) (a .records) (a .store .now) _ (c .before .before .before .before .before .before .before .before .before .before .before .open-store .ensures) (a .item .now) (a .out .now) bytes _ _ (c .before .before .before .before .before .before .before .before .before .opened .given .1) octets (c .before .before .before .before .before .before .before .if1 .left) _ (c .before .before .before .before .before .item-words .ensures) _ (c .before .before .before .place-of .ensures)
     (a .tag .now) tags _ (c .before .before .tag-words .ensures)
 
 same-length : tie.Need-same-length
@@ -78,7 +78,7 @@ returns-4 c =
     let a = c .before .before .before .before .before .before .before .before .before .before .before .before .before .before .before .before .before .before .before .args in
     let bytes : Bytes (a .store .now) = record { below = λ i. omega (arith, c .before .before .before .before .before .before .before .before .before .before .before .before .before .before .before .before .before .before .shared-slice-known .given i) } in
     let octets : Bytes (a .item .now) = record { below = λ i. omega (arith, c .before .before .before .before .before .before .before .before .before .before .before .before .before .before .before .before .before .shared-slice-known2 .given i) } in
-    edit-done (a .replicas) (a .ranges) (a .records) (a .store .now) _ (c .before .before .before .before .before .before .before .before .before .before .before .before .before .before .open-store .ensures) (a .item .now) (a .out .now) bytes _ _ (c .before .before .before .before .before .before .before .before .before .before .before .before .own .given .1) octets (c .before .before .before .before .before .before .before .before .before .before .if1 .left) _ (c .before .before .before .before .before .before .before .before .item-words .ensures) _ (c .before .before .before .before .before .before .place-of .ensures)
+    edit-done (a .replicas) (a .ranges) (a .records) (a .store .now) _ (c .before .before .before .before .before .before .before .before .before .before .before .before .before .before .open-store .ensures) (a .item .now) (a .out .now) bytes _ _ (c .before .before .before .before .before .before .before .before .before .before .before .before .opened .given .1) octets (c .before .before .before .before .before .before .before .before .before .before .if1 .left) _ (c .before .before .before .before .before .before .before .before .item-words .ensures) _ (c .before .before .before .before .before .before .place-of .ensures)
     (a .tag .now) (c .before .before .before .before .before .before .before .before .before .if2 .left) _ (c .before .before .before .before .before .tag-words .ensures) _ _ (c .before .before .change-item .ensures)
 
 pub edit-within-spec : {M : Type 1} → statement M
@@ -86,7 +86,7 @@ edit-within-spec =
     tie.close
     (tie.spec
     open-store-requires
-    enum-known-own
+    enum-known-opened
     enum-told
     returns
     returns-2

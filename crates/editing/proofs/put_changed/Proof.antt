@@ -27,14 +27,14 @@ slice-aggregate-change-few : tie.Need-slice-aggregate-change-few
 slice-aggregate-change-few c = search needs
 
 change-few-requires : tie.Need-change-few-requires
-change-few-requires c κs = (c .before .before .before .before .before .before .before .before .before .before .pre, omega (arith, ltb-true (c .before .before .before .before .before .before .before .before .before .before .args .start .left) (few - 1) (c .before .before .if1 .taken)))
+change-few-requires c κs = (c .before .before .before .before .before .before .before .before .before .before .before .pre, omega (arith, ltb-true (c .before .before .before .before .before .before .before .before .before .before .before .args .start .left) (few - 1) (c .before .before .if1 .taken)))
 
 same-length : tie.Need-same-length
 same-length c = search needs
 
 returns : tie.Need-returns
 returns c =
-    let a = c .before .before .before .before .before .before .before .before .before .before .before .before .before .args in
+    let a = c .before .before .before .before .before .before .before .before .before .before .before .before .before .before .args in
     λ st b. c .before .before .change-few .ensures st
     (put-becomes (a .store .now) (a .k .now) (a .new) (replicate recSize 0) _ st (zeros-length recSize) (c .before .before .before .before .before .before .before .write-record .ensures) b)
 
@@ -42,14 +42,14 @@ slice-aggregate-change-many : tie.Need-slice-aggregate-change-many
 slice-aggregate-change-many c = search needs
 
 change-many-requires : tie.Need-change-many-requires
-change-many-requires c κs = c .before .before .before .before .before .before .before .before .before .before .pre
+change-many-requires c κs = c .before .before .before .before .before .before .before .before .before .before .before .pre
 
 same-length-2 : tie.Need-same-length-2
 same-length-2 c = search needs
 
 returns-2 : tie.Need-returns-2
 returns-2 c =
-    let a = c .before .before .before .before .before .before .before .before .before .before .before .before .before .args in
+    let a = c .before .before .before .before .before .before .before .before .before .before .before .before .before .before .args in
     λ st b. c .before .before .change-many .ensures st
     (put-becomes (a .store .now) (a .k .now) (a .new) (replicate recSize 0) _ st (zeros-length recSize) (c .before .before .before .before .before .before .before .write-record .ensures) b)
 
