@@ -204,7 +204,13 @@ pub extern "C" fn sync_new(own: &[u8], out: &mut [u8], written: &mut u64) -> u32
 
 // Writes a store with an item edited, and its length; or gives the refusal's number, and then nothing changes.
 #[no_mangle]
-pub extern "C" fn sync_edit(store: &[u8], item: &[u8], tag: &[u8], out: &mut [u8], written: &mut u64) -> u32
+pub extern "C" fn sync_edit(
+    store: &[u8],
+    item: &[u8],
+    tag: &[u8],
+    out: &mut [u8],
+    written: &mut u64,
+) -> u32
     ensures number { λ r. ⌜ r ≡ numberOf (answer (editReply base (now (store .entry)) (now (item .entry)) (brings (now (tag .entry))))
         (length (now (out .entry)))) ⌝ }
     ensures count { λ _. ⌜ now (written .exit) ≡ writtenOf (answer (editReply base (now (store .entry)) (now (item .entry)) (brings (now (tag .entry))))
@@ -233,7 +239,14 @@ pub extern "C" fn sync_delete(store: &[u8], item: &[u8], out: &mut [u8], written
 // Writes the batch that a store makes for a knowledge and a span of items, and its length; or gives the refusal's number, and then
 // nothing changes.
 #[no_mangle]
-pub extern "C" fn sync_make(store: &[u8], knowledge: &[u8], first: &[u8], last: &[u8], out: &mut [u8], written: &mut u64) -> u32
+pub extern "C" fn sync_make(
+    store: &[u8],
+    knowledge: &[u8],
+    first: &[u8],
+    last: &[u8],
+    out: &mut [u8],
+    written: &mut u64,
+) -> u32
     ensures number { λ r. ⌜ r ≡ numberOf (answer (makeReply basic (now (store .entry)) (now (knowledge .entry)) (now (first .entry)) (now (last .entry)))
         (length (now (out .entry)))) ⌝ }
     ensures count { λ _. ⌜ now (written .exit) ≡ writtenOf (answer (makeReply basic (now (store .entry)) (now (knowledge .entry)) (now (first .entry)) (now (last .entry)))
