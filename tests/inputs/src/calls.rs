@@ -15,16 +15,14 @@ pub enum Call<'a> {
 }
 
 /// Takes a call with the name of its family. An error ends the run.
-pub trait Visit<E>: FnMut(&'static str, Call) -> Result<(), E> {}
-
-impl<E, V: FnMut(&'static str, Call) -> Result<(), E>> Visit<E> for V {}
+pub type Visit<'a> = dyn FnMut(&'static str, Call<'_>) -> Result<(), String> + 'a;
 
 const TICKS: [u64; 12] =
     [0, 1, 2, 1 << 32, 1 << 62, LARGEST - 1, LARGEST, 1 << 63, (1 << 63) + 1, u64::MAX >> 8, u64::MAX - 1, u64::MAX];
 const LARGEST: u64 = i64::MAX as u64;
 
 /// The calls that are the same in every run.
-pub fn fixed<E>(visit: &mut impl Visit<E>) -> Result<(), E> {
+pub fn fixed(visit: &mut Visit) -> Result<(), String> {
     lengths(visit)?;
     ticks(visit)?;
     for knowledge in [Knowledge::filled(1, 2, 1), Knowledge::filled(2, 3, 3), Knowledge::largest()] {
@@ -36,14 +34,14 @@ pub fn fixed<E>(visit: &mut impl Visit<E>) -> Result<(), E> {
 }
 
 /// The first knowledge in place of each knowledge argument, with the other beside it, in each call.
-fn each_argument<E>(
+fn each_argument(
     family: &'static str,
     knowledge: &[u8],
     other: &[u8],
     item: &[u8],
     replica: &[u8],
-    visit: &mut impl Visit<E>,
-) -> Result<(), E> {
+    visit: &mut Visit,
+) -> Result<(), String> {
     visit(family, Call::Contain { knowledge, item, replica, tick: 1 })?;
     for (first, second) in [(knowledge, other), (other, knowledge)] {
         visit(family, Call::Lead { first, second, item, replica })?;
@@ -53,7 +51,7 @@ fn each_argument<E>(
 }
 
 /// Ids of every length from 0 to 40.
-fn lengths<E>(visit: &mut impl Visit<E>) -> Result<(), E> {
+fn lengths(visit: &mut Visit) -> Result<(), String> {
     const FAMILY: &str = "ids of every length";
     const LENGTHS: std::ops::RangeInclusive<usize> = 0..=40;
     let a = Knowledge::filled(2, 4, 3).bytes();
@@ -78,7 +76,7 @@ fn lengths<E>(visit: &mut impl Visit<E>) -> Result<(), E> {
 }
 
 /// Ticks at their ends, known and asked for.
-fn ticks<E>(visit: &mut impl Visit<E>) -> Result<(), E> {
+fn ticks(visit: &mut Visit) -> Result<(), String> {
     const FAMILY: &str = "ticks";
     // A knowledge that knows one replica at a tick, below another replica in the map or above it.
     let knowing = |tick: Option<u64>, key: u32| {
@@ -136,7 +134,7 @@ pub fn faulty(knowledge: &Knowledge) -> [Vec<u8>; 10] {
 }
 
 /// Each fault of a knowledge in each argument, together with each fault in every other argument.
-fn faults<E>(knowledge: &Knowledge, visit: &mut impl Visit<E>) -> Result<(), E> {
+fn faults(knowledge: &Knowledge, visit: &mut Visit) -> Result<(), String> {
     const FAMILY: &str = "faults";
     let mut knowledges = vec![knowledge.bytes()];
     knowledges.extend(faulty(knowledge));
@@ -165,7 +163,7 @@ fn faults<E>(knowledge: &Knowledge, visit: &mut impl Visit<E>) -> Result<(), E> 
 }
 
 /// A knowledge cut anywhere, or with any field set to any of its boundary values, in each argument.
-fn damaged<E>(visit: &mut impl Visit<E>) -> Result<(), E> {
+fn damaged(visit: &mut Visit) -> Result<(), String> {
     let written = Knowledge::filled(2, 3, 2).write();
     let other = Knowledge::filled(3, 4, 3).bytes();
     let (item, replica) = (item_id(1), replica_id(2));
@@ -199,7 +197,7 @@ pub fn items(knowledge: &Knowledge, most: usize) -> Vec<ItemId> {
 }
 
 /// Every replica, and one that is in no map, at and around the bounds of knowledges of many shapes.
-fn places<E>(visit: &mut impl Visit<E>) -> Result<(), E> {
+fn places(visit: &mut Visit) -> Result<(), String> {
     const FAMILY: &str = "places";
     let random = &mut SplitMix64::new(6);
     for knowledge in crate::families::shapes() {
@@ -243,7 +241,7 @@ pub fn spread() -> [Knowledge; 3] {
 
 /// Every span between the bounds of a knowledge and the ids next to them, where the second knowledge knows one tick more, or
 /// the first one less, in one range, at one replica.
-fn spans<E>(visit: &mut impl Visit<E>) -> Result<(), E> {
+fn spans(visit: &mut Visit) -> Result<(), String> {
     const FAMILY: &str = "spans";
     for knowledge in spread() {
         let items = items(&knowledge, 6);
@@ -277,7 +275,7 @@ fn spans<E>(visit: &mut impl Visit<E>) -> Result<(), E> {
 }
 
 /// `count` random calls, on knowledges of random shapes that are often related to each other, intact or not.
-pub fn random<E>(seed: u64, count: usize, visit: &mut impl Visit<E>) -> Result<(), E> {
+pub fn random(seed: u64, count: usize, visit: &mut Visit) -> Result<(), String> {
     const CALLS_OF_A_PAIR: usize = 15;
     let random = &mut SplitMix64::new(seed);
     let mut pair = pairs::pair(random);

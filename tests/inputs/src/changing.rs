@@ -26,14 +26,12 @@ pub enum Changing<'a> {
 }
 
 /// Takes a call with the name of its family. An error ends the run.
-pub trait Visit<E>: FnMut(&'static str, Changing) -> Result<(), E> {}
-
-impl<E, V: FnMut(&'static str, Changing) -> Result<(), E>> Visit<E> for V {}
+pub type Visit<'a> = dyn FnMut(&'static str, Changing<'_>) -> Result<(), String> + 'a;
 
 pub const TAG: [u8; 16] = [0xc3; 16];
 
 /// The calls that are the same in every run.
-pub fn fixed<E>(visit: &mut impl Visit<E>) -> Result<(), E> {
+pub fn fixed(visit: &mut Visit) -> Result<(), String> {
     lengths(visit)?;
     faults(visit)?;
     ties(&mut |store: &[u8], batch: &[u8], _: &ItemId| {
@@ -48,7 +46,7 @@ pub fn fixed<E>(visit: &mut impl Visit<E>) -> Result<(), E> {
 }
 
 /// Ids and tags of every length from 0 to 40.
-fn lengths<E>(visit: &mut impl Visit<E>) -> Result<(), E> {
+fn lengths(visit: &mut Visit) -> Result<(), String> {
     const FAMILY: &str = "ids of every length";
     const LENGTHS: std::ops::RangeInclusive<usize> = 0..=40;
     let store = &sound_store().bytes();
@@ -73,7 +71,7 @@ fn lengths<E>(visit: &mut impl Visit<E>) -> Result<(), E> {
 }
 
 /// Each fault of an argument together with each fault of every other, and a buffer that is too short.
-fn faults<E>(visit: &mut impl Visit<E>) -> Result<(), E> {
+fn faults(visit: &mut Visit) -> Result<(), String> {
     const FAMILY: &str = "faults";
     let (store, batch) = (&sound_store().bytes()[..], &sound_batch().bytes()[..]);
     let mut knowledges = vec![Knowledge::b().bytes(), Knowledge::late_start().bytes()];
@@ -104,12 +102,12 @@ fn faults<E>(visit: &mut impl Visit<E>) -> Result<(), E> {
 }
 
 /// A store and a batch in each call that takes one, for an item.
-fn each_call<E>(
+fn each_call(
     family: &'static str,
     [store, batch, item]: [&[u8]; 3],
     rooms: &mut Rooms,
-    visit: &mut impl Visit<E>,
-) -> Result<(), E> {
+    visit: &mut Visit,
+) -> Result<(), String> {
     let [first_item, last_item] = &ALL;
     let knowledge = &Knowledge::b().bytes();
     visit(family, Changing::Edit { store, item, tag: &TAG, room: rooms.next() })?;
@@ -119,7 +117,7 @@ fn each_call<E>(
 }
 
 /// Each rule of validity broken alone, in each argument; and in both together.
-fn broken<E>(visit: &mut impl Visit<E>) -> Result<(), E> {
+fn broken(visit: &mut Visit) -> Result<(), String> {
     const FAMILY: &str = "rules broken";
     let (store, batch) = (&sound_store().bytes()[..], &sound_batch().bytes()[..]);
     let item = item_id(5);
@@ -140,7 +138,7 @@ fn broken<E>(visit: &mut impl Visit<E>) -> Result<(), E> {
 }
 
 /// Every byte changed, every length cut, every field set to its boundary values.
-fn damaged<E>(visit: &mut impl Visit<E>) -> Result<(), E> {
+fn damaged(visit: &mut Visit) -> Result<(), String> {
     let (store, batch) = (sound_store(), sound_batch());
     let item = item_id(5);
     let rooms = &mut Rooms::default();
@@ -158,7 +156,7 @@ fn damaged<E>(visit: &mut impl Visit<E>) -> Result<(), E> {
 }
 
 /// Buffers of every length up to a few bytes more than a short result, and of lengths around a long one.
-fn every_room<E>(visit: &mut impl Visit<E>) -> Result<(), E> {
+fn every_room(visit: &mut Visit) -> Result<(), String> {
     const FAMILY: &str = "buffers of every length";
     let short: Vec<Room> = (0..=40).map(Room::More).chain((1..=420).map(Room::Less)).collect();
     let long: Vec<Room> = (0..=20).map(Room::More).chain((1..=100).map(Room::Less)).collect();
@@ -192,7 +190,7 @@ fn every_room<E>(visit: &mut impl Visit<E>) -> Result<(), E> {
 }
 
 /// Stores and batches of many shapes.
-fn every_shape<E>(visit: &mut impl Visit<E>) -> Result<(), E> {
+fn every_shape(visit: &mut Visit) -> Result<(), String> {
     const FAMILY: &str = "shapes";
     let rooms = &mut Rooms::default();
     let random = &mut SplitMix64::new(23);
@@ -220,7 +218,7 @@ fn every_shape<E>(visit: &mut impl Visit<E>) -> Result<(), E> {
 }
 
 /// `count` random calls, on a store and a batch that are related or at the limits, intact or not.
-pub fn random<E>(seed: u64, count: usize, visit: &mut impl Visit<E>) -> Result<(), E> {
+pub fn random(seed: u64, count: usize, visit: &mut Visit) -> Result<(), String> {
     const CALLS_OF_A_PAIR: usize = 20;
     let random = &mut SplitMix64::new(seed);
     let faults = faulty(&Knowledge::filled(2, 3, 3));

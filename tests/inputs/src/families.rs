@@ -6,9 +6,7 @@ use crate::knowledge::{Field, Knowledge};
 use crate::splitmix::SplitMix64;
 
 /// Takes an input with the name of its family. An error ends the run.
-pub trait Visit<E>: FnMut(&'static str, &[u8]) -> Result<(), E> {}
-
-impl<E, V: FnMut(&'static str, &[u8]) -> Result<(), E>> Visit<E> for V {}
+pub type Visit<'a> = dyn FnMut(&'static str, &[u8]) -> Result<(), String> + 'a;
 
 /// Knowledges without fault, of many shapes, from the smallest to the largest.
 pub fn shapes() -> Vec<Knowledge> {
@@ -60,7 +58,7 @@ pub fn shapes() -> Vec<Knowledge> {
 }
 
 /// The inputs that are the same in every run.
-pub fn fixed<E>(visit: &mut impl Visit<E>) -> Result<(), E> {
+pub fn fixed(visit: &mut Visit) -> Result<(), String> {
     for instance in instances() {
         visit("instances", &instance.bytes)?;
     }
@@ -76,7 +74,7 @@ pub fn fixed<E>(visit: &mut impl Visit<E>) -> Result<(), E> {
 }
 
 /// Counts around their limits with as many things as they say.
-fn counts<E>(visit: &mut impl Visit<E>) -> Result<(), E> {
+fn counts(visit: &mut Visit) -> Result<(), String> {
     const FAMILY: &str = "counts";
     for r in 0..=20 {
         visit(FAMILY, &Knowledge::filled(r, 3, 3).bytes())?;
@@ -102,7 +100,7 @@ fn counts<E>(visit: &mut impl Visit<E>) -> Result<(), E> {
 }
 
 /// Every shorter part, and the whole. Behind a shorter part lie the bytes that would complete it.
-fn prefixes<E>(knowledge: &Knowledge, visit: &mut impl Visit<E>) -> Result<(), E> {
+fn prefixes(knowledge: &Knowledge, visit: &mut Visit) -> Result<(), String> {
     let bytes = knowledge.bytes();
     for n in 0..=bytes.len() {
         visit("prefixes", &bytes[..n])?;
@@ -111,7 +109,7 @@ fn prefixes<E>(knowledge: &Knowledge, visit: &mut impl Visit<E>) -> Result<(), E
 }
 
 /// More bytes than the knowledge has, without and with a fault in its last field.
-fn longer<E>(knowledge: &Knowledge, visit: &mut impl Visit<E>) -> Result<(), E> {
+fn longer(knowledge: &Knowledge, visit: &mut Visit) -> Result<(), String> {
     let whole = knowledge.bytes();
     for last in [0, 1] {
         for tail in [&[0][..], &[255], &[0; 8], &[1; 300], &whole] {
@@ -125,7 +123,7 @@ fn longer<E>(knowledge: &Knowledge, visit: &mut impl Visit<E>) -> Result<(), E> 
 }
 
 /// Every field in turn set to each of its boundary values.
-fn fields<E>(knowledge: &Knowledge, visit: &mut impl Visit<E>) -> Result<(), E> {
+fn fields(knowledge: &Knowledge, visit: &mut Visit) -> Result<(), String> {
     let written = knowledge.write();
     let mut bytes = written.bytes.clone();
     for (at, field) in written.fields.iter().enumerate() {
@@ -140,7 +138,7 @@ fn fields<E>(knowledge: &Knowledge, visit: &mut impl Visit<E>) -> Result<(), E> 
 }
 
 /// Every field in turn damaged, with the bytes ending before, inside or right behind it.
-fn cut_fields<E>(knowledge: &Knowledge, visit: &mut impl Visit<E>) -> Result<(), E> {
+fn cut_fields(knowledge: &Knowledge, visit: &mut Visit) -> Result<(), String> {
     let written = knowledge.write();
     let mut bytes = written.bytes.clone();
     for field in &written.fields {
@@ -159,7 +157,7 @@ fn cut_fields<E>(knowledge: &Knowledge, visit: &mut impl Visit<E>) -> Result<(),
 }
 
 /// Every two fields damaged at once.
-fn pairs<E>(knowledge: &Knowledge, visit: &mut impl Visit<E>) -> Result<(), E> {
+fn pairs(knowledge: &Knowledge, visit: &mut Visit) -> Result<(), String> {
     let written = knowledge.write();
     let mut bytes = written.bytes.clone();
     for (at, first) in written.fields.iter().enumerate() {
@@ -182,7 +180,7 @@ fn pairs<E>(knowledge: &Knowledge, visit: &mut impl Visit<E>) -> Result<(), E> {
 }
 
 /// `count` random inputs: knowledges of random shapes, intact or with one or several changes of any sort.
-pub fn random<E>(seed: u64, count: usize, visit: &mut impl Visit<E>) -> Result<(), E> {
+pub fn random(seed: u64, count: usize, visit: &mut Visit) -> Result<(), String> {
     const INPUTS_OF_A_SHAPE: usize = 16;
     let random = &mut SplitMix64::new(seed);
     let mut knowledge = Knowledge::smallest();

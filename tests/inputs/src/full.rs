@@ -17,14 +17,14 @@ const LARGEST_TICK: u64 = i64::MAX as u64;
 const ROOMS: [Room; 3] = [Room::More(0), Room::Less(1), Room::Bytes(0)];
 
 /// The calls that are the same in every run.
-pub fn fixed<E>(visit: &mut impl Visit<E>) -> Result<(), E> {
+pub fn fixed(visit: &mut Visit) -> Result<(), String> {
     changed(visit)?;
     made(visit)?;
     applied(visit)
 }
 
 /// Ticks, replicas and records at their limits, for items that are absent, live and tombstones.
-fn changed<E>(visit: &mut impl Visit<E>) -> Result<(), E> {
+fn changed(visit: &mut Visit) -> Result<(), String> {
     const FAMILY: &str = "changes at the limits";
     for largest in [5000, LARGEST_TICK - 1, LARGEST_TICK] {
         for replicas in REPLICAS - 2..=REPLICAS {
@@ -65,7 +65,7 @@ fn with_largest(store: &Store, largest: u64, own: bool) -> Knowledge {
 }
 
 /// Needed and learned knowledges of about 64 ranges.
-fn made<E>(visit: &mut impl Visit<E>) -> Result<(), E> {
+fn made(visit: &mut Visit) -> Result<(), String> {
     for ranges in RANGES - 2..=RANGES {
         let store = &Store::filled(2, ranges, 40).bytes();
         let late = Knowledge::late_start();
@@ -129,7 +129,7 @@ fn needing(batch: &Batch) -> Batch {
 }
 
 /// Replicas, ranges and records of a store and a batch together at their limits, also where the batch cannot be taken.
-fn applied<E>(visit: &mut impl Visit<E>) -> Result<(), E> {
+fn applied(visit: &mut Visit) -> Result<(), String> {
     for replicas in [4, REPLICAS - 1, REPLICAS, REPLICAS + 1, REPLICAS + 9] {
         for ranges in [4, RANGES - 1, RANGES, RANGES + 1, RANGES + 9] {
             for records in [4, RECORDS - 1, RECORDS, RECORDS + 1, RECORDS + 9] {
@@ -152,7 +152,7 @@ fn applied<E>(visit: &mut impl Visit<E>) -> Result<(), E> {
 
 /// Batches that need one tick more than the store knows in one range, at one replica; those whose span leaves that out; and those that have
 /// learned of one more own tick.
-pub fn not_covered<E>(visit: &mut impl Visit<E>) -> Result<(), E> {
+pub fn not_covered(visit: &mut Visit) -> Result<(), String> {
     const FAMILY: &str = "not covered";
     let store = Store::filled(3, 5, 12);
     let bytes = &store.bytes();

@@ -11,7 +11,7 @@ const RANGES: usize = 64;
 const ROOMS: [Room; 3] = [Room::More(0), Room::Less(1), Room::Bytes(0)];
 
 /// The calls that are the same in every run.
-pub fn fixed<E>(visit: &mut impl Visit<E>) -> Result<(), E> {
+pub fn fixed(visit: &mut Visit) -> Result<(), String> {
     normalised(visit)?;
     merged_replicas(visit)?;
     merged_ranges(visit)?;
@@ -101,7 +101,7 @@ pub fn unusual() -> Vec<Knowledge> {
 
 /// As many ranges as there may be and one fewer, starting at the first item or later, with a first range that knows something
 /// or not, and with neighbours that are alike.
-fn normalised<E>(visit: &mut impl Visit<E>) -> Result<(), E> {
+fn normalised(visit: &mut Visit) -> Result<(), String> {
     for ranges in RANGES - 2..=RANGES {
         for start in [0, 1, 1 << 100] {
             for change in 0..5 {
@@ -123,7 +123,7 @@ fn normalised<E>(visit: &mut impl Visit<E>) -> Result<(), E> {
     Ok(())
 }
 
-fn merge<E>(first: &Knowledge, second: &Knowledge, visit: &mut impl Visit<E>) -> Result<(), E> {
+fn merge(first: &Knowledge, second: &Knowledge, visit: &mut Visit) -> Result<(), String> {
     let (first, second) = (&first.bytes(), &second.bytes());
     for room in ROOMS {
         visit("merged at the limits", Writing::Merge { first, second, room })?;
@@ -134,7 +134,7 @@ fn merge<E>(first: &Knowledge, second: &Knowledge, visit: &mut impl Visit<E>) ->
 
 /// About 16 replicas in two maps, some in both, some without a tick or in no vector that is used; with few ranges and with
 /// about 64, where 11 comes before 12.
-fn merged_replicas<E>(visit: &mut impl Visit<E>) -> Result<(), E> {
+fn merged_replicas(visit: &mut Visit) -> Result<(), String> {
     for n in [0, 1, 8, 15, 16] {
         for shared in [0, 1, n] {
             for all in REPLICAS - 1..=REPLICAS + 2 {
@@ -168,7 +168,7 @@ fn merged_replicas<E>(visit: &mut impl Visit<E>) -> Result<(), E> {
 }
 
 /// About 64 ranges of two knowledges, some with the same bound, from the first item on or from a later one.
-fn merged_ranges<E>(visit: &mut impl Visit<E>) -> Result<(), E> {
+fn merged_ranges(visit: &mut Visit) -> Result<(), String> {
     for n in [1, 2, 31, 32, 33, 63, 64] {
         for shared in [0, 1, n] {
             for all in RANGES - 1..=RANGES + 2 {
@@ -191,7 +191,7 @@ fn merged_ranges<E>(visit: &mut impl Visit<E>) -> Result<(), E> {
 }
 
 /// Spans that start and end at a bound, next to one or within a range, of about 64 ranges.
-fn projected<E>(visit: &mut impl Visit<E>) -> Result<(), E> {
+fn projected(visit: &mut Visit) -> Result<(), String> {
     for ranges in RANGES - 3..=RANGES {
         for start in [0, 5] {
             let bounds = || (0..ranges as u128).map(|k| start + 10 * k);
@@ -214,7 +214,7 @@ fn projected<E>(visit: &mut impl Visit<E>) -> Result<(), E> {
 }
 
 /// Results that join down to one range or a few, from as many as there may be.
-fn joined<E>(visit: &mut impl Visit<E>) -> Result<(), E> {
+fn joined(visit: &mut Visit) -> Result<(), String> {
     const FAMILY: &str = "joined to few ranges";
     let every = || knowing(1, 3, (0..RANGES as u128).map(|k| 3 * k));
     let alike = |indices: fn(usize) -> bool| {

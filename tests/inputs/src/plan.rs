@@ -1,7 +1,7 @@
 //! How many inputs a run has, and which.
 
-use std::convert::Infallible;
 use std::env;
+use std::sync::OnceLock;
 
 use crate::families;
 use crate::rows::Row;
@@ -39,13 +39,9 @@ impl Plan {
     /// As many inputs as `SYNC_INPUTS` says, from the seed that `SYNC_SEED` says; where one is not set, as in the
     /// usual run.
     pub fn from_environment() -> Self {
-        let number = |name| {
-            let value = env::var(name).ok()?;
-            Some(value.parse::<u64>().unwrap_or_else(|_| panic!("{name} must be a number, not {value:?}")))
-        };
         Self {
-            seed: number("SYNC_SEED").unwrap_or(Self::USUAL.seed),
-            inputs: number("SYNC_INPUTS").map_or(Self::USUAL.inputs, |inputs| inputs as usize),
+            seed: number_from_environment("SYNC_SEED").unwrap_or(Self::USUAL.seed),
+            inputs: number_from_environment("SYNC_INPUTS").map_or(Self::USUAL.inputs, |inputs| inputs as usize),
         }
     }
 
@@ -58,31 +54,35 @@ impl Plan {
     ///
     /// The fixed ones come first. If they were more than half of the run, it has only some of them, which the seed
     /// chooses. Random ones fill it up.
-    pub fn try_for_each<E>(&self, mut visit: impl FnMut(Input) -> Result<(), E>) -> Result<(), E> {
+    pub fn try_for_each(&self, mut visit: impl FnMut(Input) -> Result<(), String>) -> Result<(), String> {
         let mut places = Places::new(self, fixed_inputs());
-        families::fixed(&mut |family, bytes: &[u8]| match places.next_fixed() {
+        families::fixed(&mut |family, bytes| match places.next_fixed() {
             Some(place) => visit(Input { place, family, bytes }),
             None => Ok(()),
         })?;
-        families::random(self.seed, places.left(), &mut |family, bytes: &[u8]| {
+        families::random(self.seed, places.left(), &mut |family, bytes| {
             visit(Input { place: places.next(), family, bytes })
         })
     }
 
     /// Hands out the calls of a row in the same manner, as many as the plan has inputs.
-    pub fn try_for_each_call<R: Row, E>(
+    pub fn try_for_each_call<R: Row>(
         &self,
-        mut visit: impl FnMut(CallInput<R::Call<'_>>) -> Result<(), E>,
-    ) -> Result<(), E> {
-        let mut places = Places::new(self, fixed_calls::<R>());
-        R::fixed(&mut |family, call: R::Call<'_>| match places.next_fixed() {
+        mut visit: impl FnMut(CallInput<R::Call<'_>>) -> Result<(), String>,
+    ) -> Result<(), String> {
+        let mut places = Places::new(self, R::fixed_calls());
+        R::fixed(&mut |family, call| match places.next_fixed() {
             Some(place) => visit(CallInput { place, family, call }),
             None => Ok(()),
         })?;
-        R::random(self.seed, places.left(), &mut |family, call: R::Call<'_>| {
-            visit(CallInput { place: places.next(), family, call })
-        })
+        R::random(self.seed, places.left(), &mut |family, call| visit(CallInput { place: places.next(), family, call }))
     }
+}
+
+/// The number that an environment variable says, if it is set.
+pub fn number_from_environment(name: &str) -> Option<u64> {
+    let value = env::var(name).ok()?;
+    Some(value.parse().unwrap_or_else(|_| panic!("{name} must be a number, not {value:?}")))
 }
 
 /// Gives the inputs of a run their places, and chooses among the fixed ones.
@@ -117,22 +117,17 @@ impl Places {
     }
 }
 
+/// How many inputs are the same in every run.
 fn fixed_inputs() -> usize {
-    let mut count = 0;
-    let Ok(()) = families::fixed(&mut |_, _: &[u8]| {
-        count += 1;
-        Ok::<(), Infallible>(())
-    });
-    count
-}
-
-fn fixed_calls<R: Row>() -> usize {
-    let mut count = 0;
-    let Ok(()) = R::fixed(&mut |_, _: R::Call<'_>| {
-        count += 1;
-        Ok::<(), Infallible>(())
-    });
-    count
+    static COUNT: OnceLock<usize> = OnceLock::new();
+    *COUNT.get_or_init(|| {
+        let mut count = 0;
+        let counted = families::fixed(&mut |_, _| {
+            count += 1;
+            Ok(())
+        });
+        counted.map(|()| count).expect("counting does not fail")
+    })
 }
 
 #[cfg(test)]
@@ -144,26 +139,25 @@ mod tests {
 
     #[test]
     fn the_usual_run_has_all_fixed_inputs() {
-        let mut count = 0;
-        let Ok(()) = Plan::USUAL.try_for_each(|input| {
-            if !input.family.starts_with("random") {
-                count += 1;
-            }
-            Ok::<(), Infallible>(())
-        });
-        assert_eq!(count, fixed_inputs());
-        fn has_all<R: Row>(plan: Plan) {
+        assert!(2 * fixed_inputs() <= Plan::USUAL.inputs);
+        assert!(2 * Lookups::fixed_calls() <= Plan::USUAL.inputs);
+        assert!(2 * Writings::fixed_calls() <= Plan::USUAL.inputs);
+        assert!(2 * Readings::fixed_calls() <= Plan::USUAL.on_stores().inputs);
+        assert!(2 * Changings::fixed_calls() <= Plan::USUAL.on_stores().inputs);
+    }
+
+    #[test]
+    fn a_run_of_twice_as_many_has_all_fixed_calls_and_one_of_fewer_has_not() {
+        for (inputs, all) in [(2 * Lookups::fixed_calls(), true), (2 * Lookups::fixed_calls() - 2, false)] {
             let mut count = 0;
-            let Ok(()) = plan.try_for_each_call::<R, Infallible>(|input| {
+            let plan = Plan { seed: 5, inputs };
+            plan.try_for_each_call::<Lookups>(|input| {
                 count += usize::from(!input.family.starts_with("random"));
                 Ok(())
-            });
-            assert_eq!(count, fixed_calls::<R>());
+            })
+            .unwrap();
+            assert_eq!(count == Lookups::fixed_calls(), all);
         }
-        has_all::<Lookups>(Plan::USUAL);
-        has_all::<Writings>(Plan::USUAL);
-        has_all::<Readings>(Plan::USUAL.on_stores());
-        has_all::<Changings>(Plan::USUAL.on_stores());
     }
 
     #[test]
@@ -171,17 +165,24 @@ mod tests {
         for inputs in [0, 1, 100, 20_000] {
             let run = || {
                 let mut sums = Vec::new();
-                let Ok(()) = Plan { seed: 5, inputs }.try_for_each(|input| {
+                let plan = Plan { seed: 5, inputs };
+                plan.try_for_each(|input| {
                     assert_eq!(input.place, sums.len());
                     sums.push(input.bytes.iter().fold(0u64, |sum, byte| sum.wrapping_mul(31) + u64::from(*byte)));
-                    Ok::<(), Infallible>(())
-                });
+                    Ok(())
+                })
+                .unwrap();
                 sums
             };
             let sums = run();
             assert_eq!(sums.len(), inputs);
             assert_eq!(sums, run());
+        }
+    }
 
+    #[test]
+    fn a_run_has_as_many_calls_as_planned_and_is_the_same_again() {
+        for inputs in [0, 1, 100, 10_000] {
             assert_same_again::<Lookups>(inputs);
             assert_same_again::<Writings>(inputs);
             assert_same_again::<Readings>(inputs);
@@ -192,13 +193,15 @@ mod tests {
     fn assert_same_again<R: Row>(inputs: usize) {
         let run = || {
             let mut calls = Vec::new();
-            let Ok(()) = Plan { seed: 5, inputs }.try_for_each_call::<R, Infallible>(|input| {
+            let plan = Plan { seed: 5, inputs };
+            plan.try_for_each_call::<R>(|input| {
                 assert_eq!(input.place, calls.len());
                 let mut hasher = DefaultHasher::new();
                 input.call.hash(&mut hasher);
                 calls.push(hasher.finish());
                 Ok(())
-            });
+            })
+            .unwrap();
             calls
         };
         let hashes = run();

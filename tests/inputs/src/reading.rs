@@ -24,12 +24,10 @@ pub enum Reading<'a> {
 }
 
 /// Takes a call with the name of its family. An error ends the run.
-pub trait Visit<E>: FnMut(&'static str, Reading) -> Result<(), E> {}
-
-impl<E, V: FnMut(&'static str, Reading) -> Result<(), E>> Visit<E> for V {}
+pub type Visit<'a> = dyn FnMut(&'static str, Reading<'_>) -> Result<(), String> + 'a;
 
 /// The calls that are the same in every run.
-pub fn fixed<E>(visit: &mut impl Visit<E>) -> Result<(), E> {
+pub fn fixed(visit: &mut Visit) -> Result<(), String> {
     ties(&mut |store: &[u8], batch: &[u8], item: &ItemId| visit("ties", Reading::Winner { store, batch, item }))?;
     walks(visit)?;
     lengths(visit)?;
@@ -41,13 +39,7 @@ pub fn fixed<E>(visit: &mut impl Visit<E>) -> Result<(), E> {
 }
 
 /// A store and a batch in each call that takes one, for an item.
-fn each_call<E>(
-    family: &'static str,
-    store: &[u8],
-    batch: &[u8],
-    item: &[u8],
-    visit: &mut impl Visit<E>,
-) -> Result<(), E> {
+fn each_call(family: &'static str, store: &[u8], batch: &[u8], item: &[u8], visit: &mut Visit) -> Result<(), String> {
     let knowledge = &Knowledge::b().bytes();
     visit(family, Reading::Winner { store, batch, item })?;
     visit(family, Reading::Learned { batch })?;
@@ -56,7 +48,7 @@ fn each_call<E>(
 }
 
 /// Every count of replicas, ranges and records, and one too many.
-fn sizes<E>(visit: &mut impl Visit<E>) -> Result<(), E> {
+fn sizes(visit: &mut Visit) -> Result<(), String> {
     let replicas = (0..=17).map(|r| (r, 3, 5 * r.min(1)));
     let ranges = (1..=65).map(|g| (2, g, 5));
     let records = (0..=257).map(|n| (2, 3, n));
@@ -87,7 +79,7 @@ pub fn some_items(store: &Store, batch: &Batch) -> Vec<ItemId> {
 }
 
 /// Stores and batches of many shapes.
-fn every_shape<E>(visit: &mut impl Visit<E>) -> Result<(), E> {
+fn every_shape(visit: &mut Visit) -> Result<(), String> {
     const FAMILY: &str = "shapes";
     let random = &mut SplitMix64::new(21);
     for (store, batch) in batches::shapes() {
@@ -121,7 +113,7 @@ fn every_shape<E>(visit: &mut impl Visit<E>) -> Result<(), E> {
 }
 
 /// Hands out stores and batches with a record of one item on both sides, with ticks and replicas in every order.
-pub fn ties<E>(visit: &mut impl FnMut(&[u8], &[u8], &ItemId) -> Result<(), E>) -> Result<(), E> {
+pub fn ties(visit: &mut dyn FnMut(&[u8], &[u8], &ItemId) -> Result<(), String>) -> Result<(), String> {
     const TICKS: [u64; 5] = [1, 2, 256, 1 << 32, i64::MAX as u64];
     let mut first_byte = [[7; 16]; 2];
     first_byte[1][0] = 8;
@@ -149,7 +141,7 @@ pub fn ties<E>(visit: &mut impl FnMut(&[u8], &[u8], &ItemId) -> Result<(), E>) -
 }
 
 /// Ids of every length from 0 to 40.
-fn lengths<E>(visit: &mut impl Visit<E>) -> Result<(), E> {
+fn lengths(visit: &mut Visit) -> Result<(), String> {
     let (store, batch) = (&sound_store().bytes(), &sound_batch().bytes());
     for byte in [0, 5] {
         // Behind the id lie further bytes of the same sort.
@@ -163,7 +155,7 @@ fn lengths<E>(visit: &mut impl Visit<E>) -> Result<(), E> {
 }
 
 /// Each fault of an argument together with each fault of every other.
-fn faults<E>(visit: &mut impl Visit<E>) -> Result<(), E> {
+fn faults(visit: &mut Visit) -> Result<(), String> {
     const FAMILY: &str = "faults";
     let (store, batch) = (&sound_store().bytes()[..], &sound_batch().bytes()[..]);
     let mut knowledges = vec![Knowledge::b().bytes(), Knowledge::late_start().bytes()];
@@ -187,7 +179,7 @@ fn faults<E>(visit: &mut impl Visit<E>) -> Result<(), E> {
 }
 
 /// Each rule of validity broken alone, and each two.
-fn broken<E>(visit: &mut impl Visit<E>) -> Result<(), E> {
+fn broken(visit: &mut Visit) -> Result<(), String> {
     const FAMILY: &str = "rules broken";
     let (store, batch) = (&sound_store().bytes()[..], &sound_batch().bytes()[..]);
     let item = item_id(5);
@@ -211,7 +203,7 @@ fn broken<E>(visit: &mut impl Visit<E>) -> Result<(), E> {
 }
 
 /// Every byte changed, every length cut, every field set to its boundary values.
-fn damaged<E>(visit: &mut impl Visit<E>) -> Result<(), E> {
+fn damaged(visit: &mut Visit) -> Result<(), String> {
     let (store, batch) = (sound_store(), sound_batch());
     let item = item_id(5);
     let mut as_store = |family, bytes: &[u8]| visit(family, Reading::Knowledge { store: bytes });
@@ -232,10 +224,10 @@ fn damaged<E>(visit: &mut impl Visit<E>) -> Result<(), E> {
 }
 
 /// Hands out written bytes with each damage in turn.
-pub fn each_damage<E>(
+pub fn each_damage(
     written: &Written,
-    visit: &mut impl FnMut(&'static str, &[u8]) -> Result<(), E>,
-) -> Result<(), E> {
+    visit: &mut dyn FnMut(&'static str, &[u8]) -> Result<(), String>,
+) -> Result<(), String> {
     let mut bytes = written.bytes.clone();
     for n in 0..=bytes.len() {
         visit("prefixes", &bytes[..n])?;
@@ -260,7 +252,7 @@ pub fn each_damage<E>(
 }
 
 /// Tables with records of known and other kinds, whole and cut, at every place and beyond.
-fn walks<E>(visit: &mut impl Visit<E>) -> Result<(), E> {
+fn walks(visit: &mut Visit) -> Result<(), String> {
     const FAMILY: &str = "walks";
     let table = |kinds: &[u8]| {
         let mut out = Written::default();
@@ -292,7 +284,7 @@ fn walks<E>(visit: &mut impl Visit<E>) -> Result<(), E> {
 }
 
 /// `count` random calls, on a store and a batch that are related, intact or not.
-pub fn random<E>(seed: u64, count: usize, visit: &mut impl Visit<E>) -> Result<(), E> {
+pub fn random(seed: u64, count: usize, visit: &mut Visit) -> Result<(), String> {
     const CALLS_OF_A_PAIR: usize = 20;
     let faults = faulty(&Knowledge::filled(2, 3, 3));
     let random = &mut SplitMix64::new(seed);

@@ -2,24 +2,27 @@
 
 use std::fmt::Debug;
 use std::hash::Hash;
+use std::sync::OnceLock;
 
 use crate::calls::{self, Call};
 use crate::changing::{self, Changing};
 use crate::reading::{self, Reading};
 use crate::writing::{self, Writing};
 
-/// A row of calls: some are the same in every run, and as many random ones follow as are asked for. Each is handed out with the name
-/// of its family, and an error ends the run.
-pub trait Row {
+/// A row of calls: some are the same in every run, and as many random ones follow as are asked for.
+pub trait Row: 'static {
     type Call<'a>: Copy + Debug + Hash;
 
-    fn fixed<E>(visit: &mut impl FnMut(&'static str, Self::Call<'_>) -> Result<(), E>) -> Result<(), E>;
+    fn fixed(visit: &mut dyn FnMut(&'static str, Self::Call<'_>) -> Result<(), String>) -> Result<(), String>;
 
-    fn random<E>(
+    fn random(
         seed: u64,
         count: usize,
-        visit: &mut impl FnMut(&'static str, Self::Call<'_>) -> Result<(), E>,
-    ) -> Result<(), E>;
+        visit: &mut dyn FnMut(&'static str, Self::Call<'_>) -> Result<(), String>,
+    ) -> Result<(), String>;
+
+    /// How many calls are the same in every run.
+    fn fixed_calls() -> usize;
 }
 
 macro_rules! row {
@@ -30,16 +33,24 @@ macro_rules! row {
         impl Row for $name {
             type Call<'a> = $call<'a>;
 
-            fn fixed<E>(visit: &mut impl FnMut(&'static str, $call) -> Result<(), E>) -> Result<(), E> {
+            fn fixed(visit: &mut $module::Visit) -> Result<(), String> {
                 $module::fixed(visit)
             }
 
-            fn random<E>(
-                seed: u64,
-                count: usize,
-                visit: &mut impl FnMut(&'static str, $call) -> Result<(), E>,
-            ) -> Result<(), E> {
+            fn random(seed: u64, count: usize, visit: &mut $module::Visit) -> Result<(), String> {
                 $module::random(seed, count, visit)
+            }
+
+            fn fixed_calls() -> usize {
+                static COUNT: OnceLock<usize> = OnceLock::new();
+                *COUNT.get_or_init(|| {
+                    let mut count = 0;
+                    let counted = $module::fixed(&mut |_, _| {
+                        count += 1;
+                        Ok(())
+                    });
+                    counted.map(|()| count).expect("counting does not fail")
+                })
             }
         }
     };

@@ -44,9 +44,7 @@ pub enum Writing<'a> {
 }
 
 /// Takes a call with the name of its family. An error ends the run.
-pub trait Visit<E>: FnMut(&'static str, Writing) -> Result<(), E> {}
-
-impl<E, V: FnMut(&'static str, Writing) -> Result<(), E>> Visit<E> for V {}
+pub type Visit<'a> = dyn FnMut(&'static str, Writing<'_>) -> Result<(), String> + 'a;
 
 /// Buffers of many lengths in turn, most of them long enough.
 #[derive(Default)]
@@ -71,7 +69,7 @@ impl Rooms {
 }
 
 /// The calls that are the same in every run.
-pub fn fixed<E>(visit: &mut impl Visit<E>) -> Result<(), E> {
+pub fn fixed(visit: &mut Visit) -> Result<(), String> {
     limits::fixed(visit)?;
     lengths(visit)?;
     for knowledge in [Knowledge::filled(1, 2, 1), Knowledge::filled(2, 3, 3), Knowledge::largest()] {
@@ -84,7 +82,7 @@ pub fn fixed<E>(visit: &mut impl Visit<E>) -> Result<(), E> {
 }
 
 /// Ids of every length from 0 to 40.
-fn lengths<E>(visit: &mut impl Visit<E>) -> Result<(), E> {
+fn lengths(visit: &mut Visit) -> Result<(), String> {
     const LENGTHS: std::ops::RangeInclusive<usize> = 0..=40;
     let knowledge = &Knowledge::filled(2, 4, 3).bytes();
     let mut rooms = Rooms::default();
@@ -105,7 +103,7 @@ fn lengths<E>(visit: &mut impl Visit<E>) -> Result<(), E> {
 
 /// Each fault of a knowledge in each argument, together with each fault in every other argument and a buffer that is too
 /// short.
-fn faults<E>(knowledge: &Knowledge, visit: &mut impl Visit<E>) -> Result<(), E> {
+fn faults(knowledge: &Knowledge, visit: &mut Visit) -> Result<(), String> {
     const FAMILY: &str = "faults";
     let mut knowledges = vec![knowledge.bytes()];
     knowledges.extend(faulty(knowledge));
@@ -129,13 +127,13 @@ fn faults<E>(knowledge: &Knowledge, visit: &mut impl Visit<E>) -> Result<(), E> 
 }
 
 /// The first knowledge in place of each knowledge argument, with the other beside it, in each call.
-fn each_argument<E>(
+fn each_argument(
     family: &'static str,
     knowledge: &[u8],
     other: &[u8],
     rooms: &mut Rooms,
-    visit: &mut impl Visit<E>,
-) -> Result<(), E> {
+    visit: &mut Visit,
+) -> Result<(), String> {
     visit(family, Writing::Normalise { knowledge, room: rooms.next() })?;
     visit(family, Writing::Merge { first: knowledge, second: other, room: rooms.next() })?;
     visit(family, Writing::Merge { first: other, second: knowledge, room: rooms.next() })?;
@@ -144,7 +142,7 @@ fn each_argument<E>(
 }
 
 /// A knowledge cut anywhere, or with any field set to any of its boundary values, in each argument.
-fn damaged<E>(visit: &mut impl Visit<E>) -> Result<(), E> {
+fn damaged(visit: &mut Visit) -> Result<(), String> {
     let written = Knowledge::filled(2, 3, 2).write();
     let other = Knowledge::filled(3, 4, 3).bytes();
     let rooms = &mut Rooms::default();
@@ -162,7 +160,7 @@ fn damaged<E>(visit: &mut impl Visit<E>) -> Result<(), E> {
 }
 
 /// Buffers of every length up to a few bytes more than a short result, and of lengths around a long one.
-fn every_room<E>(visit: &mut impl Visit<E>) -> Result<(), E> {
+fn every_room(visit: &mut Visit) -> Result<(), String> {
     const FAMILY: &str = "buffers of every length";
     let more = (0..=40).map(Room::More);
     let short: Vec<Room> = more.clone().chain((1..=320).map(Room::Less)).collect();
@@ -189,7 +187,7 @@ fn every_room<E>(visit: &mut impl Visit<E>) -> Result<(), E> {
 
 /// Knowledges of many shapes, as they are, in normal form and with the same ticks in other bytes: each alone, each two, and
 /// parts of each.
-fn every_shape<E>(visit: &mut impl Visit<E>) -> Result<(), E> {
+fn every_shape(visit: &mut Visit) -> Result<(), String> {
     const FAMILY: &str = "shapes";
     let random = &mut SplitMix64::new(7);
     let rooms = &mut Rooms::default();
@@ -220,7 +218,7 @@ fn every_shape<E>(visit: &mut impl Visit<E>) -> Result<(), E> {
 
 /// Every span between the bounds of a knowledge and the ids next to them, in order or not, where ranges are unlike and where
 /// some of them are alike.
-fn spans<E>(visit: &mut impl Visit<E>) -> Result<(), E> {
+fn spans(visit: &mut Visit) -> Result<(), String> {
     const FAMILY: &str = "spans";
     let rooms = &mut Rooms::default();
     for unlike in spread() {
@@ -246,7 +244,7 @@ fn spans<E>(visit: &mut impl Visit<E>) -> Result<(), E> {
 }
 
 /// `count` random calls, on two knowledges that are related to each other or near the limits, intact or not.
-pub fn random<E>(seed: u64, count: usize, visit: &mut impl Visit<E>) -> Result<(), E> {
+pub fn random(seed: u64, count: usize, visit: &mut Visit) -> Result<(), String> {
     const CALLS_OF_A_PAIR: usize = 15;
     let random = &mut SplitMix64::new(seed);
     let mut pair = pairs::pair(random);

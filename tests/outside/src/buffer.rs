@@ -63,18 +63,25 @@ fn copied<const N: usize>(
     copies.unchanged(arguments)
 }
 
-/// The byte at a place of memory that nothing was written to. No two neighbours are alike.
-fn fill(place: usize, byte: u8) -> u8 {
-    byte.wrapping_add((place as u8).wrapping_mul(7))
+/// After so many bytes, those of memory that nothing was written to are the same again.
+const PERIOD: usize = 256;
+
+/// The bytes from a place on of memory that nothing was written to. No two neighbours are alike.
+fn fill(from: usize, byte: u8) -> [u8; PERIOD] {
+    std::array::from_fn(|place| byte.wrapping_add(((from + place) as u8).wrapping_mul(7)))
 }
 
 fn filled(length: usize, byte: u8) -> Vec<u8> {
-    (0..length).map(|place| fill(place, byte)).collect()
+    let fill = fill(0, byte);
+    let mut memory = vec![0; length];
+    memory.chunks_mut(PERIOD).for_each(|chunk| chunk.copy_from_slice(&fill[..chunk.len()]));
+    memory
 }
 
 /// Whether nothing was written to memory that begins at a place.
 fn is_filled(memory: &[u8], from: usize, byte: u8) -> bool {
-    memory.iter().zip(from..).all(|(found, place)| *found == fill(place, byte))
+    let fill = fill(from, byte);
+    memory.chunks(PERIOD).all(|chunk| *chunk == fill[..chunk.len()])
 }
 
 /// The error, where number, length or any byte of the buffer are not as the answer says. The buffer begins at a place of its memory.

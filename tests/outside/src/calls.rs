@@ -22,10 +22,10 @@ const ENDS: [Ends; 3] = [
 /// occurred.
 pub fn run(plan: &Plan, engine: &impl Engine) -> Result<Tally, String> {
     let mut tally = Tally::default();
-    plan.try_for_each_call::<Lookups, _>(|input| {
+    plan.try_for_each_call::<Lookups>(|input| {
         let (call, outcome) = compare(&input, engine).map_err(|difference| describe(plan, &input, &difference))?;
         tally.add(call, outcome);
-        Ok::<(), String>(())
+        Ok(())
     })?;
     tally.complete(&ENDS)
 }

@@ -30,11 +30,11 @@ const ENDS: [Ends; 5] = [
 pub fn run(plan: &Plan, engine: &impl Engine) -> Result<Tally, String> {
     let mut tally = Tally::default();
     let mut longest = vec![0; Batch::LONGEST];
-    plan.try_for_each_call::<Changings, _>(|input| {
+    plan.try_for_each_call::<Changings>(|input| {
         let (call, outcome) =
             compare(&input, engine, &mut longest).map_err(|difference| describe(plan, &input, &difference))?;
         tally.add(call, outcome);
-        Ok::<(), String>(())
+        Ok(())
     })?;
     tally.complete(&ENDS)
 }
@@ -48,16 +48,16 @@ fn compare(
 ) -> Result<(&'static str, Outcome), String> {
     match input.call {
         Changing::New { own, room } => {
-            let result = reference::new(own, longest);
-            let (answer, room) = in_room(result, longest, room);
+            let result = reference::new(own, longest).map(|length| &longest[..length]);
+            let (answer, room) = in_room(result, room);
             buffer::compare(input.place, [own], room, answer, |[own], out, written| {
                 engine.new_store(own, out, written)
             })?;
             Ok(("new", Outcome::of(answer.map(|_| WRITTEN), &[])))
         }
         Changing::Edit { store, item, tag, room } => {
-            let result = reference::edit(store, item, tag, longest);
-            let (answer, room) = in_room(result, longest, room);
+            let result = reference::edit(store, item, tag, longest).map(|length| &longest[..length]);
+            let (answer, room) = in_room(result, room);
             let arguments = [store, item, tag];
             buffer::compare(input.place, arguments, room, answer, |[store, item, tag], out, written| {
                 engine.edit(store, item, tag, out, written)
@@ -65,16 +65,17 @@ fn compare(
             Ok(("edit", Outcome::of(answer.map(|_| WRITTEN), &[])))
         }
         Changing::Delete { store, item, room } => {
-            let result = reference::delete(store, item, longest);
-            let (answer, room) = in_room(result, longest, room);
+            let result = reference::delete(store, item, longest).map(|length| &longest[..length]);
+            let (answer, room) = in_room(result, room);
             buffer::compare(input.place, [store, item], room, answer, |[store, item], out, written| {
                 engine.delete(store, item, out, written)
             })?;
             Ok(("delete", Outcome::of(answer.map(|_| WRITTEN), &[])))
         }
         Changing::Make { store, knowledge, first_item, last_item, room } => {
-            let result = reference::make(store, knowledge, first_item, last_item, longest);
-            let (answer, room) = in_room(result, longest, room);
+            let result =
+                reference::make(store, knowledge, first_item, last_item, longest).map(|length| &longest[..length]);
+            let (answer, room) = in_room(result, room);
             let arguments = [store, knowledge, first_item, last_item];
             buffer::compare(input.place, arguments, room, answer, |[store, knowledge, from, to], out, written| {
                 engine.make(store, knowledge, [from, to], out, written)
@@ -82,8 +83,8 @@ fn compare(
             Ok(("make", Outcome::of(answer.map(|_| WRITTEN), knowledge)))
         }
         Changing::Apply { store, batch, room } => {
-            let result = reference::apply(store, batch, longest);
-            let (answer, room) = in_room(result, longest, room);
+            let result = reference::apply(store, batch, longest).map(|length| &longest[..length]);
+            let (answer, room) = in_room(result, room);
             buffer::compare(input.place, [store, batch], room, answer, |[store, batch], out, written| {
                 engine.apply(store, batch, out, written)
             })?;

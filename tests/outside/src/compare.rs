@@ -44,7 +44,7 @@ pub fn run(plan: &Plan, engine: impl Fn(&[u8], &mut [u64; 4]) -> u32) -> Result<
     plan.try_for_each(|input| {
         let number = compare(&input, &engine).map_err(|difference| describe(plan, &input, &difference))?;
         tally.add(number);
-        Ok::<(), String>(())
+        Ok(())
     })?;
     match tally.missing()[..] {
         [] => Ok(tally),

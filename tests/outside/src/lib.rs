@@ -12,6 +12,7 @@ pub mod laws;
 #[cfg(test)]
 mod lenient;
 pub mod linked;
+pub mod lists;
 mod one;
 pub mod reading;
 pub mod stand_in;

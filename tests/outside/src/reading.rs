@@ -54,10 +54,10 @@ const ENDS: [Ends; 5] = [
 /// never occurred.
 pub fn run(plan: &Plan, engine: &impl Engine) -> Result<Tally, String> {
     let mut tally = Tally::default();
-    plan.try_for_each_call::<Readings, _>(|input| {
+    plan.try_for_each_call::<Readings>(|input| {
         let (call, outcome) = compare(&input, engine).map_err(|difference| describe(plan, &input, &difference))?;
         tally.add(call, outcome);
-        Ok::<(), String>(())
+        Ok(())
     })?;
     tally.complete(&ENDS)
 }

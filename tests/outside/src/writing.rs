@@ -27,11 +27,11 @@ const ENDS: [Ends; 3] = [
 pub fn run(plan: &Plan, engine: &impl Engine) -> Result<Tally, String> {
     let mut tally = Tally::default();
     let mut longest = vec![0; LONGEST];
-    plan.try_for_each_call::<Writings, _>(|input| {
+    plan.try_for_each_call::<Writings>(|input| {
         let (call, outcome) =
             compare(&input, engine, &mut longest).map_err(|difference| describe(plan, &input, &difference))?;
         tally.add(call, outcome);
-        Ok::<(), String>(())
+        Ok(())
     })?;
     tally.complete(&ENDS)
 }
@@ -45,24 +45,24 @@ fn compare(
 ) -> Result<(&'static str, Outcome), String> {
     match input.call {
         Writing::Normalise { knowledge, room } => {
-            let result = reference::normalise(knowledge, longest);
-            let (answer, room) = in_room(result, longest, room);
+            let result = reference::normalise(knowledge, longest).map(|length| &longest[..length]);
+            let (answer, room) = in_room(result, room);
             buffer::compare(input.place, [knowledge], room, answer, |[knowledge], out, written| {
                 engine.normalise(knowledge, out, written)
             })?;
             Ok(("normalise", Outcome::of(answer.map(|_| WRITTEN), knowledge)))
         }
         Writing::Merge { first, second, room } => {
-            let result = reference::merge(first, second, longest);
-            let (answer, room) = in_room(result, longest, room);
+            let result = reference::merge(first, second, longest).map(|length| &longest[..length]);
+            let (answer, room) = in_room(result, room);
             buffer::compare(input.place, [first, second], room, answer, |knowledges, out, written| {
                 engine.merge(knowledges, out, written)
             })?;
             Ok(("merge", Outcome::of(answer.map(|_| WRITTEN), first)))
         }
         Writing::Project { knowledge, first_item, last_item, room } => {
-            let result = reference::project(knowledge, first_item, last_item, longest);
-            let (answer, room) = in_room(result, longest, room);
+            let result = reference::project(knowledge, first_item, last_item, longest).map(|length| &longest[..length]);
+            let (answer, room) = in_room(result, room);
             let arguments = [knowledge, first_item, last_item];
             buffer::compare(input.place, arguments, room, answer, |[knowledge, from, to], out, written| {
                 engine.project(knowledge, [from, to], out, written)
@@ -72,15 +72,11 @@ fn compare(
     }
 }
 
-/// The answer of a call whose result stands at the front of a long buffer, and the length of the buffer that it is given.
-pub fn in_room(result: Result<usize, u32>, longest: &[u8], room: Room) -> (Result<&[u8], u32>, usize) {
-    let room = room.length(result.ok());
-    let answer = match result {
-        Ok(length) if room < length => Err(reference::refusal::BUFFER),
-        Ok(length) => Ok(&longest[..length]),
-        Err(number) => Err(number),
-    };
-    (answer, room)
+/// The answer of a call that would have a result in a long buffer, in the buffer that it is given, and the length of that.
+pub fn in_room(result: Result<&[u8], u32>, room: Room) -> (Result<&[u8], u32>, usize) {
+    let room = room.length(result.ok().map(<[u8]>::len));
+    let fits = |bytes: &&[u8]| bytes.len() <= room;
+    (result.and_then(|bytes| Some(bytes).filter(fits).ok_or(reference::refusal::BUFFER)), room)
 }
 
 fn describe(plan: &Plan, input: &CallInput<Writing>, difference: &str) -> String {

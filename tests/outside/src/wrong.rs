@@ -1,5 +1,7 @@
 //! Engines that change, make or apply in a wrong way, over values. The comparison, and the lists of calls, must notice them.
 
+use std::cell::RefCell;
+
 use inputs::{Batch, FIRST_ITEM, ItemId, Knowledge, LAST_ITEM, Record, Store, TOMBSTONE, Version};
 
 use crate::changing::Engine;
@@ -84,15 +86,16 @@ impl Wrong {
 
 /// What a right call writes.
 fn right(call: impl FnOnce(&mut [u8], &mut u64) -> u32) -> Written {
-    let mut out = vec![0; Batch::LONGEST];
-    let mut written = 0;
-    match call(&mut out, &mut written) {
-        0 => {
-            out.truncate(written as usize);
-            Ok(out)
-        }
-        number => Err(number),
+    thread_local! {
+        static OUT: RefCell<Vec<u8>> = RefCell::new(vec![0; Batch::LONGEST]);
     }
+    OUT.with_borrow_mut(|out| {
+        let mut written = 0;
+        match call(out, &mut written) {
+            0 => Ok(out[..written as usize].to_vec()),
+            number => Err(number),
+        }
+    })
 }
 
 fn id<const N: usize>(bytes: &[u8]) -> Result<[u8; N], u32> {

@@ -40,7 +40,7 @@ fn is_right(right: Result<Vec<u8>, u32>, room: Room, call: impl Fn(&mut [u8]) ->
 
 #[test]
 fn as_slowly() {
-    PLAN.try_for_each_call::<Changings, _>(|input| {
+    PLAN.try_for_each_call::<Changings>(|input| {
         let right = match input.call {
             Changing::New { own, room } => {
                 let right = id(own).map(|own: ReplicaId| Store::new(own).bytes());

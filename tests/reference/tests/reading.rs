@@ -36,7 +36,7 @@ fn slow_coverage(store_bytes: &[u8], knowledge: &[u8]) -> Result<[u64; 3], u32> 
 
 #[test]
 fn as_slowly() {
-    PLAN.try_for_each_call::<Readings, _>(|input| {
+    PLAN.try_for_each_call::<Readings>(|input| {
         let right = match input.call {
             Reading::Winner { store, batch, item } => winner(store, batch, item) == slow_winner(store, batch, item),
             Reading::Learned { batch: bytes } => {

@@ -37,7 +37,7 @@ fn slow_cover(first: &[u8], second: &[u8], first_item: &[u8], last_item: &[u8]) 
 
 #[test]
 fn calls_as_slowly() {
-    PLAN.try_for_each_call::<Lookups, _>(|input| {
+    PLAN.try_for_each_call::<Lookups>(|input| {
         let right = match input.call {
             Call::Contain { knowledge, item, replica, tick } => {
                 contain(knowledge, item, replica, tick) == slow_contain(knowledge, item, replica, tick)

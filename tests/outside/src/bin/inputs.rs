@@ -1,13 +1,14 @@
 //! Compares the engine with the reference on a run of inputs and on rows of calls, and says how often each answer was given; and tries
-//! the laws of the calls that write a knowledge.
+//! the laws of the calls that write a knowledge, and random lists of calls on stores.
 //!
-//! `SYNC_INPUTS` sets the number of inputs, and of calls; `SYNC_SEED` sets the seed.
+//! `SYNC_INPUTS` sets the number of inputs, and of calls; `SYNC_LISTS` that of lists; `SYNC_SEED` sets the seed.
 
 use std::fmt::Display;
 use std::process::ExitCode;
 
 use inputs::Plan;
-use outside::{compare, engine, linked};
+use outside::stand_in::Reference;
+use outside::{compare, engine, linked, lists};
 
 fn main() -> ExitCode {
     let plan = Plan::from_environment();
@@ -18,6 +19,9 @@ fn main() -> ExitCode {
     let passed = said(outside::laws::run(&plan, &engine::Linked)) && passed;
     let passed = said(outside::reading::run(&plan.on_stores(), &linked::READING)) && passed;
     let passed = said(outside::changing::run(&plan.on_stores(), &linked::CHANGING)) && passed;
+    let lists = lists::Plan::from_environment();
+    println!("lists of calls: {} from seed {}", lists.lists, lists.seed);
+    let passed = said(lists::run(&lists, &linked::CHANGING, &Reference)) && passed;
     if passed { ExitCode::SUCCESS } else { ExitCode::FAILURE }
 }
 

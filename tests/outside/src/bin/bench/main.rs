@@ -6,28 +6,70 @@
 //!
 //! Arguments choose among the tables by the names of the calls.
 
+#[cfg(feature = "changing")]
+mod changing;
+#[cfg(feature = "changing")]
+mod changing_call;
 mod measure;
+#[cfg(feature = "reading")]
+mod reading;
+#[cfg(feature = "reading")]
+mod reading_call;
 mod row;
 mod sample;
+#[cfg(any(feature = "reading", feature = "changing"))]
+mod stores;
 mod writing;
 
 use std::env;
 
 use measure::{ROUNDS, TURN, TURNS};
 use row::Row;
-use sample::{Sample, samples};
 
-/// The rows of a table that are measured on a sample.
-type Rows = fn(&Sample) -> Vec<Row>;
+/// A table: what its sizes are the sizes of, and the rows of each size.
+struct Table {
+    call: &'static str,
+    of: &'static str,
+    sizes: fn() -> Vec<(&'static str, Vec<Row>)>,
+}
 
-const TABLES: [(&str, Rows); 7] = [
-    ("check", sample::check),
-    ("contain", sample::contain),
-    ("lead", sample::lead),
-    ("cover", sample::cover),
-    ("normalise", writing::normalise),
-    ("merge", writing::merge),
-    ("project", writing::project),
+const fn on_knowledge(call: &'static str, sizes: fn() -> Vec<(&'static str, Vec<Row>)>) -> Table {
+    Table { call, of: "Knowledge", sizes }
+}
+
+#[cfg(any(feature = "reading", feature = "changing"))]
+const fn on_store(call: &'static str, sizes: fn() -> Vec<(&'static str, Vec<Row>)>) -> Table {
+    Table { call, of: "Store", sizes }
+}
+
+const TABLES: &[Table] = &[
+    on_knowledge("check", || sample::each(sample::check)),
+    on_knowledge("contain", || sample::each(sample::contain)),
+    on_knowledge("lead", || sample::each(sample::lead)),
+    on_knowledge("cover", || sample::each(sample::cover)),
+    on_knowledge("normalise", || sample::each(writing::normalise)),
+    on_knowledge("merge", || sample::each(writing::merge)),
+    on_knowledge("project", || sample::each(writing::project)),
+    #[cfg(feature = "reading")]
+    on_store("winner", || stores::each(reading::winner)),
+    #[cfg(feature = "reading")]
+    on_store("learned", || stores::each(reading::learned)),
+    #[cfg(feature = "reading")]
+    on_store("coverage", || stores::each(reading::coverage)),
+    #[cfg(feature = "reading")]
+    on_store("knowledge", || stores::each(reading::knowledge)),
+    #[cfg(feature = "reading")]
+    on_store("walk", || stores::each(reading::walk)),
+    #[cfg(feature = "changing")]
+    on_store("new", || stores::each(changing::new)),
+    #[cfg(feature = "changing")]
+    on_store("edit", || stores::each(changing::edit)),
+    #[cfg(feature = "changing")]
+    on_store("delete", || stores::each(changing::delete)),
+    #[cfg(feature = "changing")]
+    on_store("make", || stores::each(changing::make)),
+    #[cfg(feature = "changing")]
+    on_store("apply", || stores::each(changing::apply)),
 ];
 
 fn main() {
@@ -37,25 +79,28 @@ fn main() {
         ROUNDS * TURNS,
         TURN.as_secs_f64() * 1e3
     );
-    for (call, rows) in TABLES {
-        if chosen.is_empty() || chosen.iter().any(|name| name == call) {
-            table(call, rows);
+    for table in TABLES {
+        if chosen.is_empty() || chosen.iter().any(|name| name == table.call) {
+            table.measure();
         }
     }
 }
 
-/// Measures a call on all samples and prints its table.
-fn table(call: &str, rows: Rows) {
-    let mut samples = samples().map(|sample| (sample.name, rows(&sample)));
-    for _ in 0..ROUNDS {
-        samples.iter_mut().flat_map(|(_, rows)| rows).for_each(Row::measure);
-    }
-    println!("\n`{call}`\n");
-    println!(
-        "| Knowledge | Input | Bytes | Number | Engine | Rust | Engine / Rust | {ROUNDS} rounds, least to most | Goal |"
-    );
-    println!("|---|---|---:|---:|---:|---:|---:|---:|---:|");
-    for (knowledge, rows) in &samples {
-        rows.iter().for_each(|row| row.print(knowledge));
+impl Table {
+    /// Measures the call on all sizes and prints the table.
+    fn measure(&self) {
+        let mut sizes = (self.sizes)();
+        for _ in 0..ROUNDS {
+            sizes.iter_mut().flat_map(|(_, rows)| rows).for_each(Row::measure);
+        }
+        println!("\n`{}`\n", self.call);
+        println!(
+            "| {} | Input | Bytes | Number | Engine | Rust | Engine / Rust | {ROUNDS} rounds, least to most | Goal |",
+            self.of
+        );
+        println!("|---|---|---:|---:|---:|---:|---:|---:|---:|");
+        for (size, rows) in &sizes {
+            rows.iter().for_each(|row| row.print(size));
+        }
     }
 }

@@ -8,14 +8,47 @@ use crate::measure::Times;
 
 #[derive(Clone, PartialEq)]
 pub enum Asked {
-    Check { knowledge: Vec<u8> },
-    Contain { knowledge: Vec<u8>, item: Vec<u8>, replica: Vec<u8>, tick: u64 },
-    Lead { first: Vec<u8>, second: Vec<u8>, item: Vec<u8>, replica: Vec<u8> },
-    Cover { first: Vec<u8>, second: Vec<u8>, first_item: Vec<u8>, last_item: Vec<u8> },
+    Check {
+        knowledge: Vec<u8>,
+    },
+    Contain {
+        knowledge: Vec<u8>,
+        item: Vec<u8>,
+        replica: Vec<u8>,
+        tick: u64,
+    },
+    Lead {
+        first: Vec<u8>,
+        second: Vec<u8>,
+        item: Vec<u8>,
+        replica: Vec<u8>,
+    },
+    Cover {
+        first: Vec<u8>,
+        second: Vec<u8>,
+        first_item: Vec<u8>,
+        last_item: Vec<u8>,
+    },
     // The calls that write have a buffer of so many bytes.
-    Normalise { knowledge: Vec<u8>, room: usize },
-    Merge { first: Vec<u8>, second: Vec<u8>, room: usize },
-    Project { knowledge: Vec<u8>, first_item: Vec<u8>, last_item: Vec<u8>, room: usize },
+    Normalise {
+        knowledge: Vec<u8>,
+        room: usize,
+    },
+    Merge {
+        first: Vec<u8>,
+        second: Vec<u8>,
+        room: usize,
+    },
+    Project {
+        knowledge: Vec<u8>,
+        first_item: Vec<u8>,
+        last_item: Vec<u8>,
+        room: usize,
+    },
+    #[cfg(feature = "reading")]
+    Reading(crate::reading_call::ReadingCall),
+    #[cfg(feature = "changing")]
+    Changing(crate::changing_call::ChangingCall),
 }
 
 pub struct Row {
@@ -129,12 +162,16 @@ impl Row {
                     reference::project(black_box(knowledge), black_box(first_item), black_box(last_item), out)
                 });
             }
+            #[cfg(feature = "reading")]
+            Asked::Reading(call) => call.measure(self.name, number, times),
+            #[cfg(feature = "changing")]
+            Asked::Changing(call) => call.measure(self.name, number, times),
         }
     }
 
-    pub fn print(&self, knowledge: &str) {
+    pub fn print(&self, size: &str) {
         println!(
-            "| {knowledge} | {} | {} | {} | {} | {} |",
+            "| {size} | {} | {} | {} | {} | {} |",
             self.name,
             self.bytes(),
             self.number,
@@ -143,7 +180,7 @@ impl Row {
         );
     }
 
-    /// How many bytes the knowledges have together.
+    /// How many bytes the knowledges, stores and batches have together.
     fn bytes(&self) -> usize {
         match &self.asked {
             Asked::Check { knowledge }
@@ -153,12 +190,16 @@ impl Row {
             Asked::Lead { first, second, .. }
             | Asked::Cover { first, second, .. }
             | Asked::Merge { first, second, .. } => first.len() + second.len(),
+            #[cfg(feature = "reading")]
+            Asked::Reading(call) => call.bytes(),
+            #[cfg(feature = "changing")]
+            Asked::Changing(call) => call.bytes(),
         }
     }
 }
 
 /// Measures one round more of a call that writes. Each side has a buffer of its own.
-fn writing(
+pub fn writing(
     name: &str,
     number: u32,
     room: usize,

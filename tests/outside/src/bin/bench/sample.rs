@@ -15,8 +15,13 @@ pub struct Sample {
     pub replica_too_many: Vec<u8>,
 }
 
+/// The rows of a table for each size.
+pub fn each(rows: fn(&Sample) -> Vec<Row>) -> Vec<(&'static str, Vec<Row>)> {
+    samples().iter().map(|sample| (sample.name, rows(sample))).collect()
+}
+
 /// The smallest, a middle and the largest size.
-pub fn samples() -> [Sample; 3] {
+fn samples() -> [Sample; 3] {
     [("smallest", 0, 1, 1), ("4 replicas, 8 ranges", 4, 9, 8), ("largest", 16, 65, 64)].map(|(name, r, v, g)| {
         let knowledge = Knowledge::filled(r, v, g);
         let whole = knowledge.bytes();

@@ -1,0 +1,181 @@
+/* A host program in C that keeps stores and batches in byte buffers and plays the paper's instances K9 to K12 to the byte: what each call
+   returns, every byte that it writes, and that it writes no other. */
+
+#include <inttypes.h>
+#include <stdio.h>
+#include <string.h>
+
+#include "sync.h"
+
+#define NUMBER(n) 0, 0, 0, n
+#define TICK(n) NUMBER(0), NUMBER(n)
+#define REPLICA(n) NUMBER(0), NUMBER(0), NUMBER(0), NUMBER(n)
+#define ITEM(n) NUMBER(0), NUMBER(0), REPLICA(n)
+#define TOP 255, 255, 255, 255, 255, 255, 255, 255, 255, 255, 255, 255, 255, 255, 255, 255, 255, 255, 255, 255, 255, 255, 255, 255
+#define TAG 9, 9, 9, 9, 9, 9, 9, 9, 9, 9, 9, 9, 9, 9, 9, 9
+
+/* The replicas P and Q. */
+#define P 1
+#define Q 2
+
+/* The parts of a knowledge around its replicas and its clock vectors. */
+#define OPENING NUMBER(5), NUMBER(0), NUMBER(1), NUMBER(0), NUMBER(5), 0, 0, 16
+#define BEFORE_VECTORS NUMBER(24), 0, 0, 16, 0, 0, 24, 0, 0, 1, NUMBER(21)
+#define NO_ELEMENTS NUMBER(1), NUMBER(0)
+#define BEFORE_RANGES NUMBER(23), NUMBER(1), NUMBER(22)
+#define CLOSING NUMBER(0), NUMBER(25), 1, NUMBER(0)
+
+/* Nothing; one tick of a replica everywhere; one of P and one of Q everywhere. */
+#define NOTHING \
+    OPENING, NUMBER(0), BEFORE_VECTORS, NUMBER(1), NO_ELEMENTS, BEFORE_RANGES, NUMBER(1), ITEM(0), NUMBER(0), CLOSING
+#define KNOWS(replica, tick) \
+    OPENING, NUMBER(1), REPLICA(replica), BEFORE_VECTORS, NUMBER(2), NO_ELEMENTS, \
+    NUMBER(1), NUMBER(1), NUMBER(0), TICK(tick), BEFORE_RANGES, NUMBER(1), ITEM(0), NUMBER(1), CLOSING
+#define KNOWS_BOTH(p, q) \
+    OPENING, NUMBER(2), REPLICA(P), REPLICA(Q), BEFORE_VECTORS, NUMBER(2), NO_ELEMENTS, \
+    NUMBER(1), NUMBER(2), NUMBER(0), TICK(p), NUMBER(1), TICK(q), BEFORE_RANGES, NUMBER(1), ITEM(0), NUMBER(1), CLOSING
+
+#define STORE(own, knowledge, records) 3, REPLICA(own), NUMBER(knowledge), NUMBER(records)
+#define BATCH(needed, learned, records) 4, ITEM(0), TOP, NUMBER(needed), NUMBER(learned), NUMBER(records)
+#define EDITED(item, replica, tick) 1, ITEM(item), REPLICA(replica), TICK(tick), REPLICA(replica), TICK(tick), TAG
+
+static const uint8_t p[] = {REPLICA(P)};
+static const uint8_t q[] = {REPLICA(Q)};
+static const uint8_t item_1[] = {ITEM(1)};
+static const uint8_t item_2[] = {ITEM(2)};
+static const uint8_t bottom[] = {ITEM(0)};
+static const uint8_t top[] = {TOP};
+static const uint8_t tag[] = {TAG};
+static const uint8_t nothing[] = {NOTHING};
+
+/* What the calls must write. */
+static const uint8_t new_p[] = {STORE(P, 113, 0), NOTHING};
+static const uint8_t new_q[] = {STORE(Q, 113, 0), NOTHING};
+static const uint8_t edited_p[] = {STORE(P, 149, 1), KNOWS(P, 1), EDITED(1, P, 1)};
+static const uint8_t edited_q[] = {STORE(Q, 149, 1), KNOWS(Q, 1), EDITED(1, Q, 1)};
+static const uint8_t batch_q[] = {BATCH(113, 149, 1), NOTHING, KNOWS(Q, 1), EDITED(1, Q, 1)};
+static const uint8_t p_after_q[] = {STORE(P, 177, 1), KNOWS_BOTH(1, 1), EDITED(1, Q, 1)};
+static const uint8_t p_next[] = {STORE(P, 177, 2), KNOWS_BOTH(2, 1), EDITED(1, Q, 1), EDITED(2, P, 2)};
+static const uint8_t batch_one[] = {BATCH(113, 149, 1), NOTHING, KNOWS(P, 1), EDITED(1, P, 1)};
+static const uint8_t p_twice[] = {STORE(P, 149, 2), KNOWS(P, 2), EDITED(1, P, 1), EDITED(2, P, 2)};
+static const uint8_t batch_two[] = {BATCH(149, 149, 1), KNOWS(P, 1), KNOWS(P, 2), EDITED(2, P, 2)};
+static const uint8_t q_after_one[] = {STORE(Q, 149, 1), KNOWS(P, 1), EDITED(1, P, 1)};
+static const uint8_t q_after_two[] = {STORE(Q, 149, 2), KNOWS(P, 2), EDITED(1, P, 1), EDITED(2, P, 2)};
+
+/* The host's buffer, longer than all results here, and the length written. */
+#define ROOM 600
+static uint8_t out[ROOM];
+static uint64_t written;
+
+/* Whether a call gave the number, and wrote these n bytes and no others; on a refusal n is 0. Forgets what was written. */
+static int wrote(const char *call, uint32_t given, uint32_t number, const uint8_t *wanted, size_t n)
+{
+    size_t place;
+    int right = given == number && written == (number == 0 ? n : 7) && memcmp(out, wanted, n) == 0;
+    for (place = n; place < ROOM; place++)
+        right = right && out[place] == 7;
+    if (!right)
+        fprintf(stderr, "host: %s: %" PRIu32 " and length %" PRIu64 ", not %" PRIu32 " and these %zu bytes\n",
+                call, given, written, number, n);
+    memset(out, 7, sizeof out);
+    written = 7;
+    return right;
+}
+
+static int make(const uint8_t *store, size_t store_n, const uint8_t *knowledge, size_t knowledge_n, const uint8_t *wanted, size_t n)
+{
+    uint32_t given = sync_make(store, store_n, knowledge, knowledge_n, bottom, 24, top, 24, out, ROOM, &written);
+    return wrote("make", given, 0, wanted, n);
+}
+
+static int edit(const uint8_t *store, size_t store_n, const uint8_t *item, const uint8_t *wanted, size_t n)
+{
+    return wrote("edit", sync_edit(store, store_n, item, 24, tag, 16, out, ROOM, &written), 0, wanted, n)
+        && wrote("edit", sync_edit(store, store_n, item, 24, tag, 16, out, n, &written), 0, wanted, n)
+        && wrote("edit", sync_edit(store, store_n, item, 24, tag, 16, out, n - 1, &written), SYNC_SHORT_BUFFER, out, 0);
+}
+
+static int apply(const uint8_t *store, size_t store_n, const uint8_t *batch, size_t batch_n, const uint8_t *wanted, size_t n)
+{
+    return wrote("apply", sync_apply(store, store_n, batch, batch_n, out, ROOM, &written), 0, wanted, n)
+        && wrote("apply", sync_apply(store, store_n, batch, batch_n, out, n - 1, &written), SYNC_SHORT_BUFFER, out, 0);
+}
+
+/* K9: a new store has 138 bytes, and 263 after one edit. */
+static int k9(void)
+{
+    return sizeof new_p == 138
+        && sizeof edited_p == 263
+        && wrote("new", sync_new(p, 16, out, ROOM, &written), 0, new_p, sizeof new_p)
+        && wrote("new", sync_new(q, 16, out, 138, &written), 0, new_q, sizeof new_q)
+        && wrote("new", sync_new(p, 15, out, ROOM, &written), SYNC_ARGUMENT, out, 0)
+        && wrote("new", sync_new(p, 16, out, 137, &written), SYNC_SHORT_BUFFER, out, 0)
+        && edit(new_p, sizeof new_p, item_1, edited_p, sizeof edited_p);
+}
+
+/* K10: P and Q both edit item 1 first, and P applies Q's batch. Q's record wins, and P's next tick is 2. */
+static int k10(void)
+{
+    return edit(new_q, sizeof new_q, item_1, edited_q, sizeof edited_q)
+        && make(edited_q, sizeof edited_q, nothing, sizeof nothing, batch_q, sizeof batch_q)
+        && apply(edited_p, sizeof edited_p, batch_q, sizeof batch_q, p_after_q, sizeof p_after_q)
+        && edit(p_after_q, sizeof p_after_q, item_2, p_next, sizeof p_next);
+}
+
+/* K11: the batch of K9's edited store for empty knowledge, over all ids, has 412 bytes. */
+static int k11(void)
+{
+    return sizeof batch_one == 412
+        && make(edited_p, sizeof edited_p, nothing, sizeof nothing, batch_one, sizeof batch_one);
+}
+
+/* K12: P's second batch is made for what the first has learned. A new Q refuses the second, takes the first and then the second. */
+static int k12(void)
+{
+    uint64_t at = 7, length = 7;
+    uint64_t sizes[4];
+    if (sync_learned(batch_one, sizeof batch_one, &at, &length) != 0 || at != 174 || length != 149) {
+        fprintf(stderr, "host: learned: place %" PRIu64 ", length %" PRIu64 "\n", at, length);
+        return 0;
+    }
+    if (sync_check(batch_one + at, (size_t)length, sizes) != 0 || sizes[0] != 1) {
+        fprintf(stderr, "host: what a batch has learned is a knowledge of one replica\n");
+        return 0;
+    }
+    return edit(edited_p, sizeof edited_p, item_2, p_twice, sizeof p_twice)
+        && make(p_twice, sizeof p_twice, batch_one + at, (size_t)length, batch_two, sizeof batch_two)
+        && wrote("apply", sync_apply(new_q, sizeof new_q, batch_two, sizeof batch_two, out, ROOM, &written), SYNC_NOT_COVERED, out, 0)
+        && apply(new_q, sizeof new_q, batch_one, sizeof batch_one, q_after_one, sizeof q_after_one)
+        && apply(q_after_one, sizeof q_after_one, batch_two, sizeof batch_two, q_after_two, sizeof q_after_two);
+}
+
+/* The other calls, on the stores and batches above. */
+static int others(void)
+{
+    uint32_t side = 7;
+    uint64_t at = 7, length = 7, contained = 7, all = 7, thousandths = 7;
+    int right = sync_winner(edited_p, sizeof edited_p, batch_q, sizeof batch_q, item_1, 24, &side, &at, &length) == 0
+        && side == 2 && at == 323 && length == 89
+        && memcmp(batch_q + at, p_after_q + sizeof p_after_q - 89, 89) == 0
+        && sync_winner(edited_p, sizeof edited_p, batch_q, sizeof batch_q, item_2, 24, &side, &at, &length) == 0
+        && side == 0 && at == 0 && length == 0
+        && sync_knowledge(edited_p, sizeof edited_p, &at, &length) == 0 && at == 25 && length == 149
+        && sync_knowledge(batch_q, sizeof batch_q, &at, &length) == SYNC_STORE && at == 25 && length == 149
+        && sync_coverage(p_twice, sizeof p_twice, edited_p + at, (size_t)length, &contained, &all, &thousandths) == 0
+        && contained == 1 && all == 2 && thousandths == 500
+        && sync_walk(p_twice, sizeof p_twice, 174, &length) == 0 && length == 89
+        && sync_walk(p_twice, sizeof p_twice, 175, &length) == 0 && length == 0
+        && sync_walk(p_twice, sizeof p_twice, UINT64_MAX, &length) == 0 && length == 0;
+    if (!right)
+        fprintf(stderr, "host: winner, knowledge, coverage or walk: %" PRIu32 " %" PRIu64 " %" PRIu64 " %" PRIu64 " %" PRIu64 " %" PRIu64 "\n",
+                side, at, length, contained, all, thousandths);
+    return right
+        && wrote("delete", sync_delete(new_p, sizeof new_p, item_1, 24, out, 0, &written), SYNC_ABSENT, out, 0);
+}
+
+int main(void)
+{
+    memset(out, 7, sizeof out);
+    written = 7;
+    return k9() && k10() && k11() && k12() && others() ? 0 : 1;
+}

@@ -1,0 +1,46 @@
+//! The stores and batches that are measured on.
+//!
+//! The smallest store is one that has made its first edit, the largest has every count at its limit. Each batch is all that the store of another
+//! replica knows, of the same size, where every other record is a later one.
+
+use inputs::{Batch, Store};
+
+use crate::row::Row;
+
+pub struct Sample {
+    name: &'static str,
+    pub store: Store,
+    /// Its bytes and those of the batch, and these with the last record of no known kind.
+    pub whole: Vec<u8>,
+    pub broken: Vec<u8>,
+    pub whole_batch: Vec<u8>,
+    pub broken_batch: Vec<u8>,
+}
+
+/// The rows of a table for the smallest, a middle and the largest size.
+pub fn each(rows: fn(&Sample) -> Vec<Row>) -> Vec<(&'static str, Vec<Row>)> {
+    let sizes = [("1 record", 1, 1, 1), ("4 replicas, 8 ranges, 32 records", 4, 8, 32), ("largest", 16, 64, 256)];
+    let samples = sizes.map(|(name, r, g, n)| {
+        let store = Store::filled(r, g, n);
+        let mut other = store.clone();
+        // Half of its records are later than the store's.
+        for record in other.records.iter_mut().step_by(2) {
+            let known = |id: &[u8; 16]| store.knowledge.known(&record.item, id);
+            let latest = store.knowledge.replicas.iter().map(|id| (known(id), *id)).max().expect("there is a replica");
+            record.change = (latest.1, latest.0);
+        }
+        let (whole, whole_batch) = (store.bytes(), Batch::whole(&other).bytes());
+        let broken = |bytes: &[u8]| {
+            let mut bytes = bytes.to_vec();
+            let kind = bytes.len() - 89;
+            bytes[kind] = 3;
+            bytes
+        };
+        let (broken, broken_batch) = (broken(&whole), broken(&whole_batch));
+        Sample { name, store, whole, broken, whole_batch, broken_batch }
+    });
+    samples.iter().map(|sample| (sample.name, rows(sample))).collect()
+}
+
+/// An item behind those of the largest store.
+pub const ABSENT: u128 = 5000;

@@ -1,0 +1,143 @@
+//! A right engine passes, wrong ones are noticed, and a failing list is printed so that it can be pasted here.
+
+use inputs::Room;
+
+use super::list::{Call, Given};
+use super::*;
+use crate::stand_in::Reference;
+use crate::wrong::{APPLIES, CHANGES, MAKES, Wrong};
+
+const PLAN: Plan = Plan { lists: 400, ..Plan::USUAL };
+
+#[test]
+fn a_right_engine_passes() {
+    let lists = run(&PLAN, &Reference, &Reference).unwrap();
+    assert_eq!(lists.lists, 400);
+}
+
+const P: &str = "00000000000000000000000000000001";
+const Q: &str = "00000000000000000000000000000002";
+const ITEM: &str = "000000000000000000000000000000000000000000000001";
+const SECOND: &str = "000000000000000000000000000000000000000000000002";
+const TOP: &str = "ffffffffffffffffffffffffffffffffffffffffffffffff";
+const FIRST: &str = "000000000000000000000000000000000000000000000000";
+const TAG: &str = "09090909090909090909090909090909";
+
+/// The paper's K12, and its text as it is printed.
+fn k12() -> (List, String) {
+    let list = List::new(&[(P, 0), (Q, 7)])
+        .edit(0, ITEM, TAG, Room::More(0))
+        .make(0, 0, Given::Nothing, FIRST, TOP, Room::More(3))
+        .edit(0, SECOND, TAG, Room::More(0))
+        .make(0, 1, Given::Learned(0), FIRST, TOP, Room::More(0))
+        .apply(1, 1, Room::More(0))
+        .apply(1, 0, Room::Less(1))
+        .apply(1, 0, Room::More(0))
+        .apply(1, 1, Room::More(0))
+        .delete(1, ITEM, Room::Bytes(5000))
+        .make(1, 2, Given::Of(0, 1), ITEM, ITEM, Room::More(0))
+        .make(1, 3, Given::bytes("00ff"), ITEM, ITEM, Room::More(0));
+    let text = format!(
+        r#"List::new(&[("{P}", 0), ("{Q}", 7)])
+    .edit(0, "{ITEM}", "{TAG}", Room::More(0))
+    .make(0, 0, Given::Nothing, "{FIRST}", "{TOP}", Room::More(3))
+    .edit(0, "{SECOND}", "{TAG}", Room::More(0))
+    .make(0, 1, Given::Learned(0), "{FIRST}", "{TOP}", Room::More(0))
+    .apply(1, 1, Room::More(0))
+    .apply(1, 0, Room::Less(1))
+    .apply(1, 0, Room::More(0))
+    .apply(1, 1, Room::More(0))
+    .delete(1, "{ITEM}", Room::Bytes(5000))
+    .make(1, 2, Given::Of(0, 1), "{ITEM}", "{ITEM}", Room::More(0))
+    .make(1, 3, Given::bytes("00ff"), "{ITEM}", "{ITEM}", Room::More(0))"#
+    );
+    (list, text)
+}
+
+#[test]
+fn a_list_is_printed_as_it_is_written_here() {
+    let (list, text) = k12();
+    assert_eq!(list.to_string(), text);
+}
+
+#[test]
+fn a_list_that_is_pasted_here_can_be_played() {
+    let mut calls = Tally::default();
+    let ended = try_list(&k12().0, &Reference, &Reference, &mut calls).unwrap();
+    assert_eq!((ended.pairs, ended.twice), (4, 4));
+    let text = calls.to_string();
+    assert_eq!(
+        text,
+        "apply: written × 2, 14 × 1, 18 × 1; delete: written × 1; edit: written × 2; make: written × 3, first 1 × 1"
+    );
+}
+
+/// The error of lists on an engine that is compared with itself, so that only the machine and the laws can notice it.
+fn noticed_alone(name: &str, wrong: &Wrong) -> String {
+    let error = run(&PLAN, wrong, wrong).map(|lists| lists.to_string()).expect_err(name);
+    let said = ["after the list", "in either order", "applied twice", "is valid"];
+    assert!(said.iter().any(|words| error.contains(words)), "{name}: {error}");
+    error
+}
+
+#[test]
+fn the_machine_notices_engines_that_change_in_another_way() {
+    for (name, change) in CHANGES {
+        noticed_alone(name, &Wrong { change: Some(change), ..Wrong::default() });
+    }
+}
+
+/// Ways that end as history says wherever a list of calls can come, or refuse too much, which the machine is only told.
+const RIGHT_IN_LISTS: [&str; 6] = [
+    "needed projected",
+    "learned merged with the given knowledge",
+    "needed looked at outside the span too",
+    "a later own tick taken",
+    "every batch refused",
+    "the batch's record wins ties",
+];
+
+#[test]
+fn the_machine_notices_engines_that_make_in_another_way() {
+    for (name, make) in MAKES.into_iter().filter(|(name, _)| !RIGHT_IN_LISTS.contains(name)) {
+        noticed_alone(name, &Wrong { make: Some(make), ..Wrong::default() });
+    }
+}
+
+#[test]
+fn the_machine_notices_engines_that_apply_in_another_way() {
+    for (name, apply) in APPLIES.into_iter().filter(|(name, _)| !RIGHT_IN_LISTS.contains(name)) {
+        noticed_alone(name, &Wrong { apply: Some(apply), ..Wrong::default() });
+    }
+}
+
+#[test]
+fn a_failing_list_is_made_small() {
+    let (_, apply) = APPLIES.into_iter().find(|(name, _)| *name == "learned and records dropped").unwrap();
+    let wrong = Wrong { apply: Some(apply), ..Wrong::default() };
+    let error = run(&PLAN, &wrong, &Reference).unwrap_err();
+    // An edit and a make are enough: that the two differ on an apply then shows after the list.
+    assert!(error.starts_with("after the list, engine and reference differ on an apply\n"), "{error}");
+    assert!(error.lines().filter(|line| line.starts_with("    .")).count() <= 3, "{error}");
+
+    let error = run(&PLAN, &wrong, &wrong).unwrap_err();
+    assert!(error.contains(" after the list: it has the records [], the machine"), "{error}");
+    let calls: Vec<&str> = error.lines().filter_map(|line| line.strip_prefix("    .")).collect();
+    let starts = ["edit(", "make(", "apply("];
+    assert!(calls.len() == 3 && calls.iter().zip(starts).all(|(call, start)| call.starts_with(start)), "{error}");
+}
+
+#[test]
+fn lists_that_never_come_to_something_are_noticed() {
+    let refuses = Wrong { apply: Some(|_, _| Err(18)), ..Wrong::default() };
+    let plan = Plan { lists: MANY, ..PLAN };
+    assert!(run(&plan, &refuses, &refuses).unwrap_err().starts_with("never occurred: apply: written"));
+}
+
+#[test]
+fn every_call_of_a_list_has_a_text() {
+    let random = &mut SplitMix64::new(1);
+    let list = generate::list(random, generate::Style::Usual);
+    let calls = list.calls.iter().filter(|call| matches!(call, Call::Make { .. })).count();
+    assert_eq!(list.to_string().matches(".make(").count(), calls);
+}
