@@ -8,6 +8,9 @@
  * - Buffers that are written overlap no other buffer of the same call.
  * - It returns 0 when it did what it says. Else it returns the number of the refusal and changes nothing behind any
  *   pointer.
+ * - It keeps no state, allocates nothing, and calls nothing but memset, memcpy and their like. So it may be called from any
+ *   thread, and from several at once, each with output buffers of its own.
+ * - It always ends; docs/BENCHMARKS.md has times.
  */
 
 #ifndef SYNC_H
@@ -19,6 +22,17 @@
 #ifdef __cplusplus
 extern "C" {
 #endif
+
+/*
+ * The longest knowledge, store and batch, in bytes. A buffer so long is never too short for a result: theorem `enough`,
+ * crates/replication/proofs/Enough.antt, for stores and batches, and `lawful-length`, crates/layout/proofs/Lengths.antt, for knowledges.
+ */
+#define SYNC_LARGEST_KNOWLEDGE 14933
+#define SYNC_LARGEST_STORE 37742
+#define SYNC_LARGEST_BATCH 52711
+
+/* No call takes more stack than this, in bytes. Not proved but measured, by tests/stack.c. */
+#define SYNC_STACK 131072
 
 /*
  * The numbers of the refusals. A knowledge is read from left to right, and the number is that of the first field with a

@@ -1,6 +1,8 @@
 // The C interface: each function is thin, and its contract says what every byte behind every pointer is afterwards.
 use codec::Answer;
 use layout::Checked;
+use replication::Coverage;
+use replication::Part;
 use ticks::Contain;
 use ticks::Cover;
 use ticks::Lead;
@@ -13,6 +15,12 @@ ghost use Rattle.layout.specs.Answer.{checkedNumber, checkedSizes};
 ghost use Rattle.ticks.specs.Calls.{containNumber, containValue, containAnswer, leadNumber, leadValue, leadAnswer};
 ghost use Rattle.ticks.specs.Calls.{coverNumber, coverValue, coverAnswer};
 ghost use Rattle.ticks.specs.Calls.{normaliseReply, mergeReply, projectReply};
+ghost use Rattle.replication.specs.Calls.{newReply, editReply, deleteReply, makeReply, applyReply};
+ghost use Rattle.replication.specs.MethodReplies.{brings};
+ghost use Rattle.layout.specs.Permitted.{base};
+ghost use Rattle.replication.specs.Queries.{partNumber, partSide, partAtPlace, partLength, winnerPart, learnedPart, knowledgePart};
+ghost use Rattle.replication.specs.Queries.{coverageNumber, coverageContained, coverageAll, coverageThousandths, coverageAnswer};
+ghost use Rattle.records.specs.Method.{lengthAt};
 
 // Checks a knowledge: its sizes r, v, e and g, or the refusal's number, and then no size changes.
 #[no_mangle]
@@ -175,4 +183,215 @@ pub extern "C" fn sync_project(
 {
     let a = operations::project(knowledge, first, last, out);
     ended(a, written)
+}
+
+// ---- stores and batches: the calls that write one
+
+// Writes a new store under a replica id, with the empty knowledge and no records, and its length; or gives the refusal's number, and then
+// nothing changes.
+#[no_mangle]
+pub extern "C" fn sync_new(own: &[u8], out: &mut [u8], written: &mut u64) -> u32
+    ensures number { λ r. ⌜ r ≡ numberOf (answer (newReply (now (own .entry)))
+        (length (now (out .entry)))) ⌝ }
+    ensures count { λ _. ⌜ now (written .exit) ≡ writtenOf (answer (newReply (now (own .entry)))
+        (length (now (out .entry)))) (now (written .entry)) ⌝ }
+    ensures bytes { λ _. ⌜ now (out .exit) ≡ after (newReply (now (own .entry)))
+        (now (out .entry)) ⌝ }
+{
+    let a = headers::new(own, out);
+    ended(a, written)
+}
+
+// Writes a store with an item edited, and its length; or gives the refusal's number, and then nothing changes.
+#[no_mangle]
+pub extern "C" fn sync_edit(
+    store: &[u8],
+    item: &[u8],
+    tag: &[u8],
+    out: &mut [u8],
+    written: &mut u64,
+) -> u32
+    ensures number { λ r. ⌜ r ≡ numberOf (answer (editReply base (now (store .entry)) (now (item .entry)) (brings (now (tag .entry))))
+        (length (now (out .entry)))) ⌝ }
+    ensures count { λ _. ⌜ now (written .exit) ≡ writtenOf (answer (editReply base (now (store .entry)) (now (item .entry)) (brings (now (tag .entry))))
+        (length (now (out .entry)))) (now (written .entry)) ⌝ }
+    ensures bytes { λ _. ⌜ now (out .exit) ≡ after (editReply base (now (store .entry)) (now (item .entry)) (brings (now (tag .entry))))
+        (now (out .entry)) ⌝ }
+{
+    let a = editing::edit(store, item, tag, out);
+    ended(a, written)
+}
+
+// Writes a store with an item deleted, and its length; or gives the refusal's number, and then nothing changes.
+#[no_mangle]
+pub extern "C" fn sync_delete(store: &[u8], item: &[u8], out: &mut [u8], written: &mut u64) -> u32
+    ensures number { λ r. ⌜ r ≡ numberOf (answer (deleteReply base (now (store .entry)) (now (item .entry)))
+        (length (now (out .entry)))) ⌝ }
+    ensures count { λ _. ⌜ now (written .exit) ≡ writtenOf (answer (deleteReply base (now (store .entry)) (now (item .entry)))
+        (length (now (out .entry)))) (now (written .entry)) ⌝ }
+    ensures bytes { λ _. ⌜ now (out .exit) ≡ after (deleteReply base (now (store .entry)) (now (item .entry)))
+        (now (out .entry)) ⌝ }
+{
+    let a = editing::delete(store, item, out);
+    ended(a, written)
+}
+
+// Writes the batch that a store makes for a knowledge and a span of items, and its length; or gives the refusal's number, and then
+// nothing changes.
+#[no_mangle]
+pub extern "C" fn sync_make(
+    store: &[u8],
+    knowledge: &[u8],
+    first: &[u8],
+    last: &[u8],
+    out: &mut [u8],
+    written: &mut u64,
+) -> u32
+    ensures number { λ r. ⌜ r ≡ numberOf (answer (makeReply basic (now (store .entry)) (now (knowledge .entry)) (now (first .entry)) (now (last .entry)))
+        (length (now (out .entry)))) ⌝ }
+    ensures count { λ _. ⌜ now (written .exit) ≡ writtenOf (answer (makeReply basic (now (store .entry)) (now (knowledge .entry)) (now (first .entry)) (now (last .entry)))
+        (length (now (out .entry)))) (now (written .entry)) ⌝ }
+    ensures bytes { λ _. ⌜ now (out .exit) ≡ after (makeReply basic (now (store .entry)) (now (knowledge .entry)) (now (first .entry)) (now (last .entry)))
+        (now (out .entry)) ⌝ }
+{
+    let a = making::make(store, knowledge, first, last, out);
+    ended(a, written)
+}
+
+// Writes a store with a batch applied, and its length; or gives the refusal's number, and then nothing changes.
+#[no_mangle]
+pub extern "C" fn sync_apply(store: &[u8], batch: &[u8], out: &mut [u8], written: &mut u64) -> u32
+    ensures number { λ r. ⌜ r ≡ numberOf (answer (applyReply base (now (store .entry)) (now (batch .entry)))
+        (length (now (out .entry)))) ⌝ }
+    ensures count { λ _. ⌜ now (written .exit) ≡ writtenOf (answer (applyReply base (now (store .entry)) (now (batch .entry)))
+        (length (now (out .entry)))) (now (written .entry)) ⌝ }
+    ensures bytes { λ _. ⌜ now (out .exit) ≡ after (applyReply base (now (store .entry)) (now (batch .entry)))
+        (now (out .entry)) ⌝ }
+{
+    let a = applying::apply(store, batch, out);
+    ended(a, written)
+}
+
+// ---- stores and batches: the calls that write nothing
+
+// How a call that returns a part ends for C: the side (0 nobody's, 1 the store's, 2 the batch's), the place and the length through the
+// pointers, and 0; or the refusal's number, and then nothing changes.
+fn told(p: Part, side: &mut u32, at: &mut u64, length: &mut u64) -> u32
+    ensures number { λ r. ⌜ r ≡ partNumber p ⌝ }
+    ensures side { λ _. ⌜ now (side .exit) ≡ partSide p (now (side .entry)) ⌝ }
+    ensures place { λ _. ⌜ now (at .exit) ≡ partAtPlace p (now (at .entry)) ⌝ }
+    ensures size { λ _. ⌜ now (length .exit) ≡ partLength p (now (length .entry)) ⌝ }
+{
+    match p {
+        Part::Nothing => {
+            *side = 0;
+            *at = 0;
+            *length = 0;
+            0
+        }
+        Part::OfStore(x, n) => {
+            *side = 1;
+            *at = x as u64;
+            *length = n as u64;
+            0
+        }
+        Part::OfBatch(x, n) => {
+            *side = 2;
+            *at = x as u64;
+            *length = n as u64;
+            0
+        }
+        Part::Refused(k) => k,
+    }
+}
+
+// Where the winner of an item stands: the side (0 none, 1 the store's, 2 the batch's), the place and the length; or the refusal's
+// number, and then nothing changes.
+#[no_mangle]
+pub extern "C" fn sync_winner(
+    store: &[u8],
+    batch: &[u8],
+    item: &[u8],
+    side: &mut u32,
+    at: &mut u64,
+    length: &mut u64,
+) -> u32
+    ensures number { λ r. ⌜ r ≡ partNumber (winnerPart base (now (store .entry)) (now (batch .entry)) (now (item .entry))) ⌝ }
+    ensures side { λ _. ⌜ now (side .exit) ≡ partSide
+        (winnerPart base (now (store .entry)) (now (batch .entry)) (now (item .entry))) (now (side .entry)) ⌝ }
+    ensures place { λ _. ⌜ now (at .exit) ≡ partAtPlace
+        (winnerPart base (now (store .entry)) (now (batch .entry)) (now (item .entry))) (now (at .entry)) ⌝ }
+    ensures size { λ _. ⌜ now (length .exit) ≡ partLength
+        (winnerPart base (now (store .entry)) (now (batch .entry)) (now (item .entry))) (now (length .entry)) ⌝ }
+{
+    let p = queries::winner_part(store, batch, item);
+    told(p, side, at, length)
+}
+
+// Where a batch's learned knowledge stands, and its length; or the refusal's number, and then nothing changes.
+#[no_mangle]
+pub extern "C" fn sync_learned(batch: &[u8], at: &mut u64, length: &mut u64) -> u32
+    ensures number { λ r. ⌜ r ≡ partNumber (learnedPart base (now (batch .entry))) ⌝ }
+    ensures place { λ _. ⌜ now (at .exit) ≡ partAtPlace (learnedPart base (now (batch .entry))) (now (at .entry)) ⌝ }
+    ensures size { λ _. ⌜ now (length .exit) ≡ partLength (learnedPart base (now (batch .entry))) (now (length .entry)) ⌝ }
+{
+    let p = queries::learned_part(batch);
+    let mut side: u32 = 0;
+    told(p, &mut side, at, length)
+}
+
+// Where a store's own knowledge stands, and its length; or the refusal's number, and then nothing changes.
+#[no_mangle]
+pub extern "C" fn sync_knowledge(store: &[u8], at: &mut u64, length: &mut u64) -> u32
+    ensures number { λ r. ⌜ r ≡ partNumber (knowledgePart base (now (store .entry))) ⌝ }
+    ensures place { λ _. ⌜ now (at .exit) ≡ partAtPlace (knowledgePart base (now (store .entry))) (now (at .entry)) ⌝ }
+    ensures size { λ _. ⌜ now (length .exit) ≡ partLength (knowledgePart base (now (store .entry))) (now (length .entry)) ⌝ }
+{
+    let p = queries::knowledge_part(store);
+    let mut side: u32 = 0;
+    told(p, &mut side, at, length)
+}
+
+// How many of a store's records have a change version that the knowledge contains, how many records there are, and the first as
+// thousandths of the second, rounded down; or the refusal's number, and then nothing changes.
+#[no_mangle]
+pub extern "C" fn sync_coverage(
+    store: &[u8],
+    knowledge: &[u8],
+    contained: &mut u64,
+    all: &mut u64,
+    thousandths: &mut u64,
+) -> u32
+    ensures number { λ r. ⌜ r ≡ coverageNumber (coverageAnswer basic (now (store .entry)) (now (knowledge .entry))) ⌝ }
+    ensures contained { λ _. ⌜ now (contained .exit) ≡ coverageContained
+        (coverageAnswer basic (now (store .entry)) (now (knowledge .entry))) (now (contained .entry)) ⌝ }
+    ensures all { λ _. ⌜ now (all .exit) ≡ coverageAll
+        (coverageAnswer basic (now (store .entry)) (now (knowledge .entry))) (now (all .entry)) ⌝ }
+    ensures thousandths { λ _. ⌜ now (thousandths .exit) ≡ coverageThousandths
+        (coverageAnswer basic (now (store .entry)) (now (knowledge .entry))) (now (thousandths .entry)) ⌝ }
+{
+    match queries::coverage(store, knowledge) {
+        Coverage::Covered {
+            contained: c,
+            all: n,
+            thousandths: t,
+        } => {
+            *contained = c as u64;
+            *all = n as u64;
+            *thousandths = t as u64;
+            0
+        }
+        Coverage::Refused(k) => k,
+    }
+}
+
+// The length of the whole record of a known kind at a place of a lent table, 0 where none stands there. It refuses nothing.
+#[no_mangle]
+pub extern "C" fn sync_walk(table: &[u8], at: u64, length: &mut u64) -> u32
+    ensures number { λ r. ⌜ r ≡ 0 ⌝ }
+    ensures size { λ _. ⌜ now (length .exit) ≡ lengthAt (now (table .entry)) at ⌝ }
+{
+    let n = records::length_at(table, at as usize);
+    *length = n as u64;
+    0
 }

@@ -26,3 +26,4 @@ pub mod TableExact
 pub mod Answers
 pub mod Places
 pub mod Settled
+pub mod Told

@@ -17,6 +17,15 @@ abbrev pub ReadAs : List ℕ → ℕ → ℕ → List Field → Type 0
 ReadAs s at o [] = Unit {0}
 ReadAs s at o (f ∷ fs) = (beAt s (f .size) (at + o) ≡ f .value) × ReadAs s at (o + f .size) fs
 
+-- the clauses of a run's bytes
+pub run-none : (t : List ℕ) → putFields [] t ≡ t
+unfolding putFields
+run-none t = refl
+
+pub run-first : (f : Field) (fs : List Field) (t : List ℕ) → putFields (f ∷ fs) t ≡ put (f .size) (f .value) (putFields fs t)
+unfolding putFields
+run-first f fs t = refl
+
 pub run-length : (fs : List Field) (t : List ℕ) → length (putFields fs t) ≡ sizes fs + length t
 unfolding putFields
 run-length [] t = omega arith

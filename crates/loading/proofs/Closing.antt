@@ -31,6 +31,11 @@ module _ (L : Limits) (k : Knowledge) where
   abbrev twelve : List Line
   twelve = line 12 (tooManyRanges L k) ∷ []
 
+  -- for others: the lines of the result
+  pub result-is : resultReply L k ≡ firstFault refuses (resultLines L k) (gives (encode k))
+  unfolding resultReply
+  result-is = refl
+
   pub result-replicas : L .replicas < length (k .replicas) → resultReply L k ≡ refuses 11
   unfolding resultReply resultLines tooManyReplicas
   result-replicas h = fault-here refuses (line 11 (tooManyReplicas L k)) twelve (gives (encode k)) (lt-ltb (L .replicas) (length (k .replicas)) h)

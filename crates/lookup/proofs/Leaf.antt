@@ -9,6 +9,7 @@ use Prim.Native.Nat.{ℕ, zero, suc, _+_, _-_, _*_, _≤_, _<_}
 use mathlib.Core.Path.{_≡_, refl, sym, ap, _∙_, subst}
 use mathlib.Core.List.{List, []}
 use native.Mathlib.Omega.{arith}
+use lib.Dec.{eqb}
 use lib.ListN.{length}
 use borrow.Author.Tests.{lt-ltb, le-ltb, le-leb}
 use Rattle.codec.specs.Number.{beAt}
@@ -17,16 +18,18 @@ use Rattle.layout.specs.declared.VectorIndex.{VectorIndex}
 use Rattle.layout.specs.Knowledge.{Rules, Range, All, Lawful, largestTick}
 use Rattle.layout.specs.Decode.{idsAt, elementsAt, afterVectors, rangesAt, decode}
 use Rattle.layout.specs.MethodPlaces.{idsPlace, vectorsPlace, rangesPlace, vectorPlace, countAt, valueAt}
-use Rattle.layout.proofs.Places.{Reading, places, after-zero, after-suc, after-add, after-later, vector-ends, vector-place, vectors-length}
-use Rattle.ticks.specs.Meaning.{known, tickAt, vectorOf, vectorAt}
+use Rattle.layout.proofs.Places.{Reading, places, ids-length, after-zero, after-suc, after-add, after-later}
+use Rattle.layout.proofs.Places.{vector-ends, vector-place, vectors-length}
+use Rattle.ticks.specs.Meaning.{known, place, tickAt, vectorOf, vectorAt}
 use Rattle.ticks.specs.MethodLookup.{keyOf, indexAt, firstIndex}
 use Rattle.ticks.proofs.Lists.{less, same, more, order}
+use Rattle.ticks.proofs.Equality.{eqb-exact, place-le}
 use Rattle.ticks.proofs.LawfulResults.{lawful-ticks}
 use Rattle.ticks.proofs.ForCode.{indexAt-nil, indexAt-lt, indexAt-ge, vector-indexed, known-place}
 use Rattle.lookup.specs.declared.Cursor.{Cursor}
 use Rattle.lookup.specs.Method.{keyAt, stepped, vectorFrom, startAt, past, passed, settled, advanced}
 use Rattle.lookup.specs.Method.{elementsHere, tickOf, tickFrom, Opens}
-use Rattle.lookup.proofs.Loops.{key-there, stepped-zero, stepped-on, from-here, from-first, cursor, there-all}
+use Rattle.lookup.proofs.Loops.{key-short, key-there, stepped-zero, stepped-on, from-here, from-first, cursor, there-all}
 
 -- Vectors
 
@@ -59,6 +62,28 @@ vector-from s r v a b at hb room is =
         ∙ ap (afterVectors s (b .0 - a .0)) (sym is) in
         from-here s r a at b (vectorPlace s r (b .0)) l
         (whole ∙ sym (stepped-inside s (b .0 - a .0) at (omega (arith, inside, whole))))
+
+-- Keys
+
+-- a key is at most the number of ids
+pub key-most : (s : List ℕ) (r p : ℕ) → keyAt s r p .0 ≤ r
+unfolding keyOf
+key-most s r p =
+    elim (order (length s) (idsPlace + 16 * r)) [
+      | less h ↦ omega (arith, ap (λ (k : ReplicaKey). k .0) (key-short s r p h))
+      | same h ↦ there (omega arith)
+      | more h ↦ there (omega arith)
+    ]
+  where
+    there : idsPlace + 16 * r ≤ length s → keyAt s r p .0 ≤ r
+    there h =
+        let ids = idsAt s r idsPlace in
+        omega (
+          arith,
+          ap (λ (k : ReplicaKey). k .0) (key-there s r p (record { 0 = place p ids }) h refl),
+          place-le eqb eqb-exact p ids,
+          ids-length s r idsPlace,
+        )
 
 -- Accepted bytes
 
@@ -176,6 +201,28 @@ moved s v i (suc n) next index vector =
       | more h ↦ on (omega arith)
     ]
 
+-- any cursor whose ranges are all there, moved on to an item: those that are left are, no more are left than before, and one less where
+-- the next one is at or below the item
+module _ (s : List ℕ) (r : ℕ) (c : Cursor) (j : ℕ) (room : c .next + 28 * c .left ≤ length s) where
+  goes : advanced s r c j ≡ settled s r c (passed s j (c .left) c)
+  unfolding advanced
+  goes = rw (le-leb (c .next + 28 * c .left) (length s) room, advanced)
+
+  went : Moved s 0 j c (passed s j (c .left) c)
+  went = moved s 0 j (c .left) (c .next) (c .index) (c .vector)
+
+  pub advanced-room : advanced s r c j .next + 28 * advanced s r c j .left ≤ length s
+  unfolding settled
+  advanced-room = omega (arith, ap (λ x. x .left) goes, ap (λ x. x .next) goes, went .room)
+
+  pub advanced-fewer : advanced s r c j .left ≤ c .left
+  unfolding settled
+  advanced-fewer = omega (arith, ap (λ x. x .left) goes, went .fewer)
+
+  pub advanced-passes : 0 < c .left → beAt s 24 (c .next) ≤ j → advanced s r c j .left < c .left
+  unfolding settled
+  advanced-passes m k = omega (arith, ap (λ x. x .left) goes, went .passes m k)
+
 -- where every bound that is left is above the item, or none is left, the range is the last one passed
 index-stays : (s : List ℕ) (index : VectorIndex) (n next j : ℕ) → (0 < n → j < beAt s 24 next)
     → indexAt index (rangesAt s n next) j ≡ index
@@ -236,10 +283,6 @@ module _ (R : Rules) (s : List ℕ) (r : ℕ) (c : Cursor) (n : ℕ) (st : Stand
     move : Moved s (st .v) j c d
     move = moved s (st .v) j (c .left) (c .next) (c .index) (c .vector)
 
-    goes : advanced s r c j ≡ settled s r c d
-    unfolding advanced
-    goes = rw (le-leb (c .next + 28 * c .left) (length s) (st .room), advanced)
-
     below : d .index .0 < st .v
     below = move .index (st .index) (st .indices)
 
@@ -247,7 +290,7 @@ module _ (R : Rules) (s : List ℕ) (r : ℕ) (c : Cursor) (n : ℕ) (st : Stand
     pub stands-advanced : Stands R s r (advanced s r c j) (suc j)
     unfolding settled
     stands-advanced =
-        subst (λ x. Stands R s r x (suc j)) (sym goes)
+        subst (λ x. Stands R s r x (suc j)) (sym (goes s r c j (st .room)))
         (record {
           v = st .v;
           e = st .e;
@@ -260,15 +303,6 @@ module _ (R : Rules) (s : List ℕ) (r : ℕ) (c : Cursor) (n : ℕ) (st : Stand
           ahead = move .ahead;
           is = λ k m. st .is k (omega arith) ∙ move .is k (omega arith);
         })
-
-    -- it passes no range more than there is, and the next one where that is at or below the item
-    pub advanced-fewer : advanced s r c j .left ≤ c .left
-    unfolding settled
-    advanced-fewer = omega (arith, ap (λ x. x .left) goes, move .fewer)
-
-    pub advanced-passes : 0 < c .left → beAt s 24 (c .next) ≤ j → advanced s r c j .left < c .left
-    unfolding settled
-    advanced-passes m k = omega (arith, ap (λ x. x .left) goes, move .passes m k)
 
     -- up to the next bound the cursor need not be moved: the elements at its vector are the item's
     module _ (before : 0 < c .left → j < beAt s 24 (c .next)) where

@@ -2,12 +2,12 @@
 -- it, and else what is written for it are the result's bytes. So a call that refuses, finds its buffer short or writes has ended as
 -- its reply says.
 use Prim.Native.Nat.{ℕ, suc, _≤_, _<_}
-use mathlib.Core.Path.{_≡_, sym, ap, _∙_, subst}
+use mathlib.Core.Path.{_≡_, refl, sym, ap, _∙_, subst}
 use mathlib.Core.List.{List}
 use native.Mathlib.Omega.{arith}
 use lib.ListN.{length}
 use borrow.Author.Tests.{lt-ltb, le-ltb}
-use mathlib.Core.Bool.{true}
+use mathlib.Core.Bool.{Bool, true, false}
 use Rattle.codec.specs.Reply.{Reply, refuses, answer, after}
 use Rattle.codec.specs.declared.Answer.{Answer}
 use Rattle.codec.specs.declared.Answer.the-variants as A
@@ -18,15 +18,16 @@ use Rattle.layout.proofs.Within.{basic-within}
 use Rattle.ticks.proofs.Lists.{order, less, same, more}
 use Rattle.tables.specs.declared.Sizes.{Sizes}
 use Rattle.tables.specs.MethodWords.{stride, mostRows, cell, idAt, boundAt, Words}
-use Rattle.tables.specs.MethodPlan.{page, lengthOf, Plans}
-use Rattle.plan.specs.Method.{fits}
+use Rattle.tables.specs.MethodPlan.{firstsOf, numbersOf, columnsOf, sizesOf, page, lengthOf, Plans}
+use Rattle.plan.specs.Method.{fits, noSizes}
 use Rattle.plan.proofs.Whole.{Fits, fits-holds}
 use Rattle.tables.specs.MethodPieces.{laid, pagePieces}
 use Rattle.loading.specs.MethodReply.{resultReply, Tabled}
 use Rattle.loading.proofs.Closing.{result-replicas, result-ranges, result-gives, tabled}
+use Rattle.filling.specs.declared.Filled.{Filled}
 use Rattle.operations.specs.declared.Prepared.{Prepared}
 use Rattle.operations.specs.declared.Prepared.the-variants as P
-use Rattle.operations.specs.MethodCalls.{judged, Holds, Prepares, Ended, PlanRoom}
+use Rattle.operations.specs.MethodCalls.{judged, Plan, planOf, over, planned, Holds, Prepares, Ended, PlanRoom}
 
 -- the cases of what is judged
 
@@ -108,24 +109,57 @@ module _ (reply : Reply) (ids bounds t cols firsts numbers : List ℕ) (p : Prep
 
 -- A plan that was made
 
-pub planned-prepares :
-    (L : Limits) (r n : ℕ) (ids bounds t c f x c' f' x' : List ℕ) (z : Sizes) (p : Prepared)
-    → (fits r n (length c) (length f) (length x) ≡ true → Plans (idAt ids) (cell t) r n c f x c' f' x' z)
-    → r ≤ stride
-    → n < mostRows
-    → PlanRoom r n c f x
-    → Words ids
-    → Words bounds
-    → p ≡ judged L z n
-    → (k : Knowledge)
-    → page (idAt ids) (boundAt bounds) (cell t) r n ≡ k
-    → Prepares (resultReply L k) ids bounds t c' f' x' p
-planned-prepares L r n ids bounds t c f x c' f' x' z p plans a b room wi wb e k g =
-    let there : Fits r n (length c) (length f) (length x) =
-    record { columns = a; rows = b; toColumns = room .columns; toFirsts = room .distinct; toNumbers = room .rows } in
-    let plan = plans (fits-holds r n (length c) (length f) (length x) there) in
-    subst (λ q. Prepares (resultReply L k) ids bounds t c' f' x' q) (sym e)
-    (judged-prepares L k z ids bounds t n c' f' x' (tabled r n ids bounds t c f x c' f' x' z k plan wi wb g))
+module _ (L : Limits) (q : Filled) (ids t c f x : List ℕ) where
+  abbrev rows : List ℕ
+  rows = firstsOf (cell t) (q .columns) (q .rows)
+
+  abbrev columns : List ℕ
+  columns = columnsOf (idAt ids) (cell t) (q .columns) rows
+
+  abbrev each : List ℕ
+  each = numbersOf (cell t) (q .columns) (q .rows)
+
+  abbrev test : Bool
+  test = fits (q .columns) (q .rows) (length c) (length f) (length x)
+
+  made : test ≡ true
+      → planOf (over columns c) (over rows f) (over each x) (judged L (sizesOf (cell t) columns rows each) (q .rows)) ≡ planned L q ids t c f x
+  unfolding planned
+  made e = rw (e, planned)
+
+  not-made : test ≡ false → planOf c f x (judged L noSizes (q .rows)) ≡ planned L q ids t c f x
+  unfolding planned
+  not-made e = rw (e, planned)
+
+  -- what planning leaves is that
+  pub planned-is : (c' f' x' : List ℕ) (z : Sizes) (p : Prepared)
+      → (test ≡ true → Plans (idAt ids) (cell t) (q .columns) (q .rows) c f x c' f' x' z)
+      → (test ≡ false → (z ≡ noSizes) × (c' ≡ c) × (f' ≡ f) × (x' ≡ x)) → p ≡ judged L z (q .rows) → planOf c' f' x' p ≡ planned L q ids t c f x
+  planned-is c' f' x' z p plans none e = go test refl
+    where
+      go : (b : Bool) → test ≡ b → planOf c' f' x' p ≡ planned L q ids t c f x
+      go true g =
+          let h = plans g in
+          ap (planOf c' f' x') (e ∙ ap (λ y. judged L y (q .rows)) (h .sizes))
+          ∙ rw (h .columns, h .firsts, h .numbers) (made g)
+      go false g =
+          let h = none g in
+          ap (planOf c' f' x') (e ∙ ap (λ y. judged L y (q .rows)) (h .0)) ∙ rw (h .1, h .2, h .3) (not-made g)
+
+  -- and is what the reply of the planned knowledge says
+  pub planned-prepares : (bounds c' f' x' : List ℕ) (p : Prepared) → planOf c' f' x' p ≡ planned L q ids t c f x → q .columns ≤ stride
+      → q .rows < mostRows → PlanRoom (q .columns) (q .rows) c f x → Words ids → Words bounds → (k : Knowledge)
+      → page (idAt ids) (boundAt bounds) (cell t) (q .columns) (q .rows) ≡ k → Prepares (resultReply L k) ids bounds t c' f' x' p
+  planned-prepares bounds c' f' x' p e a b room wi wb k g =
+      let there : Fits (q .columns) (q .rows) (length c) (length f) (length x) =
+      record { columns = a; rows = b; toColumns = room .columns; toFirsts = room .distinct; toNumbers = room .rows } in
+      let z = sizesOf (cell t) columns rows each in
+      let plan : Plans (idAt ids) (cell t) (q .columns) (q .rows) c f x (over columns c) (over rows f) (over each x) z =
+      record { sizes = refl; columns = refl; firsts = refl; numbers = refl } in
+      subst (λ (w : Plan). Prepares (resultReply L k) ids bounds t (w .cols) (w .firsts) (w .numbers) (w .prepared))
+      (made (fits-holds (q .columns) (q .rows) (length c) (length f) (length x) there) ∙ sym e)
+      (judged-prepares L k z ids bounds t (q .rows) (over columns c) (over rows f) (over each x)
+      (tabled (q .columns) (q .rows) ids bounds t c f x (over columns c) (over rows f) (over each x) z k plan wi wb g))
 
 -- Document 01's limits
 

@@ -1,31 +1,16 @@
--- Scratch that a call begins with: lists of zeros have room by their lengths, and all their cells are 0.
-use Prim.Native.Nat.{ℕ, zero, suc, _*_, _≤_, _<_}
-use mathlib.Core.Path.{_≡_, refl}
+-- Scratch for a plan that a call begins with: lists of zeros have room by their lengths. Bytes that rules of two numbers accept have no
+-- more replicas and ranges than scratch of the largest size takes.
+use Prim.Native.Nat.{ℕ, _≤_, _<_}
 use native.Mathlib.Omega.{arith}
-use lib.ListN.{length, getD, replicate}
-use Rattle.tables.specs.MethodWords.{stride, mostRows, cell}
-use Rattle.operations.specs.MethodCalls.{TableRoom, PlanRoom}
-
-zeros-length : (n : ℕ) → length (replicate {A = ℕ} n 0) ≡ n
-zeros-length zero = refl
-zeros-length (suc n) = omega (arith, zeros-length n)
-
-zero-at : (n c : ℕ) → getD (replicate {A = ℕ} n 0) c 0 ≡ 0
-zero-at zero c = refl
-zero-at (suc n) zero = refl
-zero-at (suc n) (suc c) = zero-at n c
-
-pub table-room : (m n a b c : ℕ) → m ≤ stride → n < mostRows → 2 * m ≤ a → 3 * suc n ≤ b → stride * suc n ≤ c
-    → TableRoom m n (replicate a 0) (replicate b 0) (replicate c 0)
-unfolding cell
-table-room m n a b c h k x y z = record {
-  columns = h;
-  rows = k;
-  idWords = omega (arith, zeros-length a);
-  boundWords = omega (arith, zeros-length b);
-  cells = omega (arith, zeros-length c);
-  clear = λ r d. zero-at c _;
-}
+use lib.ListN.{replicate}
+use mathlib.Core.Path.{refl}
+use mathlib.Core.List.{List}
+use Rattle.layout.specs.Permitted.{base, largestReplicas, largestRanges, rulesWithin}
+use Rattle.lookup.specs.declared.Cursor.{Cursor}
+use Rattle.lookup.specs.Method.{Opens}
+use Rattle.filling.proofs.Scratch.{zeros-length}
+use Rattle.filling.proofs.Opening.{scratch-replicas, scratch-ranges}
+use Rattle.operations.specs.MethodCalls.{PlanRoom}
 
 pub plan-room : (m n a b c : ℕ) → m ≤ a → n < b → n ≤ c → PlanRoom m n (replicate a 0) (replicate b 0) (replicate c 0)
 plan-room m n a b c x y z = record {
@@ -33,3 +18,10 @@ plan-room m n a b c x y z = record {
   distinct = omega (arith, zeros-length b);
   rows = omega (arith, zeros-length c);
 }
+
+module _ (replicas ranges : ℕ) (s : List ℕ) (r : ℕ) (c : Cursor) (o : Opens (rulesWithin replicas ranges) s r c) where
+  pub opened-few-replicas : r ≤ largestReplicas
+  opened-few-replicas = scratch-replicas (rulesWithin replicas ranges) replicas ranges (base .records) refl s r c o
+
+  pub opened-few-ranges : c .left ≤ largestRanges
+  opened-few-ranges = scratch-ranges (rulesWithin replicas ranges) replicas ranges (base .records) refl s r c o

@@ -1,16 +1,18 @@
 -- What an operation has made ready before its buffer is looked at, and the scratch that it works in. There is nothing to believe here:
 -- the calls' contracts cite the replies of `ticks`.
-use Rattle.codec.specs.Prelude.{ℕ, suc, _+_, _*_, _≤_, _<_, _≡_, true, false, List, ltb, length}
+use Rattle.codec.specs.Prelude.{ℕ, _+_, _≤_, _<_, _≡_, true, false, List, _++_, ltb, length, drop}
 use Rattle.codec.specs.Part.{placed}
 use Rattle.codec.specs.Reply.{Reply, gives, refuses, answer, after}
 use Rattle.codec.specs.declared.Answer.{Answer}
 use Rattle.layout.specs.Knowledge.{Limits}
-use Rattle.layout.specs.Permitted.{largestRanges}
+use Rattle.layout.specs.Permitted.{largestRanges, rulesWithin}
+use Rattle.ticks.specs.Calls.{mergeReply}
 use Rattle.tables.specs.declared.Sizes.{Sizes}
-use Rattle.tables.specs.MethodWords.{stride, mostRows, cell, idAt, boundAt}
-use Rattle.tables.specs.MethodPlan.{lengthOf, Sampled}
+use Rattle.tables.specs.MethodWords.{cell, idAt}
+use Rattle.tables.specs.MethodPlan.{firstsOf, numbersOf, columnsOf, sizesOf, lengthOf}
 use Rattle.tables.specs.MethodPieces.{laid, pagePieces}
-use Rattle.operations.specs.declared.Filled.{Filled}
+use Rattle.plan.specs.Method.{fits, noSizes}
+use Rattle.filling.specs.declared.Filled.{Filled}
 use Rattle.operations.specs.declared.Prepared.{Prepared}
 use Rattle.operations.specs.declared.Prepared.the-variants as P
 
@@ -22,6 +24,10 @@ few = 12
 abbrev pub oneRows : ℕ
 oneRows = largestRanges + 4
 
+-- the reply of a merge with limits given as numbers
+abbrev pub mergeWithin : ℕ → ℕ → List ℕ → List ℕ → Reply
+mergeWithin replicas ranges s other = mergeReply (rulesWithin replicas ranges) s other
+
 -- 11 over the most replicas, 12 over the most ranges, or n rows that are ready
 unfoldable pub judged : Limits → Sizes → ℕ → Prepared
 judged L z n =
@@ -29,6 +35,35 @@ judged L z n =
       | true ↦ P.Refused 11
       | false ↦ elim (ltb (L .ranges) (z .ranges)) [ true ↦ P.Refused 12 | false ↦ P.Ready z n ]
     ]
+
+-- What planning leaves in the lists that are lent for it
+
+pub record Plan : Type 0 where
+  pub cols : List ℕ
+  pub firsts : List ℕ
+  pub numbers : List ℕ
+  pub prepared : Prepared
+
+abbrev pub planOf : List ℕ → List ℕ → List ℕ → Prepared → Plan
+planOf cols firsts numbers p = record { cols = cols; firsts = firsts; numbers = numbers; prepared = p }
+
+-- a list with the numbers vs at its front
+abbrev pub over : List ℕ → List ℕ → List ℕ
+over vs d = vs ++ drop (length vs) d
+
+-- the columns in use, the distinct rows and the number of each row, and the plan judged by the limits; where there is no plan, the lists
+-- stay, and the sizes are 0
+unfoldable pub planned : Limits → Filled → List ℕ → List ℕ → List ℕ → List ℕ → List ℕ → Plan
+planned L q ids t c f x =
+    let fs = firstsOf (cell t) (q .columns) (q .rows) in
+    let cs = columnsOf (idAt ids) (cell t) (q .columns) fs in
+    let xs = numbersOf (cell t) (q .columns) (q .rows) in
+    elim (fits (q .columns) (q .rows) (length c) (length f) (length x)) [
+      | true ↦ planOf (over cs c) (over fs f) (over xs x) (judged L (sizesOf (cell t) cs fs xs) (q .rows))
+      | false ↦ planOf c f x (judged L noSizes (q .rows))
+    ]
+
+-- What was made ready
 
 -- the reply gives bytes, and what is written for the table are these
 pub record Holds (reply : Reply) (ids bounds t cols firsts numbers : List ℕ) (z : Sizes) (n : ℕ) : Type 0 where
@@ -51,22 +86,7 @@ pub record Ended (reply : Reply) (out after' : List ℕ) (a : Answer) : Type 0 w
   pub answers : a ≡ answer reply (length out)
   pub leaves : after' ≡ after reply out
 
--- a table of words samples the ticks f, with at most m columns and n rows
-pub record Samples (ids bounds t : List ℕ) (m n : ℕ) (f : ℕ → ℕ → ℕ) (q : Filled) : Type 0 where
-  pub is : Sampled (idAt ids) (boundAt bounds) (cell t) (q .columns) (q .rows) f
-  pub columns : q .columns ≤ m
-  pub rows : q .rows ≤ n
-
--- room for m columns and for the rows up to n, the cells all 0
-pub record TableRoom (m n : ℕ) (ids bounds t : List ℕ) : Type 0 where
-  pub columns : m ≤ stride
-  pub rows : n < mostRows
-  pub idWords : 2 * m ≤ length ids
-  pub boundWords : 3 * suc n ≤ length bounds
-  pub cells : stride * suc n ≤ length t
-  pub clear : (k c : ℕ) → cell t k c ≡ 0
-
--- room for the plan of them
+-- room for the plan of m columns and of the rows up to n
 pub record PlanRoom (m n : ℕ) (cols firsts numbers : List ℕ) : Type 0 where
   pub columns : m ≤ length cols
   pub distinct : n < length firsts

@@ -1,2 +1,4 @@
 -- The laws of going range by range.
 pub mod Ranges
+pub mod OneReplica
+pub mod Outside

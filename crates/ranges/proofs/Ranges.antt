@@ -1,6 +1,7 @@
--- The largest tick, and a tick alike in all ranges, range by range: the whole answer is the answer from here on. For bytes
--- that the check accepts they are the defined ones (`largest-in`, `alike-in`): the vector's place is kept from range to
--- range, so the elements are those of the range's vector.
+-- The largest tick, that of one key, and a tick alike in all ranges, range by range: the whole answer is the answer from here on.
+-- For bytes that the check accepts the largest tick and a tick alike in all ranges are the defined ones (`largest-from`,
+-- `alike-in`): the vector's place is kept from range to range, so the elements are those of the range's vector. One key's is in
+-- OneReplica.antt.
 use Prim.Native.Nat.{ℕ, zero, suc, _+_, _-_, _*_, _≤_, _<_, max}
 use mathlib.Core.Path.{_≡_, refl, sym, ap, ap₂, _∙_}
 use mathlib.Core.Bool.{Bool, true, false}
@@ -25,8 +26,9 @@ use Rattle.ticks.proofs.ForRows.{largest-rows, alike-rows}
 use Rattle.lookup.specs.declared.Cursor.{Cursor}
 use Rattle.lookup.specs.Method.{keyAt, vectorFrom, startAt, advanced, There, elementAt, elementsHere, tickOf, tickFrom, Opens}
 use Rattle.lookup.proofs.Loops.{elements-cons, elements-zero, here-is}
-use Rattle.lookup.proofs.Leaf.{read-lawful, read-ranges, read-key, first-place, next-place, vector-elements, indices-below, leaf-known}
-use Rattle.ranges.specs.Method.{indexThere, topBy, topOf, largestIn, alikeBy, alikeOf, alikeIn}
+use Rattle.lookup.proofs.Leaf.{read-lawful, read-ranges, read-key, first-place, next-place, vector-elements}
+use Rattle.lookup.proofs.Leaf.{indices-below, opens-reading, leaf-known}
+use Rattle.ranges.specs.Method.{indexThere, topBy, topOf, topKeyBy, topKeyOf, alikeBy, alikeOf, alikeIn}
 
 -- The largest tick
 
@@ -63,6 +65,16 @@ module _ (s : List ℕ) (r : ℕ) (c : Cursor) where
   unfolding topOf
   tops-there t h e = e ∙ sym (rw (le-leb (c .next + 28 * c .left) (length s) h, topOf))
 
+  module _ (key : ReplicaKey) where
+    pub keys-short : length s < c .next + 28 * c .left → 0 ≡ topKeyOf s r key c
+    unfolding topKeyOf
+    keys-short h = sym (rw (lt-leb (c .next + 28 * c .left) (length s) h, topKeyOf))
+
+    pub keys-there : (t : ℕ) → c .next + 28 * c .left ≤ length s
+        → t ≡ topKeyBy s r key (c .left) (c .next) (c .index) (c .vector) 0 → t ≡ topKeyOf s r key c
+    unfolding topKeyOf
+    keys-there t h e = e ∙ sym (rw (le-leb (c .next + 28 * c .left) (length s) h, topKeyOf))
+
   module _ (key : ReplicaKey) (own : ℕ) where
     pub alike-short : length s < c .next + 28 * c .left → true ≡ alikeOf s r key own c
     unfolding alikeOf
@@ -85,8 +97,24 @@ module _ (s : List ℕ) (r whole left next : ℕ) (index : VectorIndex) (vector 
   unfolding topBy
   tops-end h = let z : left ≡ 0 = omega arith in sym (inv ∙ ap (λ m. topBy s r m next index vector top) z)
 
+-- one key's
+
+module _ (s : List ℕ) (r : ℕ) (key : ReplicaKey) (whole left next : ℕ) (index : VectorIndex) (vector top : ℕ)
+    (inv : whole ≡ topKeyBy s r key left next index vector top) where
+  pub keys-next : (n at x t : ℕ) → n ≡ beAt s 4 (next + 24) → at ≡ vectorFrom s r index vector (record { 0 = n })
+      → x ≡ tickOf s at key → t ≡ max top x → 0 < left
+      → whole ≡ topKeyBy s r key (left - 1) (next + 28) (record { 0 = n }) at t
+  unfolding topKeyBy indexThere
+  keys-next n at x t e f d g h =
+      let z : left ≡ suc (left - 1) = omega arith in
+      inv ∙ ap (λ m. topKeyBy s r key m next index vector top) z ∙ rw (g, d, f, e) refl
+
+  pub keys-end : left ≤ 0 → top ≡ whole
+  unfolding topKeyBy
+  keys-end h = let z : left ≡ 0 = omega arith in sym (inv ∙ ap (λ m. topKeyBy s r key m next index vector top) z)
+
 -- the second, only where the first holds
-unfoldable only : Bool → Bool → Bool
+unfoldable pub only : Bool → Bool → Bool
 only b z = elim b [ true ↦ z | false ↦ false ]
 
 module _ (s : List ℕ) (r : ℕ) (key : ReplicaKey) (own : ℕ) (whole : Bool) (left next : ℕ) (index : VectorIndex) (vector : ℕ)
@@ -127,21 +155,16 @@ alike-end s r key own whole left next index vector inv h =
     let z : left ≡ 0 = omega arith in
     sym (inv ∙ ap (λ m. alikeBy s r key own m next index vector) z)
 
-pub largest-is : (s : List ℕ) (r v e g : ℕ) (c : Cursor) (t : ℕ) → c ≡ startAt r v e g → t ≡ topOf s r c → t ≡ largestIn s r v e g
-unfolding largestIn
-largest-is s r v e g c t h k = k ∙ ap (topOf s r) h
-
-pub alike-is : (s : List ℕ) (r v e g p : ℕ) (c d : Cursor) (key : ReplicaKey) (own : ℕ) (b : Bool) → c ≡ startAt r v e g
-    → key ≡ keyAt s r p
-    → d ≡ advanced s r c (words3 0 0 0) → own ≡ tickOf s (d .vector) key → b ≡ alikeOf s r key own c → b ≡ alikeIn s r v e g p
+pub alike-is : (s : List ℕ) (r p : ℕ) (c d : Cursor) (key : ReplicaKey) (own : ℕ) (b : Bool) → key ≡ keyAt s r p
+    → d ≡ advanced s r c (words3 0 0 0) → own ≡ tickOf s (d .vector) key → b ≡ alikeOf s r key own c → b ≡ alikeIn s r c p
 unfolding alikeIn words3
-alike-is s r v e g p c d key own b h k l m n = n ∙ rw (m, l, k, h) refl
+alike-is s r p c d key own b k l m n = n ∙ rw (m, l, k) refl
 
 -- Accepted bytes
 
 module _ (R : Rules) (s : List ℕ) (r v e g : ℕ) (h : Reading R s r v e g) where
   -- the elements of the next range are its vector's
-  next-elements : (index : VectorIndex) (vector : ℕ) (to : VectorIndex) → to .0 < v → vector ≡ vectorPlace s r (index .0)
+  pub next-elements : (index : VectorIndex) (vector : ℕ) (to : VectorIndex) → to .0 < v → vector ≡ vectorPlace s r (index .0)
       → (vectorFrom s r index vector to ≡ vectorPlace s r (to .0))
       × (elementsHere s (vectorFrom s r index vector to) ≡ vectorOf (decode s) (to .0))
   next-elements index vector to b p =
@@ -171,38 +194,45 @@ module _ (R : Rules) (s : List ℕ) (r v e g : ℕ) (h : Reading R s r v e g) wh
       ap₂ (λ (es : List Element) (z : Bool). elim (eqb (tickAt es (key .0)) own) [ true ↦ z | false ↦ false ]) (w .1)
       (alike-by key own n (next + 28) to (vectorFrom s r index vector to) (w .0) (all .1))
 
-  opens : Opens R s r (startAt r v e g)
-  opens = record { permitted = h .permitted; v = v; e = e; g = g; bytes = h .bytes; accepts = h .accepts; start = refl }
+module _ (R : Rules) (s : List ℕ) (r : ℕ) (c : Cursor) (o : Opens R s r c) where
+  h : Reading R s r (o .v) (o .e) (o .g)
+  h = opens-reading R s r c o
 
-  room : rangesPlace r v e + 28 * g ≤ length s
-  room = omega (arith, places R s r v e g h .whole)
+  room : rangesPlace r (o .v) (o .e) + 28 * o .g ≤ length s
+  room = omega (arith, places R s r (o .v) (o .e) (o .g) h .whole)
 
   -- the largest tick
-  pub largest-in : largestIn s r v e g ≡ largest (decode s)
-  unfolding largestIn startAt
-  largest-in =
-      let start = startAt r v e g in
-      sym (tops-there s r start (topBy s r g (rangesPlace r v e) firstIndex (vectorsPlace r) 0) room refl)
-      ∙ top-by g (rangesPlace r v e) firstIndex (vectorsPlace r) 0 (first-place R s r v e g h) (indices-below R s r v e g h)
-      ∙ ap (topFrom (λ y. vectorOf (decode s) (y .0)) 0) (sym (read-ranges R s r v e g h))
-      ∙ sym (largest-rows R (decode s) (read-lawful R s r v e g h))
+  pub largest-from : topOf s r c ≡ largest (decode s)
+  unfolding startAt
+  largest-from =
+      let at = rangesPlace r (o .v) (o .e) in
+      let start = startAt r (o .v) (o .e) (o .g) in
+      ap (topOf s r) (o .start)
+      ∙ sym (tops-there s r start (topBy s r (o .g) at firstIndex (vectorsPlace r) 0) room refl)
+      ∙ top-by R s r (o .v) (o .e) (o .g) h (o .g) at firstIndex (vectorsPlace r) 0 (first-place R s r (o .v) (o .e) (o .g) h)
+      (indices-below R s r (o .v) (o .e) (o .g) h)
+      ∙ ap (topFrom (λ y. vectorOf (decode s) (y .0)) 0) (sym (read-ranges R s r (o .v) (o .e) (o .g) h))
+      ∙ sym (largest-rows R (decode s) (read-lawful R s r (o .v) (o .e) (o .g) h))
 
   -- the tick at item 0: the cursor that was moved there stands at it
-  own-tick : (p : ℕ) → tickOf s (advanced s r (startAt r v e g) 0 .vector) (keyAt s r p) ≡ known (decode s) 0 p
+  own-tick : (p : ℕ) → tickOf s (advanced s r c 0 .vector) (keyAt s r p) ≡ known (decode s) 0 p
   unfolding tickFrom
-  own-tick p = leaf-known R s r (startAt r v e g) opens 0 p
+  own-tick p = leaf-known R s r c o 0 p
 
   -- a tick alike in all ranges
-  pub alike-in : (p : ℕ) → alikeIn s r v e g p ≡ ownAlike p (decode s)
+  pub alike-in : (p : ℕ) → alikeIn s r c p ≡ ownAlike p (decode s)
   unfolding alikeIn startAt
   alike-in p =
-      let start = startAt r v e g in
-      let at = rangesPlace r v e in
-      let own = tickOf s (advanced s r start 0 .vector) (keyAt s r p) in
-      sym (alike-there s r start (keyAt s r p) own (alikeBy s r (keyAt s r p) own g at firstIndex (vectorsPlace r)) room refl)
-      ∙ ap₂ (λ (x : ReplicaKey) (y : ℕ). alikeBy s r x y g at firstIndex (vectorsPlace r)) (read-key R s r v e g h p) (own-tick p)
-      ∙ alike-by (keyOf (decode s .replicas) p) (known (decode s) 0 p) g at firstIndex (vectorsPlace r)
-      (first-place R s r v e g h) (indices-below R s r v e g h)
+      let at = rangesPlace r (o .v) (o .e) in
+      let start = startAt r (o .v) (o .e) (o .g) in
+      let key = keyAt s r p in
+      let own = tickOf s (advanced s r c 0 .vector) key in
+      ap (alikeOf s r key own) (o .start)
+      ∙ sym (alike-there s r start key own (alikeBy s r key own (o .g) at firstIndex (vectorsPlace r)) room refl)
+      ∙ ap₂ (λ (x : ReplicaKey) (y : ℕ). alikeBy s r x y (o .g) at firstIndex (vectorsPlace r))
+      (read-key R s r (o .v) (o .e) (o .g) h p) (own-tick p)
+      ∙ alike-by R s r (o .v) (o .e) (o .g) h (keyOf (decode s .replicas) p) (known (decode s) 0 p) (o .g) at firstIndex
+      (vectorsPlace r) (first-place R s r (o .v) (o .e) (o .g) h) (indices-below R s r (o .v) (o .e) (o .g) h)
       ∙ ap (alikeRows (λ y. vectorOf (decode s) (y .0)) (keyOf (decode s .replicas) p) (known (decode s) 0 p))
-      (sym (read-ranges R s r v e g h))
-      ∙ sym (alike-rows R (decode s) (read-lawful R s r v e g h) p)
+      (sym (read-ranges R s r (o .v) (o .e) (o .g) h))
+      ∙ sym (alike-rows R (decode s) (read-lawful R s r (o .v) (o .e) (o .g) h) p)

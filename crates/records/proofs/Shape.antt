@@ -1,24 +1,24 @@
--- The check of a table's records, one after the other. A record is valid by tests of its ticks and tag, which the total reads give where it
--- is whole. The whole check is the check of the records that are left, with the item above the last one as the lower bound: a record that
--- passes takes one step, one that does not ends it, and with none left the place must be the end of the bytes.
+-- The check of a table's records, one after the other. A record is valid by tests of its ticks and tag, which are read at their places. The
+-- whole check is the check of the records that are left, with the item above the last one as the lower bound: a record that passes
+-- takes one step, one that does not ends it, and with none left the place must be the end of the bytes.
 use Prim.Native.Nat.{ℕ, suc, _+_, _-_, _≤_, _<_}
 use mathlib.Core.Path.{_≡_, refl, sym, ap, ap₂, _∙_}
 use mathlib.Core.Bool.{Bool, true, false}
 use mathlib.Core.List.{List}
 use native.Mathlib.Omega.{arith}
 use lib.Dec.{eqb, ltb, leb}
-use lib.ListN.{length}
+use lib.ListN.{length, getD}
 use borrow.Author.Tests.{le-leb, lt-leb, eq-eqb, ne-eqb, ltb-true, ltb-false, leb-true, leb-false}
 use Rattle.codec.specs.Number.{beAt}
-use Rattle.codec.specs.Total.{readAt}
+use Rattle.codec.proofs.Reading.{be-one}
 use Rattle.codec.specs.Words.{words2, words3}
 use Rattle.layout.specs.Knowledge.{largestTick}
 use Rattle.replication.specs.Record.{Content, Rec}
-use Rattle.replication.specs.Reading.{behind, itemPlace, changeTickPlace, createTickPlace, tagPlace, contentAt, recAt, both, whole, tagKept, validRec}
+use Rattle.replication.specs.Reading.{itemPlace, changeTickPlace, createTickPlace, tagPlace, recAt, both, whole, tagKept, validRec}
 use Rattle.replication.specs.MethodRecords.{shapedAt}
-use Rattle.replication.proofs.RecordsInBytes.{whole-at, shaped-nil, shaped-on, shaped-stop, shaped-low, shaped-invalid}
-use Rattle.records.specs.Method.{least}
-use Rattle.records.proofs.Fields.{kind-read, item-words, change-tick-word, create-tick-word, tag-words}
+use Rattle.replication.proofs.RecordsInBytes.{shaped-nil, shaped-on, shaped-stop, shaped-low, shaped-invalid}
+use Rattle.records.specs.Method.{lengthAt, least}
+use Rattle.records.proofs.Fields.{length-ends, length-stands, length-behind, pair-read, item-at, change-tick-at, create-tick-at, tag-at, deleted-at}
 
 -- ---- the tag
 
@@ -30,28 +30,23 @@ kept-live : (c : Content) → c .deleted ≡ false → tagKept c ≡ true
 unfolding tagKept
 kept-live c e = rw (e, tagKept)
 
-deleted-is : (s : List ℕ) (at : ℕ) → recAt s at .content .deleted ≡ eqb (beAt s 1 at) 2
-unfolding recAt contentAt
-deleted-is s at = refl
-
 zeros : words2 0 0 ≡ 0
 unfolding words2
 zeros = refl
 
-module _ (s : List ℕ) (at kind : ℕ) (e : kind ≡ readAt s 1 at) where
-  pub tag-live : (kind ≡ 2 → ⊥) → true ≡ tagKept (recAt s at .content)
-  tag-live n =
-      sym (kept-live (recAt s at .content)
-      (deleted-is s at ∙ ne-eqb (beAt s 1 at) 2 (λ h. n (e ∙ (kind-read s at ∙ h)))))
+module _ (s : List ℕ) (at kind : ℕ) (e : kind ≡ getD s at 0) where
+  kind-at : kind ≡ beAt s 1 at
+  kind-at = e ∙ sym (be-one s at)
 
-  pub tag-dead : whole s at ≡ true → kind ≡ 2 → (t0 t1 : ℕ) → t0 ≡ readAt s 8 (at + tagPlace) → t1 ≡ readAt s 8 (at + tagPlace + 8) →
+  pub tag-live : (kind ≡ 2 → ⊥) → true ≡ tagKept (recAt s at .content)
+  tag-live n = sym (kept-live (recAt s at .content) (deleted-at s at ∙ ne-eqb (beAt s 1 at) 2 (λ h. n (kind-at ∙ h))))
+
+  pub tag-dead : kind ≡ 2 → (t0 t1 : ℕ) → t0 ≡ beAt s 8 (at + tagPlace) → t1 ≡ beAt s 8 (at + tagPlace + 8) →
       (r : Bool) → r ≡ eqb (words2 t0 t1) (words2 0 0) → r ≡ tagKept (recAt s at .content)
-  tag-dead w k t0 t1 a b r h =
-      let t : words2 t0 t1 ≡ recAt s at .content .tag = ap₂ words2 a b ∙ tag-words s at (whole-at s at w) in
+  tag-dead f t0 t1 a b r h =
       h
-      ∙ (ap₂ {C = Bool} eqb t zeros
-      ∙ sym (kept-dead (recAt s at .content)
-      (deleted-is s at ∙ eq-eqb (beAt s 1 at) 2 (sym (e ∙ kind-read s at) ∙ k))))
+      ∙ (ap₂ {C = Bool} eqb (pair-read s (at + tagPlace) t0 t1 a b ∙ sym (tag-at s at)) zeros
+      ∙ sym (kept-dead (recAt s at .content) (deleted-at s at ∙ eq-eqb (beAt s 1 at) 2 (sym kind-at ∙ f))))
 
 -- ---- one record
 
@@ -65,13 +60,12 @@ valid-by : (r : Rec) (a b c d : Bool) → leb 1 (r .createTick) ≡ a → leb (r
     leb (r .changeTick) largestTick ≡ c → tagKept (r .content) ≡ d → validRec r ≡ both a (both b (both c d))
 valid-by r a b c d h i j k = valid-is r ∙ rw (h, i, j, k)
 
-module _ (s : List ℕ) (at : ℕ) (w : whole s at ≡ true) (create change : ℕ) (e : create ≡ readAt s 8 (at + createTickPlace))
-    (f : change ≡ readAt s 8 (at + changeTickPlace)) where
+module _ (s : List ℕ) (at create change : ℕ) (e : create ≡ beAt s 8 (at + createTickPlace)) (f : change ≡ beAt s 8 (at + changeTickPlace)) where
   created : create ≡ recAt s at .createTick
-  created = e ∙ create-tick-word s at (whole-at s at w)
+  created = e ∙ sym (create-tick-at s at)
 
   changed : change ≡ recAt s at .changeTick
-  changed = f ∙ change-tick-word s at (whole-at s at w)
+  changed = f ∙ sym (change-tick-at s at)
 
   pub valid-zero : create < 1 → false ≡ validRec (recAt s at)
   valid-zero l =
@@ -83,7 +77,8 @@ module _ (s : List ℕ) (at : ℕ) (w : whole s at ≡ true) (create change : �
 
     pub valid-later : change < create → false ≡ validRec (recAt s at)
     valid-later m =
-        sym (valid-by (recAt s at) true false _ _ first (lt-leb (recAt s at .createTick) (recAt s at .changeTick) (omega (arith, created, changed))) refl refl)
+        sym (valid-by (recAt s at) true false _ _ first
+        (lt-leb (recAt s at .createTick) (recAt s at .changeTick) (omega (arith, created, changed))) refl refl)
 
     module _ (m : create ≤ change) where
       second : leb (recAt s at .createTick) (recAt s at .changeTick) ≡ true
@@ -95,7 +90,8 @@ module _ (s : List ℕ) (at : ℕ) (w : whole s at ≡ true) (create change : �
 
       pub valid-tag : change ≤ largestTick → (r : Bool) → r ≡ tagKept (recAt s at .content) → r ≡ validRec (recAt s at)
       valid-tag k r h =
-          sym (valid-by (recAt s at) true true true r first second (le-leb (recAt s at .changeTick) largestTick (omega (arith, changed))) (sym h))
+          sym (valid-by (recAt s at) true true true r first second
+          (le-leb (recAt s at .changeTick) largestTick (omega (arith, changed))) (sym h))
 
 -- ---- the lower bound
 
@@ -135,33 +131,36 @@ module _ (s : List ℕ) (n first lo left at : ℕ) (inv : shapedAt s 0 n first �
       let z : left ≡ 0 = omega arith in
       sym (inv ∙ (ap (λ (k : ℕ). shapedAt s lo k at) z ∙ shaped-nil s lo at))
 
-  module _ (took : 0 < left) (w : Bool) (e : w ≡ whole s at) where
+  module _ (took : 0 < left) (m : ℕ) (e : m ≡ lengthAt s at) where
     one : shapedAt s 0 n first ≡ shapedAt s lo (suc (left - 1)) at
     one = let z : left ≡ suc (left - 1) = omega arith in inv ∙ ap (λ (k : ℕ). shapedAt s lo k at) z
 
-    pub shape-stop : w ≡ false → false ≡ shapedAt s 0 n first
-    shape-stop f = sym (one ∙ shaped-stop s lo (left - 1) at (sym e ∙ f))
+    pub shape-stop : m ≡ 0 → false ≡ shapedAt s 0 n first
+    shape-stop z = sym (one ∙ shaped-stop s lo (left - 1) at (length-ends s at m e z))
 
-    module _ (t : w ≡ true) (i0 i1 i2 : ℕ) (h0 : i0 ≡ readAt s 8 (at + itemPlace)) (h1 : i1 ≡ readAt s 8 (at + itemPlace + 8))
-        (h2 : i2 ≡ readAt s 8 (at + itemPlace + 16)) (r : Bool) (h : r ≡ leb lo (words3 i0 i1 i2)) where
+    module _ (z : m ≡ 0 → ⊥) (i0 i1 i2 : ℕ) (g : words3 i0 i1 i2 ≡ beAt s 24 (at + itemPlace)) (r : Bool)
+        (h : r ≡ leb lo (words3 i0 i1 i2)) where
+      stands : whole s at ≡ true
+      stands = length-stands s at m e z
+
       item-is : words3 i0 i1 i2 ≡ recAt s at .item
-      item-is = rw (h0, h1, h2) (item-words s at (whole-at s at (sym e ∙ t)))
+      item-is = g ∙ sym (item-at s at)
 
       pub shape-low : r ≡ false → false ≡ shapedAt s 0 n first
       shape-low k =
           let l = leb-false lo (words3 i0 i1 i2) (sym h ∙ k) in
-          sym (one ∙ shaped-low s lo (left - 1) at (sym e ∙ t) (omega (arith, l, item-is)))
+          sym (one ∙ shaped-low s lo (left - 1) at stands (omega (arith, l, item-is)))
 
       module _ (k : r ≡ true) (v : Bool) (j : v ≡ validRec (recAt s at)) where
         low : lo ≤ recAt s at .item
         low = omega (arith, leb-true lo (words3 i0 i1 i2) (sym h ∙ k), item-is)
 
         pub shape-invalid : v ≡ false → false ≡ shapedAt s 0 n first
-        shape-invalid q = sym (one ∙ shaped-invalid s lo (left - 1) at (sym e ∙ t) low (sym j ∙ q))
+        shape-invalid q = sym (one ∙ shaped-invalid s lo (left - 1) at stands low (sym j ∙ q))
 
-        pub shape-on : v ≡ true → (next : ℕ) → next ≡ behind s at → shapedAt s 0 n first ≡ shapedAt s (least true i0 i1 i2) (left - 1) next
-        shape-on q next d =
+        pub shape-on : v ≡ true → shapedAt s 0 n first ≡ shapedAt s (least true i0 i1 i2) (left - 1) (at + m)
+        shape-on q =
             let b : suc (recAt s at .item) ≡ least true i0 i1 i2 = sym (least-any i0 i1 i2 ∙ ap suc item-is) in
             one
-            ∙ (shaped-on s lo (left - 1) at (sym e ∙ t) low (sym j ∙ q)
-            ∙ ap₂ {C = Bool} (λ (x y : ℕ). shapedAt s x (left - 1) y) b (sym d))
+            ∙ (shaped-on s lo (left - 1) at stands low (sym j ∙ q)
+            ∙ ap₂ {C = Bool} (λ (x y : ℕ). shapedAt s x (left - 1) y) b (sym (length-behind s at m e z)))

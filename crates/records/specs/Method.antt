@@ -1,20 +1,41 @@
--- The answer of a search for an item's record, as an option; the item at a place by its words, which the law `item-words` says is the
--- record's where a whole one stands there; and the lower bound that a pass over rising items keeps. There is nothing to believe here.
-use Rattle.codec.specs.Prelude.{ℕ, suc, _+_, List, Bool, true, false, Option, none, some}
+-- The whole record at a place by its length and its bytes, the fields at a place by total reads, the answer of a search for an item's
+-- record as an option, and the lower bound that a pass over rising items keeps. There is nothing to believe here: where a whole
+-- record stands, the law `part-record` says that the part is the bytes of `recAt`, and `read-whole` that the fields are those of `recAt`.
+use Rattle.codec.specs.Prelude.{ℕ, suc, _+_, List, Bool, true, false, Option, none, some, eqb}
+use Rattle.codec.specs.Number.{beAt}
+use Rattle.codec.specs.Part.{part}
 use Rattle.codec.specs.Total.{readAt}
 use Rattle.codec.specs.Words.{words3}
-use Rattle.replication.specs.Reading.{itemPlace}
+use Rattle.replication.specs.Record.{Rec}
+use Rattle.replication.specs.Reading.{recLength, whole}
+use Rattle.replication.specs.Reading.{itemPlace, changeReplicaPlace, changeTickPlace, createReplicaPlace, createTickPlace, tagPlace}
 use Rattle.records.specs.declared.Found.{Found}
 use Rattle.records.specs.declared.Found.the-variants as F
+
+-- the length of the whole record of a known kind at a place, 0 where none stands there
+unfoldable pub lengthAt : List ℕ → ℕ → ℕ
+lengthAt s at = elim (whole s at) [ true ↦ recLength (beAt s 1 at) | false ↦ 0 ]
+
+-- its bytes, none where none stands there
+unfoldable pub recordPart : List ℕ → ℕ → List ℕ
+recordPart s at = part s at (lengthAt s at)
+
+-- the fields at a place; one of which a byte is missing is 0
+unfoldable pub readRec : List ℕ → ℕ → Rec
+readRec s at =
+    record {
+      item = readAt s 24 (at + itemPlace);
+      changeReplica = readAt s 16 (at + changeReplicaPlace);
+      changeTick = readAt s 8 (at + changeTickPlace);
+      createReplica = readAt s 16 (at + createReplicaPlace);
+      createTick = readAt s 8 (at + createTickPlace);
+      content = record { deleted = eqb (readAt s 1 at) 2; tag = readAt s 16 (at + tagPlace) };
+    }
 
 -- the place that was found
 unfoldable pub foundPlace : Found → Option ℕ
 foundPlace (F.At at) = some at
 foundPlace F.Nothing = none
-
--- the item at a place, by its words; a word that is not all there is 0
-abbrev pub itemWords : List ℕ → ℕ → ℕ
-itemWords s at = words3 (readAt s 8 (at + itemPlace)) (readAt s 8 (at + itemPlace + 8)) (readAt s 8 (at + itemPlace + 16))
 
 -- the least item that may come next: any item where none came before, else the one above the last, which is given by its words
 unfoldable pub least : Bool → ℕ → ℕ → ℕ → ℕ

@@ -1,18 +1,22 @@
-// Records in the bytes of a store or batch: their fields, the search for an item's record, and the check of a table.
+// Records in the bytes of a store or batch: their lengths and fields, which of two records wins, the copying of a record, the
+// search for an item's record, and the check of a table.
 //
 // Every public function is total and takes the whole bytes and a place in them. An item id is three words of 64 bits and a
 // replica id two, the highest first.
 ghost use mathlib.Core.Path.{_≡_};
-ghost use mathlib.Core.Bool.{true};
-ghost use Prim.Native.Nat.{_+_};
+ghost use Prim.Native.Nat.{_+_, _^_, _≤_, _<_};
 ghost use lib.Dec.{eqb, leb};
+ghost use lib.ListN.{length, getD};
+ghost use Rattle.codec.specs.Number.{beAt};
+ghost use Rattle.codec.specs.Part.{placed};
 ghost use Rattle.codec.specs.Total.{readAt};
-ghost use Rattle.codec.specs.Words.{words3};
+ghost use Rattle.codec.specs.Words.{words2, words3};
 ghost use Rattle.replication.specs.Reading.{recLength, behind, recAt, whole, tagKept, validRec};
 ghost use Rattle.replication.specs.Reading.{itemPlace, changeReplicaPlace, changeTickPlace, createReplicaPlace, createTickPlace, tagPlace};
 ghost use Rattle.replication.specs.Queries.{places, placeOf};
-ghost use Rattle.replication.specs.MethodRecords.{shapedAt};
-ghost use Rattle.records.specs.Method.{foundPlace, itemWords, least};
+ghost use Rattle.replication.specs.Operate.{wins};
+ghost use Rattle.replication.specs.MethodRecords.{WholeAt, shapedAt};
+ghost use Rattle.records.specs.Method.{lengthAt, recordPart, readRec, foundPlace, least};
 
 // the places of a record's fields, counted from its own
 const ITEM: usize = 1;
@@ -31,12 +35,58 @@ const END: usize = 89;
 
 const LARGEST_TICK: u64 = 9223372036854775807;
 
+// The words of an item id.
+pub struct ItemWords {
+    pub high: u64,
+    pub middle: u64,
+    pub low: u64,
+}
+
+// The words of a replica id.
+pub struct ReplicaWords {
+    pub high: u64,
+    pub low: u64,
+}
+
 // Where an item's record stands.
 pub enum Found {
     // the place of the record
     At(usize),
     // the item has none
     Nothing,
+}
+
+// ---- bytes that are there
+
+fn one(s: &[u8], at: usize) -> u64
+    requires { ⌜ at < length (now s) ⌝ }
+    ensures { λ r. ⌜ (r ≡ getD (now (s .entry)) at 0) × (r < 256) ⌝ }
+{
+    s[at] as u64
+}
+
+fn four(s: &[u8], at: usize) -> u64
+    requires { ⌜ at + 4 ≤ length (now s) ⌝ }
+    ensures { λ r. ⌜ (r ≡ beAt (now (s .entry)) 4 at) × (r < 2 ^ 32) ⌝ }
+{
+    one(s, at) * 16777216 + one(s, at + 1) * 65536 + one(s, at + 2) * 256 + one(s, at + 3)
+}
+
+fn eight(s: &[u8], at: usize) -> u64
+    requires { ⌜ at + 8 ≤ length (now s) ⌝ }
+    ensures { λ r. ⌜ (r ≡ beAt (now (s .entry)) 8 at) × (r < 2 ^ 64) ⌝ }
+{
+    four(s, at) * 4294967296 + four(s, at + 4)
+}
+
+fn item_there(s: &[u8], at: usize) -> ItemWords
+    requires { ⌜ at + 24 ≤ length (now s) ⌝ }
+    ensures { λ r. ⌜ words3 (r .high) (r .middle) (r .low) ≡ beAt (now (s .entry)) 24 at ⌝ }
+{
+    let high = eight(s, at);
+    let middle = eight(s, at + 8);
+    let low = eight(s, at + 16);
+    ItemWords { high, middle, low }
 }
 
 // ---- one record
@@ -54,19 +104,27 @@ pub fn record_length(kind: u64) -> usize
     0
 }
 
+// The length of the whole record of a known kind at a place, 0 where none stands there.
+pub fn length_at(s: &[u8], at: usize) -> usize
+    ensures { λ r. ⌜ r ≡ lengthAt (now (s .entry)) at ⌝ }
+{
+    if s.len() <= at {
+        return 0;
+    }
+    let kind = one(s, at);
+    let n = record_length(kind);
+    if s.len() - at < n {
+        return 0;
+    }
+    n
+}
+
 // Does a whole record of a known kind stand at a place.
 pub fn whole(s: &[u8], at: usize) -> bool
     ensures { λ r. ⌜ r ≡ whole (now (s .entry)) at ⌝ }
 {
-    if s.len() <= at {
-        return false;
-    }
-    let kind = codec::read1(s, at);
-    let n = record_length(kind);
-    if n == 0 {
-        return false;
-    }
-    n <= s.len() - at
+    let n = length_at(s, at);
+    0 < n
 }
 
 // The place behind the record at a place; the place itself where no record of a known kind begins.
@@ -76,106 +134,119 @@ pub fn behind(s: &[u8], at: usize) -> usize
     if s.len() <= at {
         return at;
     }
-    let kind = codec::read1(s, at);
+    let kind = one(s, at);
     let n = record_length(kind);
     at + n
 }
 
-// ---- the fields of the record at a place
+// The whole record at a place, written into an output from a place on: nothing where none stands there or there is no room.
+pub fn copy_record(s: &[u8], at: usize, out: &mut [u8], to: usize)
+    ensures { λ _. ⌜ now (out .exit) ≡ placed (now (out .entry)) to (recordPart (now (s .entry)) at) ⌝ }
+{
+    let n = length_at(s, at);
+    codec::copy_part(s, at, n, out, to);
+}
 
-// The number in the eight bytes that begin so many bytes behind a place, 0 where one of them is missing.
-fn word(s: &[u8], at: usize, from: usize) -> u64
+// ---- the fields of the record at a place; a field of which a byte is missing is 0
+
+// The replica id that begins so many bytes behind a place.
+fn replica_at(s: &[u8], at: usize, from: usize) -> ReplicaWords
+    requires { ⌜ from ≤ tagPlace ⌝ }
+    ensures { λ r. ⌜ words2 (r .high) (r .low) ≡ readAt (now (s .entry)) 16 (at + from) ⌝ }
+{
+    if codec::beyond(s.len(), at, from + 16) {
+        return ReplicaWords { high: 0, low: 0 };
+    }
+    let high = eight(s, at + from);
+    let low = eight(s, at + from + 8);
+    ReplicaWords { high, low }
+}
+
+// The tick that begins so many bytes behind a place.
+fn tick_at(s: &[u8], at: usize, from: usize) -> u64
+    requires { ⌜ from ≤ tagPlace ⌝ }
     ensures { λ r. ⌜ r ≡ readAt (now (s .entry)) 8 (at + from) ⌝ }
 {
-    if s.len() < at {
+    if codec::beyond(s.len(), at, from + 8) {
         return 0;
     }
-    if s.len() - at < from {
-        return 0;
+    eight(s, at + from)
+}
+
+// The item.
+pub fn item_of(s: &[u8], at: usize) -> ItemWords
+    ensures { λ r. ⌜ words3 (r .high) (r .middle) (r .low) ≡ readAt (now (s .entry)) 24 (at + itemPlace) ⌝ }
+{
+    if codec::beyond(s.len(), at, ITEM + 24) {
+        return ItemWords {
+            high: 0,
+            middle: 0,
+            low: 0,
+        };
     }
-    codec::read8(s, at + from)
+    item_there(s, at + ITEM)
 }
 
-// The words of the item.
-pub fn item_0(s: &[u8], at: usize) -> u64
-    ensures { λ r. ⌜ r ≡ readAt (now (s .entry)) 8 (at + itemPlace) ⌝ }
+// The replica and the tick of the change version.
+pub fn change_replica(s: &[u8], at: usize) -> ReplicaWords
+    ensures { λ r. ⌜ words2 (r .high) (r .low) ≡ readAt (now (s .entry)) 16 (at + changeReplicaPlace) ⌝ }
 {
-    word(s, at, ITEM)
-}
-
-pub fn item_1(s: &[u8], at: usize) -> u64
-    ensures { λ r. ⌜ r ≡ readAt (now (s .entry)) 8 (at + itemPlace + 8) ⌝ }
-{
-    word(s, at, ITEM + 8)
-}
-
-pub fn item_2(s: &[u8], at: usize) -> u64
-    ensures { λ r. ⌜ r ≡ readAt (now (s .entry)) 8 (at + itemPlace + 16) ⌝ }
-{
-    word(s, at, ITEM + 16)
-}
-
-// The words of the change replica, and the change tick.
-pub fn change_replica_0(s: &[u8], at: usize) -> u64
-    ensures { λ r. ⌜ r ≡ readAt (now (s .entry)) 8 (at + changeReplicaPlace) ⌝ }
-{
-    word(s, at, CHANGE_REPLICA)
-}
-
-pub fn change_replica_1(s: &[u8], at: usize) -> u64
-    ensures { λ r. ⌜ r ≡ readAt (now (s .entry)) 8 (at + changeReplicaPlace + 8) ⌝ }
-{
-    word(s, at, CHANGE_REPLICA + 8)
+    replica_at(s, at, CHANGE_REPLICA)
 }
 
 pub fn change_tick(s: &[u8], at: usize) -> u64
     ensures { λ r. ⌜ r ≡ readAt (now (s .entry)) 8 (at + changeTickPlace) ⌝ }
 {
-    word(s, at, CHANGE_TICK)
+    tick_at(s, at, CHANGE_TICK)
 }
 
-// The words of the create replica, and the create tick.
-pub fn create_replica_0(s: &[u8], at: usize) -> u64
-    ensures { λ r. ⌜ r ≡ readAt (now (s .entry)) 8 (at + createReplicaPlace) ⌝ }
+// The replica and the tick of the create version.
+pub fn create_replica(s: &[u8], at: usize) -> ReplicaWords
+    ensures { λ r. ⌜ words2 (r .high) (r .low) ≡ readAt (now (s .entry)) 16 (at + createReplicaPlace) ⌝ }
 {
-    word(s, at, CREATE_REPLICA)
-}
-
-pub fn create_replica_1(s: &[u8], at: usize) -> u64
-    ensures { λ r. ⌜ r ≡ readAt (now (s .entry)) 8 (at + createReplicaPlace + 8) ⌝ }
-{
-    word(s, at, CREATE_REPLICA + 8)
+    replica_at(s, at, CREATE_REPLICA)
 }
 
 pub fn create_tick(s: &[u8], at: usize) -> u64
     ensures { λ r. ⌜ r ≡ readAt (now (s .entry)) 8 (at + createTickPlace) ⌝ }
 {
-    word(s, at, CREATE_TICK)
+    tick_at(s, at, CREATE_TICK)
 }
 
-// The words of the content tag.
-pub fn tag_0(s: &[u8], at: usize) -> u64
-    ensures { λ r. ⌜ r ≡ readAt (now (s .entry)) 8 (at + tagPlace) ⌝ }
+// Does a tombstone begin at a place.
+pub fn tombstone(s: &[u8], at: usize) -> bool
+    ensures { λ r. ⌜ r ≡ recAt (now (s .entry)) at .content .deleted ⌝ }
 {
-    word(s, at, TAG)
+    let kind = codec::read1(s, at);
+    kind == 2
 }
 
-pub fn tag_1(s: &[u8], at: usize) -> u64
-    ensures { λ r. ⌜ r ≡ readAt (now (s .entry)) 8 (at + tagPlace + 8) ⌝ }
+// ---- which of two records wins
+
+// Does the batch's record, at b of t, win over the store's, at a of s: the greater change tick, then the greater change
+// replica.
+pub fn wins(s: &[u8], a: usize, t: &[u8], b: usize) -> bool
+    ensures { λ r. ⌜ r ≡ wins (readRec (now (s .entry)) a) (readRec (now (t .entry)) b) ⌝ }
 {
-    word(s, at, TAG + 8)
+    let mine = change_tick(s, a);
+    let theirs = change_tick(t, b);
+    if mine == theirs {
+        let p = change_replica(s, a);
+        let q = change_replica(t, b);
+        return codec::less2(p.high, p.low, q.high, q.low);
+    }
+    mine < theirs
 }
 
 // ---- the search for an item
 
-// Are the words of the item at a place the given ones.
+// Is the item of the whole record at a place the one of the given words.
 fn has_item(s: &[u8], at: usize, i0: u64, i1: u64, i2: u64) -> bool
-    ensures { λ r. ⌜ r ≡ eqb (itemWords (now (s .entry)) at) (words3 i0 i1 i2) ⌝ }
+    requires { ⌜ WholeAt (now s) at ⌝ }
+    ensures { λ r. ⌜ r ≡ eqb (recAt (now (s .entry)) at .item) (words3 i0 i1 i2) ⌝ }
 {
-    let a0 = item_0(s, at);
-    let a1 = item_1(s, at);
-    let a2 = item_2(s, at);
-    codec::same3(a0, a1, a2, i0, i1, i2)
+    let i = item_there(s, at + ITEM);
+    codec::same3(i.high, i.middle, i.low, i0, i1, i2)
 }
 
 // The place of the item's record among those that a walker goes through from a place on.
@@ -184,13 +255,14 @@ pub fn place_of(s: &[u8], at: usize, i0: u64, i1: u64, i2: u64) -> Found
 {
     let mut p = at;
     while p < s.len() {
-        if whole(s, p) {} else {
+        let n = length_at(s, p);
+        if n == 0 {
             return Found::Nothing;
         }
         if has_item(s, p, i0, i1, i2) {
             return Found::At(p);
         }
-        p = behind(s, p);
+        p += n;
     }
     Found::Nothing
 }
@@ -199,13 +271,13 @@ pub fn place_of(s: &[u8], at: usize, i0: u64, i1: u64, i2: u64) -> Found
 
 // Are the bytes of the content tag zeros where the whole record at a place is a tombstone.
 fn tag_kept(s: &[u8], at: usize) -> bool
-    requires { ⌜ whole (now s) at ≡ true ⌝ }
+    requires { ⌜ WholeAt (now s) at ⌝ }
     ensures { λ r. ⌜ r ≡ tagKept (recAt (now (s .entry)) at .content) ⌝ }
 {
-    let kind = codec::read1(s, at);
+    let kind = one(s, at);
     if kind == 2 {
-        let t0 = tag_0(s, at);
-        let t1 = tag_1(s, at);
+        let t0 = eight(s, at + TAG);
+        let t1 = eight(s, at + TAG + 8);
         return codec::same2(t0, t1, 0, 0);
     }
     true
@@ -213,11 +285,11 @@ fn tag_kept(s: &[u8], at: usize) -> bool
 
 // Is the whole record at a place valid.
 fn valid(s: &[u8], at: usize) -> bool
-    requires { ⌜ whole (now s) at ≡ true ⌝ }
+    requires { ⌜ WholeAt (now s) at ⌝ }
     ensures { λ r. ⌜ r ≡ validRec (recAt (now (s .entry)) at) ⌝ }
 {
-    let create = create_tick(s, at);
-    let change = change_tick(s, at);
+    let create = eight(s, at + CREATE_TICK);
+    let change = eight(s, at + CHANGE_TICK);
     if create < 1 {
         return false;
     }
@@ -251,23 +323,22 @@ pub fn shaped(s: &[u8], n: u32, at: usize) -> bool
     let mut left = n;
     let mut p = at;
     while 0 < left {
-        if whole(s, p) {} else {
+        let k = length_at(s, p);
+        if k == 0 {
             return false;
         }
-        let i0 = item_0(s, p);
-        let i1 = item_1(s, p);
-        let i2 = item_2(s, p);
-        if rises(any, l0, l1, l2, i0, i1, i2) {} else {
+        let i = item_there(s, p + ITEM);
+        if rises(any, l0, l1, l2, i.high, i.middle, i.low) {} else {
             return false;
         }
         if valid(s, p) {} else {
             return false;
         }
         any = true;
-        l0 = i0;
-        l1 = i1;
-        l2 = i2;
-        p = behind(s, p);
+        l0 = i.high;
+        l1 = i.middle;
+        l2 = i.low;
+        p += k;
         left -= 1;
     }
     p == s.len()

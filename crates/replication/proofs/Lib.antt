@@ -38,6 +38,7 @@ pub mod OpeningStore
 pub mod OpeningBatch
 pub mod QueriesWalk
 pub mod QueriesWinner
+pub mod QueriesKnowledge
 pub mod QueriesCoverage
 pub mod QueriesSettled
 pub mod RefusalsTable
@@ -53,3 +54,5 @@ pub mod RefusalsSettled
 pub mod Runner
 pub mod RecordsInBytes
 pub mod RecordsTable
+pub mod Enough
+pub mod CallSteps

@@ -56,6 +56,17 @@ pub count-known : (k : Knowledge) (r : Rec) (rs : List Rec) → ContainsChange k
 unfolding countIn
 count-known k r rs h = rw (contains-yes k (r .item) (r .changeReplica) (r .changeTick) (h .0) (h .1), countIn)
 
+-- by the test itself, for code
+pub count-in : (k : Knowledge) (r : Rec) (rs : List Rec) → contains k (r .item) (r .changeReplica) (r .changeTick) ≡ true
+    → countIn k (r ∷ rs) ≡ suc (countIn k rs)
+unfolding countIn
+count-in k r rs e = rw (e, countIn)
+
+pub count-out : (k : Knowledge) (r : Rec) (rs : List Rec) → contains k (r .item) (r .changeReplica) (r .changeTick) ≡ false
+    → countIn k (r ∷ rs) ≡ countIn k rs
+unfolding countIn
+count-out k r rs e = rw (e, countIn)
+
 -- n of the records have a change version that the knowledge contains
 pub data Counts (k : Knowledge) : List Rec → ℕ → Type 0 where
   counts-nil : Counts k [] 0
@@ -86,7 +97,7 @@ pub thousandths-none : (inside all : ℕ) → all ≡ 0 → thousandths inside a
 unfolding thousandths
 thousandths-none inside all e = rw (eq-eqb all 0 e, thousandths)
 
-thousandths-some : (inside all : ℕ) → 0 < all → thousandths inside all ≡ 1000 * inside / all
+pub thousandths-some : (inside all : ℕ) → 0 < all → thousandths inside all ≡ 1000 * inside / all
 unfolding thousandths
 thousandths-some inside all h = rw (ne-eqb all 0 (omega arith), thousandths)
 
@@ -173,6 +184,16 @@ unfolding told readOr
 told-measured st k =
     let found = measured k (st .records) in
     read-fine G.Refused st (ownFault (accepted k) ∷ []) found ∙ read-fine G.Refused k [] found ∙ fault-none G.Refused [] found tt
+
+-- the same as numbers, for code
+pub coverage-found : (R : Rules) (s t : List ℕ) (st : Store) (k : Knowledge) → openStore (R .limits) s ≡ accepted st → parse R t ≡ accepted k
+    → (inside all : ℕ) → inside ≡ countIn k (st .records) → all ≡ length (st .records)
+    → coverageAnswer R s t ≡ G.Covered inside all (thousandths inside all)
+unfolding measured
+coverage-found R s t st k o p inside all e f =
+    told-is R s t (accepted st) (accepted k) o p
+    ∙ told-measured st k
+    ∙ ap₂ (λ (i a : ℕ). G.Covered i a (thousandths i a)) (sym e) (sym f)
 
 -- the coverage, where nothing is refused
 pub coverage-exact : (R : Rules) (s t : List ℕ) (st : Store) (k : Knowledge) → openStore (R .limits) s ≡ accepted st → parse R t ≡ accepted k → CoverageIs k (st .records) (coverageAnswer R s t)

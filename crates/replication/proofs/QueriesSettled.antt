@@ -1,5 +1,5 @@
--- What is said of the calls that write nothing settles what they answer: of winner and learned the part, its number and the values
--- that tell its place; of coverage the number and the values; of the walker all that it has still to give. The winner's part is
+-- What is said of the calls that write nothing settles what they answer: of winner, learned and a store's own knowledge the part, its number
+-- and the values that tell its place; of coverage the number and the values; of the walker all that it has still to give. The winner's part is
 -- settled because the item ids of a table rise, so a record is one of them at one place only. A statement that left out a case or
 -- a value would not do that.
 use Prim.Native.Nat.{ℕ, zero, suc, _+_, _*_, _≤_, _<_}
@@ -30,6 +30,7 @@ use Rattle.replication.proofs.RecordBytes.{KnownKind, kind-length, whol
 use Rattle.replication.proofs.BrokenRecords.{OneOf, behindAll}
 use Rattle.replication.proofs.QueriesWalk.{walk-step, walk-end}
 use Rattle.replication.proofs.QueriesWinner.{NoPart, StorePart, BatchPart, StoreRecord, BatchRecord, NoPartBut, Beats, WinnerIs, LearnedIs}
+use Rattle.replication.proofs.QueriesKnowledge.{KnowledgeIs}
 use Rattle.replication.proofs.QueriesCoverage.{CoverageIs, NoCoverage, Counts, counts-one}
 
 -- ---- one place for a record
@@ -165,6 +166,11 @@ winner-settled s t i st b p q rs rb v w = go (find i (st .records)) refl (find i
 
 pub learned-settled : (L : Limits) (s t : List ℕ) (b : Batch) (p q : Part) → LearnedIs L t b p → LearnedIs L t b q → SamePart s t p q
 learned-settled L s t b p q x y = batch-part-settled s t p q (61 + beAt t 4 49) (beAt t 4 53) (x .part) (y .part)
+
+-- ---- a store's own knowledge
+
+pub knowledge-settled : (L : Limits) (s t : List ℕ) (st : Store) (p q : Part) → KnowledgeIs L s st p → KnowledgeIs L s st q → SamePart s t p q
+knowledge-settled L s t st p q x y = store-part-settled s t p q 25 (beAt s 4 17) (x .part) (y .part)
 
 -- ---- coverage
 

@@ -28,11 +28,11 @@ use Rattle.replication.proofs.QueriesPlaces.{places-step, places-end, p
 
 -- ---- steps
 
-give-step : (s : List ℕ) (at : ℕ) → whole s at ≡ true → toGive s at ≡ take (recLength (beAt s 1 at)) (drop at s) ∷ toGive s (behind s at)
+pub give-step : (s : List ℕ) (at : ℕ) → whole s at ≡ true → toGive s at ≡ take (recLength (beAt s 1 at)) (drop at s) ∷ toGive s (behind s at)
 unfolding toGive partsAt
 give-step s at e = ap (partsAt s) (places-step s at e)
 
-give-end : (s : List ℕ) (at : ℕ) → whole s at ≡ false → toGive s at ≡ []
+pub give-end : (s : List ℕ) (at : ℕ) → whole s at ≡ false → toGive s at ≡ []
 unfolding toGive partsAt
 give-end s at e = ap (partsAt s) (places-end s at e)
 

@@ -209,7 +209,7 @@ no-part p e = record {
   size = λ old. ap (λ (q : Part). partLength q old) e;
 }
 
-store-part : (s : List ℕ) (p : Part) (at n : ℕ) → p ≡ P.OfStore at n → at + n ≤ length s → StorePart s at n p
+pub store-part : (s : List ℕ) (p : Part) (at n : ℕ) → p ≡ P.OfStore at n → at + n ≤ length s → StorePart s at n p
 unfolding partBytes partNumber partSide partAtPlace partLength
 store-part s p at n e l = record {
   is = e;
@@ -233,7 +233,7 @@ batch-part t p at n e l = record {
   size = λ old. ap (λ (q : Part). partLength q old) e;
 }
 
-part-refused : (n : ℕ) (p : Part) → p ≡ P.Refused n → NoPartBut n p
+pub part-refused : (n : ℕ) (p : Part) → p ≡ P.Refused n → NoPartBut n p
 unfolding partBytes partNumber partSide partAtPlace partLength
 part-refused n p e = record {
   is = e;
@@ -416,6 +416,16 @@ winner-exact L s t item st b o q l =
     (told-is L s t item (accepted st) (accepted b) o q
     ∙ told-found s t item st b (length-exact 24 item .1 l)
     ∙ ap (found s t) (id-is 24 item))
+
+-- the same by the places of the item's records, for code
+pub winner-found : (L : Limits) (s t item : List ℕ) (st : Store) (b : Batch) → openStore L s ≡ accepted st → openBatch L t ≡ accepted b
+    → length item ≡ 24 → (i : ℕ) → i ≡ beAt item 24 0
+    → winnerPart L s t item ≡ winnerAt s t (placeOf s i (places s (storeTable s))) (placeOf t i (places t (batchTable t)))
+unfolding found
+winner-found L s t item st b o q l i e =
+    told-is L s t item (accepted st) (accepted b) o q
+    ∙ told-found s t item st b (length-exact 24 item .1 l)
+    ∙ ap (found s t) (id-is 24 item ∙ sym e)
 
 -- the part's bytes are those of the record
 pub store-record-bytes : (s : List ℕ) (rs : List Rec) (x : Rec) (p : Part) (batch : List ℕ) → Bytes s → StoreRecord s rs x p → partBytes p s batch ≡ putRec x []

@@ -1,7 +1,7 @@
 -- Joining two tables that rise by item id. The join follows both tables at once: the record of
 -- the smaller item comes first, and where both have the item, the winner of the two. So what the join finds for an item
--- is the winner of what the two tables find for it, and an edit is a join with a table of one record, as its tick is
--- above that of the record it replaces.
+-- is the winner of what the two tables find for it, and an edit is a join with a table of one record, which wins over
+-- the record it replaces.
 use Prim.Native.Nat.{ℕ, suc, _+_, _≤_, _<_}
 use mathlib.Core.Path.{_≡_, refl, sym, _∙_}
 use mathlib.Core.Bool.{Bool, true, false}
@@ -31,10 +31,17 @@ winner-either P x y p q = go (wins x y) refl
 pub winner-item : (x y : Rec) → x .item ≡ y .item → winnerOf x y .item ≡ x .item
 winner-item x y e = winner-either (λ (z : Rec). z .item ≡ x .item) x y refl (sym e)
 
+pub winner-won : (x y : Rec) → wins x y ≡ true → winnerOf x y ≡ y
+unfolding winnerOf
+winner-won x y h = rw (h, winnerOf)
+
 -- the greater change tick wins
+pub wins-tick : (x y : Rec) → x .changeTick < y .changeTick → wins x y ≡ true
+unfolding wins
+wins-tick x y h = rw (lt-ltb (x .changeTick) (y .changeTick) h, wins)
+
 pub winner-tick : (x y : Rec) → x .changeTick < y .changeTick → winnerOf x y ≡ y
-unfolding winnerOf wins
-winner-tick x y h = rw (lt-ltb (x .changeTick) (y .changeTick) h, winnerOf, wins)
+winner-tick x y h = winner-won x y (wins-tick x y h)
 
 pub winner-kept : (x y : Rec) → y .changeTick < x .changeTick → winnerOf x y ≡ x
 unfolding winnerOf wins
@@ -268,37 +275,39 @@ find-join lo i xs ys p q = joins-find lo i (joins xs ys) p q
 
 -- ---- an edit is a join with a table of one record
 
--- it is enough to know the record that is replaced
-pub replace-join-found :
+-- it is enough to know that the record wins over the one that is replaced
+pub replace-join-won :
     (r : Rec)
     (xs : List Rec)
-    → ((x : Rec) → find (r .item) xs ≡ some x → x .changeTick < r .changeTick)
+    → ((x : Rec) → find (r .item) xs ≡ some x → wins x r ≡ true)
     → replace r xs ≡ join xs (r ∷ [])
-replace-join-found r [] f = replace-nil r ∙ sym (join-none (r ∷ []))
-replace-join-found r (x ∷ xs) f =
+replace-join-won r [] f = replace-nil r ∙ sym (join-none (r ∷ []))
+replace-join-won r (x ∷ xs) f =
     elim (order (x .item) (r .item)) [
       | less k ↦
-          let later = replace-join-found r xs (λ y e. f y (find-there (r .item) x xs (omega arith) ∙ e)) in
+          let later = replace-join-won r xs (λ y e. f y (find-there (r .item) x xs (omega arith) ∙ e)) in
           cc (replace-after r x xs k, join-left x xs r [] k, later)
       | same k ↦
           cc (
             replace-same r x xs k,
             join-same x xs r [] k,
-            winner-tick x r (f x (find-here (r .item) x xs k)),
+            winner-won x r (f x (find-here (r .item) x xs k)),
             join-nil xs,
           )
       | more k ↦ cc (replace-before r x xs k, join-right x xs r [] k, join-nil (x ∷ xs))
     ]
 
-pub replace-join :
+-- so it is where its change tick is greater
+pub replace-join-found :
     (r : Rec)
-    (lo : ℕ)
     (xs : List Rec)
-    → Rising lo (items xs)
-    → All (λ x. x .item ≡ r .item → x .changeTick < r .changeTick) xs
+    → ((x : Rec) → find (r .item) xs ≡ some x → x .changeTick < r .changeTick)
     → replace r xs ≡ join xs (r ∷ [])
-replace-join r lo xs p a = replace-join-found r xs below
+replace-join-found r xs f = replace-join-won r xs (λ x e. wins-tick x r (f x e))
+
+-- and where it wins over every record of its item
+pub replace-join : (r : Rec) (xs : List Rec) → All (λ x. x .item ≡ r .item → wins x r ≡ true) xs → replace r xs ≡ join xs (r ∷ [])
+replace-join r xs a = replace-join-won r xs won
   where
-    below : (x : Rec) → find (r .item) xs ≡ some x → x .changeTick < r .changeTick
-    below x e =
-        find-all (λ y. y .item ≡ r .item → y .changeTick < r .changeTick) (r .item) xs x a e (find-item (r .item) xs x e)
+    won : (x : Rec) → find (r .item) xs ≡ some x → wins x r ≡ true
+    won x e = find-all (λ y. y .item ≡ r .item → wins y r ≡ true) (r .item) xs x a e (find-item (r .item) xs x e)

@@ -8,9 +8,11 @@ pub mod ValidBatch
 pub mod Reading
 pub mod OpenStore
 pub mod OpenBatch
+pub mod Room
 pub mod MethodOpening
 pub mod Operate
 pub mod Calls
+pub mod MethodReplies
 pub mod Queries
 pub mod MethodTable
 pub mod MethodRecords

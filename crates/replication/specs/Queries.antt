@@ -8,7 +8,7 @@ use Rattle.ticks.specs.Meaning.{contains}
 use Rattle.ticks.specs.Calls.{idOf, readAs, wrongLength}
 use Rattle.replication.specs.Record.{Rec}
 use Rattle.replication.specs.Reading.{whole, recAt, recLength, behind}
-use Rattle.replication.specs.OpenStore.{storeTable, openStore}
+use Rattle.replication.specs.OpenStore.{knowledgeLength, storeKnowledge, storeTable, openStore}
 use Rattle.replication.specs.OpenBatch.{learnedLength, batchLearned, batchTable, openBatch}
 use Rattle.replication.specs.Operate.{wins}
 use Rattle.replication.specs.Calls.{storeOr}
@@ -101,6 +101,10 @@ winnerPart L s batch item =
 unfoldable pub learnedPart : Limits → List ℕ → Part
 learnedPart L batch =
     firstFault P.Refused (ownFault (openBatch L batch) ∷ []) (P.OfBatch (batchLearned batch) (learnedLength batch))
+
+-- beyond document 01: a store's own knowledge, handed out in the same way
+unfoldable pub knowledgePart : Limits → List ℕ → Part
+knowledgePart L s = firstFault P.Refused (ownFault (openStore L s) ∷ []) (P.OfStore storeKnowledge (knowledgeLength s))
 
 -- document 01's number and values of a coverage, from the values before the call
 unfoldable pub coverageNumber : Coverage → ℕ

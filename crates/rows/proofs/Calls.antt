@@ -1,6 +1,6 @@
 -- Cover from what was opened on, by any rules that accept both knowledges: the ids of a span are three words each, and each way
 -- that the call goes has its equation. Document 01's rules are those of its two numbers (`cover-basic`).
-use Prim.Native.Nat.{ℕ, zero, suc, _+_, _*_, _≤_, _<_}
+use Prim.Native.Nat.{ℕ, zero, suc, _≤_, _<_}
 use mathlib.Core.Path.{_≡_, refl, sym, ap, ap₂, _∙_}
 use mathlib.Core.Bool.{Bool, true, false}
 use mathlib.Core.List.{List}
@@ -16,7 +16,6 @@ use Rattle.codec.proofs.Total.{read-id3}
 use Rattle.layout.specs.Knowledge.{Rules, basic}
 use Rattle.layout.specs.Permitted.{base, rulesWithin}
 use Rattle.layout.specs.Decode.{decode}
-use Rattle.layout.specs.MethodPlaces.{idsPlace}
 use Rattle.layout.proofs.Within.{basic-within}
 use Rattle.ticks.specs.Operations.{lacking, isNowhere}
 use Rattle.ticks.specs.declared.Cover.{Cover}
@@ -27,10 +26,11 @@ use Rattle.ticks.proofs.ForCode.{Refusing}
 use Rattle.ticks.proofs.ForRows.{cover-refuses-first, cover-refuses-second, cover-wrong, cover-answers}
 use Rattle.lookup.specs.declared.Cursor.{Cursor}
 use Rattle.lookup.specs.Method.{Opens, Open}
-use Rattle.lookup.proofs.Leaf.{opens-reading, ids-room}
+use Rattle.lookup.proofs.Leaf.{opens-reading}
 use Rattle.rows.specs.declared.Place.{Place}
 use Rattle.rows.specs.declared.Place.the-variants as O
-use Rattle.rows.specs.Method.{Keyed, Zeros, lackOf}
+use Rattle.rows.specs.Method.{Keyed, Zeros, lackingBy, lackOf}
+use Rattle.rows.proofs.FirstLacking.{lacking-is}
 
 -- Scratch
 
@@ -64,15 +64,9 @@ item-words : (id : List ℕ) (x y z : ℕ) → length id ≡ 24 → IdOf id x y 
 item-words id x y z h e = rw (e .high, e .middle, e .low) (read-id3 id 0 (omega arith))
 
 -- the first is not above the last
-pub proper : (f0 f1 f2 l0 l1 l2 : ℕ) (b : Bool) → b ≡ ltb (words3 l0 l1 l2) (words3 f0 f1 f2) → b ≡ false
+proper : (f0 f1 f2 l0 l1 l2 : ℕ) (b : Bool) → b ≡ ltb (words3 l0 l1 l2) (words3 f0 f1 f2) → b ≡ false
     → words3 f0 f1 f2 ≤ words3 l0 l1 l2
 proper f0 f1 f2 l0 l1 l2 b is f = ltb-false (words3 l0 l1 l2) (words3 f0 f1 f2) (sym is ∙ f)
-
--- the ids of opened bytes are there
-pub open-room : (s : List ℕ) (r : ℕ) (c : Cursor) → Open s r c → idsPlace + 16 * r ≤ length s
-open-room s r c h =
-    let o = h .opens in
-    ids-room (h .rules) s r (o .v) (o .e) (o .g) (opens-reading (h .rules) s r c o)
 
 -- The ways that the call goes
 
@@ -108,16 +102,17 @@ module _ (R : Rules) (s t first last : List ℕ) where
             let n : words3 l0 l1 l2 < words3 f0 f1 f2 = ltb-true (words3 l0 l1 l2) (words3 f0 f1 f2) (sym is ∙ f) in
             bad (λ p. absurd (omega (arith, p .1 .1, item-words first f0 f1 f2 k ef, item-words last l0 l1 l2 l el)))
 
-        module _ (inside : b ≡ false) (p : Place)
-            (e : lackOf p ≡ lacking (decode s) (decode t) (words3 f0 f1 f2) (words3 l0 l1 l2)) where
+        module _ (inside : b ≡ false) (open-first : Open s r x) (open-second : Open t m y) (p : Place)
+            (e : lackOf p ≡ lackingBy s r x t m y (words3 f0 f1 f2) (words3 l0 l1 l2)) where
           answer : coverAnswer R s t first last ≡ coverFound (isNowhere (lackOf p))
           answer =
               let n = proper f0 f1 f2 l0 l1 l2 b is inside in
+              let found = e ∙ lacking-is s r x t m y (words3 f0 f1 f2) (words3 l0 l1 l2) open-first open-second n in
               cover-answers R s t first last r (o .v) (o .e) (o .g) (opens-reading R s r x o) m (q .v) (q .e) (q .g)
               (opens-reading R t m y q)
               (k, (l, omega (arith, item-words first f0 f1 f2 k ef, item-words last l0 l1 l2 l el)))
               ∙ ap (λ w. coverFound (isNowhere w))
-              (sym (e ∙ ap₂ (lacking (decode s) (decode t)) (item-words first f0 f1 f2 k ef) (item-words last l0 l1 l2 l el)))
+              (sym (found ∙ ap₂ (lacking (decode s) (decode t)) (item-words first f0 f1 f2 k ef) (item-words last l0 l1 l2 l el)))
 
           pub cover-yes : p ≡ O.Nowhere → E.Covers ≡ coverAnswer R s t first last
           unfolding coverFound isNowhere lackOf

@@ -31,7 +31,7 @@ use Rattle.rows.specs.declared.Least.the-variants as M
 use Rattle.rows.specs.declared.Stop.{Stop}
 use Rattle.rows.specs.declared.Stop.the-variants as N
 use Rattle.lookup.specs.Method.{keyAt, There, elementAt, elementsHere}
-use Rattle.rows.specs.Method.{Keyed, stopAt, boundOf, nearerOf, Zeros, Blank, RowOf, Filled, idFrom, levelOf, leastId}
+use Rattle.rows.specs.Method.{Keyed, stopAt, boundOf, nearerOf, Zeros, Blank, RowOf, Poured, Filled, idFrom, levelOf, leastId}
 use Rattle.lookup.proofs.Loops.{elements-zero, elements-cons, here-is}
 
 -- past the end of a list of numbers there is 0
@@ -66,29 +66,33 @@ cleared-all row₀ row k h l e = record {
 
 -- Filling
 
+row-zeros : (row : List ℕ) → Zeros row → RowOf [] row
+row-zeros row z = record { is = λ c h. z .is c ∙ sym (tick-nil c) }
+
+module _ (s : List ℕ) (vector n : ℕ) (row : List ℕ) (t : There s vector n) where
+  pub poured-nothing : Zeros row → n ≡ 0 → Poured s vector row row
+  poured-nothing z e = record {
+    is = rw (here-is s vector n t ∙ elements-zero s n (vector + 8) e) (row-zeros row z);
+    size = refl;
+  }
+
+  pub poured-all : (row₀ : List ℕ) (left at : ℕ) → RowOf (elementsAt s (n - left) at) row → at ≡ vector + 8 + 12 * left → left ≡ 0
+      → length row ≡ length row₀
+      → Poured s vector row₀ row
+  poured-all row₀ left at r p z e =
+      let m : n - left ≡ n = omega arith in
+      let q : at ≡ vector + 8 = omega arith in
+      record { is = rw (here-is s vector n t ∙ ap₂ (λ x y. elementsAt s x y) (sym m) (sym q)) r; size = e }
+
 pub filled-same : (s : List ℕ) (before vector : ℕ) (row : List ℕ) → before ≡ vector → Filled s before vector row row
 filled-same s before vector row e = record { is = λ h. rw (← e) h; size = refl }
 
-row-blank : (row₀ row : List ℕ) → Blank row₀ row → RowOf [] row
-row-blank row₀ row b = record { is = λ c h. b .is .is c ∙ sym (tick-nil c) }
+pub filled-anew : (s : List ℕ) (before vector : ℕ) (row₀ row after : List ℕ) → Blank row₀ row → Poured s vector row after
+    → Filled s before vector row₀ after
+filled-anew s before vector row₀ row after b p = record { is = λ h. p .is; size = p .size ∙ b .size }
 
-module _ (s : List ℕ) (before vector n : ℕ) (row₀ row : List ℕ) (t : There s vector n) where
-  pub filled-nothing : Blank row₀ row → n ≡ 0 → Filled s before vector row₀ row
-  filled-nothing b e = record {
-    is = λ h. rw (here-is s vector n t ∙ elements-zero s n (vector + 8) e) (row-blank row₀ row b);
-    size = b .size;
-  }
-
-  pub filled-all : (left at : ℕ) → RowOf (elementsAt s (n - left) at) row → at ≡ vector + 8 + 12 * left → left ≡ 0
-      → length row ≡ length row₀
-      → Filled s before vector row₀ row
-  filled-all left at r p z e =
-      let m : n - left ≡ n = omega arith in
-      let q : at ≡ vector + 8 = omega arith in
-      record { is = λ h. rw (here-is s vector n t ∙ ap₂ (λ x y. elementsAt s x y) (sym m) (sym q)) r; size = e }
-
-pub row-begins : (s : List ℕ) (n at : ℕ) (row₀ row : List ℕ) → Blank row₀ row → RowOf (elementsAt s (n - n) at) row
-row-begins s n at row₀ row b = rw (elements-zero s (n - n) at (omega arith)) (row-blank row₀ row b)
+pub row-begins : (s : List ℕ) (n at : ℕ) (row : List ℕ) → Zeros row → RowOf (elementsAt s (n - n) at) row
+row-begins s n at row z = rw (elements-zero s (n - n) at (omega arith)) (row-zeros row z)
 
 -- one element more, the one at `prev`
 pub record Put (s : List ℕ) (n left prev : ℕ) (row after : List ℕ) : Type 0 where

@@ -1,113 +1,75 @@
--- Cover from stop to stop. At an item to which both cursors have come, the levels are the first knowledge's ticks of the
--- second's replicas, so the least lacking id among the elements there is the least replica that lacks. The next stop is the
--- nearer of the two next bounds: up to it nothing changes, and one cursor at least passes a range there. So the first
--- lacking place of the span is the one from the stop on (`Walks`).
-use Prim.Native.Nat.{ℕ, suc, _+_, _*_, _≤_, _<_}
+-- The walk from stop to stop, for any bytes whose ranges are all there. The cells of the row are the ticks by places, so the least
+-- lacking id is the one by places (`least-is`). The next stop is the nearer of the two next bounds, and one cursor at least passes a
+-- range there (`passes-one`); so as many steps as ranges are left are enough, and how many more are allowed makes no difference
+-- (`enough`). The loop's laws (`Walks`): the whole answer is the answer from the stop on. What it means is in FirstLacking.antt.
+use Prim.Native.Nat.{ℕ, zero, suc, _+_, _-_, _*_, _≤_, _<_}
 use mathlib.Core.Path.{_≡_, refl, sym, ap, ap₂, _∙_}
 use mathlib.Core.Logic.{_⊎_, inl, inr, ⊎-elim}
+use mathlib.Core.Bool.{Bool, true, false}
 use mathlib.Core.Option.{Option, none, some}
-use mathlib.Core.List.{List}
+use mathlib.Core.List.{List, [], _∷_}
 use native.Mathlib.Omega.{arith}
+use lib.Dec.{leb}
 use lib.ListN.{length, getD}
-use borrow.Author.Tests.{lt-ltb, le-ltb}
+use borrow.Author.Tests.{lt-ltb, le-ltb, le-leb, lt-leb, leb-true}
 use Rattle.codec.specs.Number.{beAt}
 use Rattle.codec.specs.Words.{words2, words3}
-use Rattle.codec.proofs.Total.{read-id2}
-use Rattle.layout.specs.declared.ReplicaKey.{ReplicaKey}
-use Rattle.layout.specs.Knowledge.{Rules, Lawful}
-use Rattle.layout.specs.Decode.{decode}
+use Rattle.layout.specs.Knowledge.{Element}
+use Rattle.layout.specs.Permitted.{largestReplicas}
 use Rattle.layout.specs.MethodPlaces.{idsPlace}
-use Rattle.layout.proofs.Places.{counts, id-at}
-use Rattle.ticks.specs.Meaning.{known, place, tickAt, vectorAt}
-use Rattle.ticks.specs.MethodLookup.{keyOf}
-use Rattle.ticks.specs.MethodRows.{leastOf}
-use Rattle.ticks.specs.Operations.{here, lacking}
+use Rattle.ticks.specs.MethodRows.{lesser, weigh, leastOf}
+use Rattle.ticks.specs.Operations.{Lack, nowhere, here}
 use Rattle.ticks.proofs.Lists.{less, same, more, order}
-use Rattle.ticks.proofs.Vectors.{tick-nil, tick-none}
-use Rattle.ticks.proofs.ForCode.{keys-below, known-place}
-use Rattle.ticks.proofs.ForRows.{Fine, Still, LeastLacking, idIn, least-none, least-some, lacking-on, lacking-past, lacking-here}
+use Rattle.ticks.proofs.Equality.{clash}
 use Rattle.lookup.specs.declared.Cursor.{Cursor}
-use Rattle.lookup.specs.Method.{advanced, elementsHere, Open}
-use Rattle.lookup.proofs.Leaf.{read-lawful, read-ids, ids-room, read-key, start-elements}
-use Rattle.lookup.proofs.Leaf.{Stands, stands-start, stands-advanced, stands-elements, stands-still, advanced-fewer, advanced-passes}
+use Rattle.lookup.specs.Method.{keyAt, advanced, elementsHere, tickOf}
+use Rattle.lookup.proofs.Leaf.{key-most, advanced-room, advanced-fewer, advanced-passes}
 use Rattle.rows.specs.declared.Least.{Least}
 use Rattle.rows.specs.declared.Least.the-variants as M
 use Rattle.rows.specs.declared.Stop.{Stop}
 use Rattle.rows.specs.declared.Stop.the-variants as N
+use Rattle.rows.specs.declared.Place.{Place}
 use Rattle.rows.specs.declared.Place.the-variants as O
-use Rattle.rows.specs.Method.{Keyed, stopAt, boundOf, nearerOf, Zeros, RowOf, Filled, idFrom, levelOf, leastId, lackOf}
-use Rattle.rows.proofs.Cells.{beyond, level-is}
+use Rattle.rows.specs.Method.{Keyed, stopAt, boundOf, nearerOf, RowOf, Poured, Filled, idFrom, levelOf, leastId, lackOf}
+use Rattle.rows.specs.Method.{levelAt, leastAt, walkBy, walkFrom, laidOut, LaidOut, lackingBy}
+use Rattle.rows.proofs.Cells.{level-none, level-is}
 
 -- What lacks at an item
 
-module _ (R Q : Rules) (s : List ℕ) (r : ℕ) (x : Cursor) (t : List ℕ) (m : ℕ) (y : Cursor) (i : ℕ) (keys row : List ℕ)
-    (sx : Stands R s r x (suc i)) (sy : Stands Q t m y (suc i)) (rowIs : RowOf (elementsHere s (x .vector)) row)
-    (cells : r ≤ length row) (keyed : Keyed s r t m keys) where
-  first-lawful : Lawful R (decode s)
-  first-lawful = read-lawful R s r (sx .v) (sx .e) (sx .g) (sx .reading)
+-- levels that are alike for every key find the same
+least-same : (f g id : ℕ → ℕ) → ((key : ℕ) → f key ≡ g key) → (best : Option ℕ) (es : List Element)
+    → leastOf f id best es ≡ leastOf g id best es
+unfolding leastOf weigh
+least-same f g id e best [] = refl
+least-same f g id e best (x ∷ xs) =
+    least-same f g id e (weigh f id best x) xs
+    ∙ ap (λ (l : ℕ). leastOf g id (elim (leb (x .tick) l) [ true ↦ best | false ↦ lesser best (id (x .key .0)) ]) xs) (e (x .key .0))
 
-  second-lawful : Lawful Q (decode t)
-  second-lawful = read-lawful Q t m (sy .v) (sy .e) (sy .g) (sy .reading)
+module _ (s : List ℕ) (r : ℕ) (t : List ℕ) (m : ℕ) (keys row : List ℕ) (vector : ℕ) (cells : RowOf (elementsHere s vector) row)
+    (size : r < length row) (keyed : Keyed s r t m keys) (exact : m ≡ length keys) where
+  level-inside : (key : ℕ) → key < m → levelOf keys row key ≡ levelAt s r t m vector key
+  unfolding levelAt tickOf
+  level-inside key h =
+      let id = beAt t 16 (idsPlace + 16 * key) in
+      sym (level-is keys row key (omega (arith, exact))) ∙ ap (λ c. getD row c 0) (keyed .is key h)
+      ∙ cells .is (keyAt s r id .0) (omega (arith, key-most s r id)) ∙ sym (rw (lt-ltb key m h, levelAt) refl)
 
-  first-size : length (decode s .replicas) ≡ r
-  first-size = counts R s r (sx .v) (sx .e) (sx .g) (sx .reading) .replicas
+  level-outside : (key : ℕ) → m ≤ key → levelOf keys row key ≡ levelAt s r t m vector key
+  unfolding levelAt
+  level-outside key h = sym (level-none keys row key (omega (arith, exact))) ∙ sym (rw (le-ltb key m h, levelAt) refl)
 
-  second-size : length (decode t .replicas) ≡ m
-  second-size = counts Q t m (sy .v) (sy .e) (sy .g) (sy .reading) .replicas
-
-  own-id : (key : ℕ) → key < m → idIn (decode t) key ≡ beAt t 16 (idsPlace + 16 * key)
-  own-id key h =
-      ap (λ ids. getD ids key 0) (read-ids Q t m (sy .v) (sy .e) (sy .g) (sy .reading)) ∙ id-at t m key idsPlace h
-
-  -- a cell of the row is a tick of the first
-  cell-is : (p : ℕ) → getD row (place p (decode s .replicas)) 0 ≡ known (decode s) i p
-  cell-is p =
-      let c = place p (decode s .replicas) in
-      let is : tickAt (vectorAt (decode s) i) c ≡ known (decode s) i p = sym (known-place R (decode s) first-lawful i p) in
-      let out : length row ≤ c → getD row c 0 ≡ known (decode s) i p =
-      λ h.
-      beyond row c h
-      ∙ sym (tick-none (length (decode s .replicas)) (vectorAt (decode s) i) c (keys-below R (decode s) first-lawful i)
-      (omega (arith, first-size)))
-      ∙ is in
-      elim (order c (length row)) [
-        | less h ↦ rowIs .is c h ∙ ap (λ es. tickAt es c) (stands-elements R s r x i sx) ∙ is
-        | same h ↦ out (omega arith)
-        | more h ↦ out (omega arith)
+  levels : (key : ℕ) → levelOf keys row key ≡ levelAt s r t m vector key
+  levels key =
+      elim (order key m) [
+        | less h ↦ level-inside key h
+        | same h ↦ level-outside key (omega arith)
+        | more h ↦ level-outside key (omega arith)
       ]
 
-  levels : (key : ℕ) → key < length (decode t .replicas) → levelOf keys row key ≡ known (decode s) i (idIn (decode t) key)
-  unfolding keyOf
-  levels key h =
-      let k : key < m = omega (arith, second-size) in
-      let id = beAt t 16 (idsPlace + 16 * key) in
-      sym (level-is keys row key (omega (arith, keyed .size)))
-      ∙ ap (λ c. getD row c 0)
-      (keyed .is key k ∙ ap (λ (z : ReplicaKey). z .0) (read-key R s r (sx .v) (sx .e) (sx .g) (sx .reading) id))
-      ∙ cell-is id ∙ ap (known (decode s) i) (sym (own-id key k))
-
-  ids : (key : ℕ) → key < length (decode t .replicas) → idFrom t key ≡ idIn (decode t) key
-  unfolding idFrom
-  ids key h =
-      let k : key < m = omega (arith, second-size) in
-      let room = ids-room Q t m (sy .v) (sy .e) (sy .g) (sy .reading) in
-      read-id2 t (idsPlace + 16 * key) (omega arith) ∙ sym (own-id key k)
-
-  found : (o : Option ℕ) → leastOf (levelOf keys row) (idFrom t) none (elementsHere t (y .vector)) ≡ o
-      → leastOf (levelOf keys row) (idFrom t) none (vectorAt (decode t) i) ≡ o
-  found o e = ap (leastOf (levelOf keys row) (idFrom t) none) (sym (stands-elements Q t m y i sy)) ∙ e
-
-  pub here-fine : leastOf (levelOf keys row) (idFrom t) none (elementsHere t (y .vector)) ≡ none → Fine (decode s) (decode t) i
-  here-fine e = least-none Q (decode s) (decode t) second-lawful i (levelOf keys row) (idFrom t) levels ids (found none e)
-
-  pub here-least : (p : ℕ) → leastOf (levelOf keys row) (idFrom t) none (elementsHere t (y .vector)) ≡ some p
-      → LeastLacking (decode s) (decode t) i p
-  here-least p e = least-some Q (decode s) (decode t) second-lawful i (levelOf keys row) (idFrom t) levels ids p (found (some p) e)
-
-  -- up to a stop that is at or below the next bounds both stay
-  pub here-still : (stop : ℕ) → (0 < x .left → stop ≤ beAt s 24 (x .next)) → (0 < y .left → stop ≤ beAt t 24 (y .next))
-      → Still (decode s) (decode t) i stop
-  here-still stop f g = record { first = stands-still R s r x i sx stop f; second = stands-still Q t m y i sy stop g }
+  pub least-is : (other : ℕ)
+      → leastOf (levelOf keys row) (idFrom t) none (elementsHere t other) ≡ leastAt s r t m vector other
+  unfolding leastAt
+  least-is other = least-same (levelOf keys row) (levelAt s r t m vector) (idFrom t) levels none (elementsHere t other)
 
 -- The next stop
 
@@ -136,11 +98,11 @@ bound-by s c hi =
     ]
 
 -- the nearer of two next bounds is at or below both, inside the span, and one of them
-record Next (s : List ℕ) (x : Cursor) (t : List ℕ) (y : Cursor) (hi stop : ℕ) : Type 0 where
-  inside : stop ≤ hi
-  first : 0 < x .left → stop ≤ beAt s 24 (x .next)
-  second : 0 < y .left → stop ≤ beAt t 24 (y .next)
-  passes : ((0 < x .left) × (beAt s 24 (x .next) ≡ stop)) ⊎ ((0 < y .left) × (beAt t 24 (y .next) ≡ stop))
+pub record Next (s : List ℕ) (x : Cursor) (t : List ℕ) (y : Cursor) (hi stop : ℕ) : Type 0 where
+  pub inside : stop ≤ hi
+  pub first : 0 < x .left → stop ≤ beAt s 24 (x .next)
+  pub second : 0 < y .left → stop ≤ beAt t 24 (y .next)
+  pub passes : ((0 < x .left) × (beAt s 24 (x .next) ≡ stop)) ⊎ ((0 < y .left) × (beAt t 24 (y .next) ≡ stop))
 
 some-same : (p q : ℕ) → some p ≡ some q → p ≡ q
 some-same p q e = cc
@@ -158,11 +120,11 @@ near-not p q h = rw (le-ltb q p h, nearerOf)
 
 module _ (s : List ℕ) (x : Cursor) (t : List ℕ) (y : Cursor) (hi : ℕ) where
   -- neither has a bound up to the end
-  record Last : Type 0 where
-    first : 0 < x .left → suc hi ≤ beAt s 24 (x .next)
-    second : 0 < y .left → suc hi ≤ beAt t 24 (y .next)
+  pub record Last : Type 0 where
+    pub first : 0 < x .left → suc hi ≤ beAt s 24 (x .next)
+    pub second : 0 < y .left → suc hi ≤ beAt t 24 (y .next)
 
-  next-none : nearerOf (boundOf s x hi) (boundOf t y hi) ≡ none → Last
+  pub next-none : nearerOf (boundOf s x hi) (boundOf t y hi) ≡ none → Last
   unfolding nearerOf
   next-none e = go (bound-by s x hi) (bound-by t y hi)
     where
@@ -179,7 +141,7 @@ module _ (s : List ℕ) (x : Cursor) (t : List ℕ) (y : Cursor) (hi : ℕ) wher
             | more n ↦ some-none p (sym (ap₂ nearerOf f h ∙ near-not p q (omega arith)) ∙ e)
           ]
 
-  next-some : (stop : ℕ) → nearerOf (boundOf s x hi) (boundOf t y hi) ≡ some stop → Next s x t y hi stop
+  pub next-some : (stop : ℕ) → nearerOf (boundOf s x hi) (boundOf t y hi) ≡ some stop → Next s x t y hi stop
   unfolding nearerOf
   next-some stop e = go (bound-by s x hi) (bound-by t y hi)
     where
@@ -210,105 +172,228 @@ module _ (s : List ℕ) (x : Cursor) (t : List ℕ) (y : Cursor) (hi : ℕ) wher
             | more n ↦ not (omega arith)
           ]
 
--- The walk
+-- The steps of the walk
 
-pub record Walks (s : List ℕ) (r : ℕ) (t : List ℕ) (m lo hi : ℕ) (keys row : List ℕ) (x y : Cursor) (i : ℕ) : Type 0 where
-  pub inside : i ≤ hi
-  pub is : lacking (decode s) (decode t) lo hi ≡ lacking (decode s) (decode t) i hi
-  pub rules : Rules
-  pub first : Stands rules s r x (suc i)
-  pub others : Rules
-  pub second : Stands others t m y (suc i)
+module _ (s : List ℕ) (r : ℕ) (t : List ℕ) (m hi : ℕ) (x y : Cursor) (i : ℕ) where
+  pub walk-found : (n p : ℕ) → leastAt s r t m (x .vector) (y .vector) ≡ some p → walkBy s r t m hi n x y i ≡ here i p
+  unfolding walkBy
+  walk-found zero p e = rw (e, walkBy) refl
+  walk-found (suc n) p e = rw (e, walkBy) refl
+
+  module _ (e : leastAt s r t m (x .vector) (y .vector) ≡ none) where
+    pub walk-ends : (n : ℕ) → nearerOf (boundOf s x hi) (boundOf t y hi) ≡ none → walkBy s r t m hi n x y i ≡ nowhere
+    unfolding walkBy
+    walk-ends zero f = rw (e, walkBy) refl
+    walk-ends (suc n) f = rw (e, walkBy, f) refl
+
+    pub walk-goes : (n stop : ℕ) → nearerOf (boundOf s x hi) (boundOf t y hi) ≡ some stop
+        → walkBy s r t m hi (suc n) x y i ≡ walkBy s r t m hi n (advanced s r x stop) (advanced t m y stop) stop
+    unfolding walkBy
+    walk-goes n stop f = rw (e, walkBy, f) refl
+
+module _ (s : List ℕ) (r : ℕ) (t : List ℕ) (m hi : ℕ) where
+  -- at the next stop one range at least is passed
+  pub passes-one : (x y : Cursor) (stop : ℕ) → x .next + 28 * x .left ≤ length s → y .next + 28 * y .left ≤ length t
+      → nearerOf (boundOf s x hi) (boundOf t y hi) ≡ some stop
+      → advanced s r x stop .left + advanced t m y stop .left < x .left + y .left
+  passes-one x y stop a b e =
+      let n = next-some s x t y hi stop e in
+      let fu = advanced-fewer s r x stop a in
+      let fv = advanced-fewer t m y stop b in
+      let pu = advanced-passes s r x stop a in
+      let pv = advanced-passes t m y stop b in
+      ⊎-elim (λ h. omega (arith, fv, pu (h .0) (omega (arith, h .1)))) (λ h. omega (arith, fu, pv (h .0) (omega (arith, h .1))))
+      (n .passes)
+
+  -- two numbers of steps give the same where they do at each next stop
+  alike-if : (n k : ℕ) (x y : Cursor) (i : ℕ)
+      → ((stop : ℕ) → leastAt s r t m (x .vector) (y .vector) ≡ none → nearerOf (boundOf s x hi) (boundOf t y hi) ≡ some stop
+      → walkBy s r t m hi n x y i ≡ walkBy s r t m hi k x y i) → walkBy s r t m hi n x y i ≡ walkBy s r t m hi k x y i
+  alike-if n k x y i f =
+      go (leastAt s r t m (x .vector) (y .vector)) refl (nearerOf (boundOf s x hi) (boundOf t y hi)) refl
+    where
+      go : (o : Option ℕ) → leastAt s r t m (x .vector) (y .vector) ≡ o
+          → (w : Option ℕ) → nearerOf (boundOf s x hi) (boundOf t y hi) ≡ w → walkBy s r t m hi n x y i ≡ walkBy s r t m hi k x y i
+      go (some p) e w g = walk-found s r t m hi x y i n p e ∙ sym (walk-found s r t m hi x y i k p e)
+      go none e none g = walk-ends s r t m hi x y i e n g ∙ sym (walk-ends s r t m hi x y i e k g)
+      go none e (some stop) g = f stop e g
+
+  -- enough steps are enough
+  pub enough : (n k : ℕ) (x y : Cursor) (i : ℕ) → x .left + y .left ≤ n → x .left + y .left ≤ k
+      → x .next + 28 * x .left ≤ length s → y .next + 28 * y .left ≤ length t
+      → walkBy s r t m hi n x y i ≡ walkBy s r t m hi k x y i
+  enough zero k x y i hn hk a b = alike-if zero k x y i (λ stop e f. absurd (omega (arith, passes-one x y stop a b f)))
+  enough (suc n) zero x y i hn hk a b = alike-if (suc n) zero x y i (λ stop e f. absurd (omega (arith, passes-one x y stop a b f)))
+  enough (suc n) (suc k) x y i hn hk a b =
+      alike-if (suc n) (suc k) x y i
+      (λ stop e f.
+      let p = passes-one x y stop a b f in
+      walk-goes s r t m hi x y i e n stop f
+      ∙ enough n k (advanced s r x stop) (advanced t m y stop) stop (omega (arith, p)) (omega (arith, p)) (advanced-room s r x stop a)
+      (advanced-room t m y stop b)
+      ∙ sym (walk-goes s r t m hi x y i e k stop f))
+
+-- The loop
+
+pub record Walks (s : List ℕ) (r : ℕ) (t : List ℕ) (m hi : ℕ) (keys row : List ℕ) (x y : Cursor) (i : ℕ) (whole : Lack) : Type 0 where
+  pub is : whole ≡ walkBy s r t m hi (x .left + y .left) x y i
+  pub first : x .next + 28 * x .left ≤ length s
+  pub second : y .next + 28 * y .left ≤ length t
   pub cells : RowOf (elementsHere s (x .vector)) row
-  pub size : r ≤ length row
+  pub size : r < length row
   pub keyed : Keyed s r t m keys
+  pub exact : m ≡ length keys
 
-module _ (s : List ℕ) (r : ℕ) (from : Cursor) (t : List ℕ) (m : ℕ) (begin : Cursor) (lo hi : ℕ) (keys row after : List ℕ) (x y : Cursor) where
-  pub walk-starts : Open s r from → Open t m begin → Keyed s r t m keys → Zeros row → r ≤ length row → lo ≤ hi
-      → x ≡ advanced s r from lo → y ≡ advanced t m begin lo → Filled s (from .vector) (x .vector) row after
-      → Walks s r t m lo hi keys after x y lo
-  walk-starts a b k z n l e f g =
-      let R = a .rules in
-      let Q = b .rules in
-      let blank : RowOf (elementsHere s (from .vector)) row =
-      rw (start-elements R s r from (a .opens)) (record { is = λ c h. z .is c ∙ sym (tick-nil c) }) in
-      record {
-        inside = l;
-        is = refl;
-        rules = R;
-        first = rw e (stands-advanced R s r from 0 (stands-start R s r from (a .opens)) lo (omega arith));
-        others = Q;
-        second = rw f (stands-advanced Q t m begin 0 (stands-start Q t m begin (b .opens)) lo (omega arith));
-        cells = g .is blank;
-        size = omega (arith, g .size);
-        keyed = k;
-      }
+module _ (s : List ℕ) (r : ℕ) (from : Cursor) (t : List ℕ) (m : ℕ) (begin : Cursor) (lo hi : ℕ) (x y : Cursor)
+    (ex : x ≡ advanced s r from lo) (ey : y ≡ advanced t m begin lo) where
+  pub walk-starts : (keys row after : List ℕ) → from .next + 28 * from .left ≤ length s
+      → begin .next + 28 * begin .left ≤ length t → Keyed s r t m keys → m ≡ length keys → r < length row → Poured s (x .vector) row after
+      → Walks s r t m hi keys after x y lo (walkBy s r t m hi (x .left + y .left) x y lo)
+  walk-starts keys row after a b k e n p = record {
+    is = refl;
+    first = rw ex (advanced-room s r from lo a);
+    second = rw ey (advanced-room t m begin lo b);
+    cells = p .is;
+    size = omega (arith, p .size);
+    keyed = k;
+    exact = e;
+  }
 
-module _ (s : List ℕ) (r : ℕ) (t : List ℕ) (m lo hi : ℕ) (keys row : List ℕ) (x y : Cursor) (i : ℕ) (w : Walks s r t m lo hi keys row x y i)
-    (least : Least) (told : leastId least ≡ leastOf (levelOf keys row) (idFrom t) none (elementsHere t (y .vector))) where
-  pub walk-here : (i0 i1 i2 p0 p1 : ℕ) → words3 i0 i1 i2 ≡ i → least ≡ M.Id p0 p1
-      → lackOf (O.Here i0 i1 i2 p0 p1) ≡ lacking (decode s) (decode t) lo hi
+  pub walk-whole : (a : Lack) → a ≡ walkBy s r t m hi (x .left + y .left) x y lo → a ≡ walkFrom s r from t m begin lo hi
+  unfolding walkFrom
+  walk-whole a e = e ∙ ap₂ (λ (u v : Cursor). walkBy s r t m hi (u .left + v .left) u v lo) ex ey
+
+module _ (s : List ℕ) (r : ℕ) (t : List ℕ) (m hi : ℕ) (keys row : List ℕ) (x y : Cursor) (i : ℕ) (whole : Lack)
+    (w : Walks s r t m hi keys row x y i whole) (least : Least)
+    (told : leastId least ≡ leastOf (levelOf keys row) (idFrom t) none (elementsHere t (y .vector))) where
+  found : leastId least ≡ leastAt s r t m (x .vector) (y .vector)
+  found = told ∙ least-is s r t m keys row (x .vector) (w .cells) (w .size) (w .keyed) (w .exact) (y .vector)
+
+  pub walk-here : (i0 i1 i2 p0 p1 : ℕ) → words3 i0 i1 i2 ≡ i → least ≡ M.Id p0 p1 → lackOf (O.Here i0 i1 i2 p0 p1) ≡ whole
   unfolding lackOf leastId
   walk-here i0 i1 i2 p0 p1 e f =
-      let g = here-least (w .rules) (w .others) s r x t m y i keys row (w .first) (w .second) (w .cells) (w .size) (w .keyed)
-      (words2 p0 p1) (sym told ∙ ap leastId f) in
-      ap (λ j. here j (words2 p0 p1)) e ∙ sym (w .is ∙ lacking-here (decode s) (decode t) i hi (words2 p0 p1) g (w .inside))
+      ap (λ j. here j (words2 p0 p1)) e
+      ∙ sym (w .is ∙ walk-found s r t m hi x y i (x .left + y .left) (words2 p0 p1) (sym found ∙ ap leastId f))
 
   module _ (none-here : least ≡ M.Nothing) (p q stop : Stop) (ep : stopAt p ≡ boundOf s x hi) (eq : stopAt q ≡ boundOf t y hi)
       (near : stopAt stop ≡ nearerOf (stopAt p) (stopAt q)) where
-    fine : Fine (decode s) (decode t) i
+    nothing : leastAt s r t m (x .vector) (y .vector) ≡ none
     unfolding leastId
-    fine =
-        here-fine (w .rules) (w .others) s r x t m y i keys row (w .first) (w .second) (w .cells) (w .size) (w .keyed)
-        (sym told ∙ ap leastId none-here)
+    nothing = sym found ∙ ap leastId none-here
 
     nearest : stopAt stop ≡ nearerOf (boundOf s x hi) (boundOf t y hi)
     nearest = near ∙ ap₂ nearerOf ep eq
 
-    still : (n : ℕ) → (0 < x .left → n ≤ beAt s 24 (x .next)) → (0 < y .left → n ≤ beAt t 24 (y .next))
-        → Still (decode s) (decode t) i n
-    still = here-still (w .rules) (w .others) s r x t m y i keys row (w .first) (w .second) (w .cells) (w .size) (w .keyed)
-
-    pub walk-past : stop ≡ N.Past → lackOf O.Nowhere ≡ lacking (decode s) (decode t) lo hi
+    pub walk-past : stop ≡ N.Past → lackOf O.Nowhere ≡ whole
     unfolding lackOf stopAt
-    walk-past e =
-        let n = next-none s x t y hi (sym nearest ∙ ap stopAt e) in
-        sym (w .is ∙ lacking-past (decode s) (decode t) i (suc hi) hi fine (still (suc hi) (n .first) (n .second)) (omega arith))
+    walk-past e = sym (w .is ∙ walk-ends s r t m hi x y i nothing (x .left + y .left) (sym nearest ∙ ap stopAt e))
 
     module _ (n0 n1 n2 : ℕ) (at : stop ≡ N.At n0 n1 n2) (u v : Cursor) (eu : u ≡ advanced s r x (words3 n0 n1 n2))
         (ev : v ≡ advanced t m y (words3 n0 n1 n2)) where
-      next : Next s x t y hi (words3 n0 n1 n2)
+      next : nearerOf (boundOf s x hi) (boundOf t y hi) ≡ some (words3 n0 n1 n2)
       unfolding stopAt
-      next = next-some s x t y hi (words3 n0 n1 n2) (sym nearest ∙ ap stopAt at)
-
-      later : suc i ≤ words3 n0 n1 n2
-      later =
-          ⊎-elim (λ h. omega (arith, w .first .ahead (h .0), h .1)) (λ h. omega (arith, w .second .ahead (h .0), h .1)) (next .passes)
-
-      pub walk-on : (after : List ℕ) → Filled s (x .vector) (u .vector) row after
-          → Walks s r t m lo hi keys after u v (words3 n0 n1 n2)
-      walk-on after f = record {
-        inside = next .inside;
-        is = w .is
-            ∙ lacking-on (decode s) (decode t) i (words3 n0 n1 n2) hi fine (still (words3 n0 n1 n2) (next .first) (next .second))
-            (omega (arith, later));
-        rules = w .rules;
-        first = rw eu (stands-advanced (w .rules) s r x (suc i) (w .first) (words3 n0 n1 n2) (omega (arith, later)));
-        others = w .others;
-        second = rw ev (stands-advanced (w .others) t m y (suc i) (w .second) (words3 n0 n1 n2) (omega (arith, later)));
-        cells = f .is (w .cells);
-        size = omega (arith, w .size, f .size);
-        keyed = w .keyed;
-      }
+      next = sym nearest ∙ ap stopAt at
 
       pub walk-less : u .left + v .left < x .left + y .left
       walk-less =
-          let l : suc i ≤ suc (words3 n0 n1 n2) = omega (arith, later) in
-          let su = ap (λ (c : Cursor). c .left) eu in
-          let sv = ap (λ (c : Cursor). c .left) ev in
-          let fu = advanced-fewer (w .rules) s r x (suc i) (w .first) (words3 n0 n1 n2) l in
-          let fv = advanced-fewer (w .others) t m y (suc i) (w .second) (words3 n0 n1 n2) l in
-          let pu = advanced-passes (w .rules) s r x (suc i) (w .first) (words3 n0 n1 n2) l in
-          let pv = advanced-passes (w .others) t m y (suc i) (w .second) (words3 n0 n1 n2) l in
-          ⊎-elim (λ h. omega (arith, su, sv, fv, pu (h .0) (omega (arith, h .1))))
-          (λ h. omega (arith, su, sv, fu, pv (h .0) (omega (arith, h .1)))) (next .passes)
+          omega (
+            arith,
+            ap (λ (c : Cursor). c .left) eu,
+            ap (λ (c : Cursor). c .left) ev,
+            passes-one s r t m hi x y (words3 n0 n1 n2) (w .first) (w .second) next,
+          )
+
+      pub walk-on : (after : List ℕ) → Filled s (x .vector) (u .vector) row after
+          → Walks s r t m hi keys after u v (words3 n0 n1 n2) whole
+      walk-on after f =
+          let j = words3 n0 n1 n2 in
+          let a = x .left + y .left in
+          let b = u .left + v .left in
+          let c : a ≡ suc (a - 1) = omega (arith, walk-less) in
+          let room-u : u .next + 28 * u .left ≤ length s = rw eu (advanced-room s r x j (w .first)) in
+          let room-v : v .next + 28 * v .left ≤ length t = rw ev (advanced-room t m y j (w .second)) in
+          record {
+            is = w .is ∙ ap (λ n. walkBy s r t m hi n x y i) c ∙ walk-goes s r t m hi x y i nothing (a - 1) j next
+                ∙ ap₂ (λ (d g : Cursor). walkBy s r t m hi (a - 1) d g j) (sym eu) (sym ev)
+                ∙ enough s r t m hi (a - 1) b u v j (omega (arith, walk-less)) (omega arith) room-u room-v;
+            first = room-u;
+            second = room-v;
+            cells = f .is (w .cells);
+            size = omega (arith, w .size, f .size);
+            keyed = w .keyed;
+            exact = w .exact;
+          }
+
+-- Laid out
+
+module _ (s : List ℕ) (r : ℕ) (c : Cursor) where
+  pub laid-many : largestReplicas < r → false ≡ laidOut s r c
+  unfolding laidOut
+  laid-many h = sym (rw (lt-leb r largestReplicas h, laidOut) refl)
+
+  module _ (small : r ≤ largestReplicas) where
+    pub laid-ids : length s < idsPlace + 16 * r → false ≡ laidOut s r c
+    unfolding laidOut
+    laid-ids h = sym (rw (le-leb r largestReplicas small, laidOut, lt-leb (idsPlace + 16 * r) (length s) h) refl)
+
+    module _ (ids : idsPlace + 16 * r ≤ length s) where
+      laid-rest : laidOut s r c ≡ leb (c .next + 28 * c .left) (length s)
+      unfolding laidOut
+      laid-rest = rw (le-leb r largestReplicas small, laidOut, le-leb (idsPlace + 16 * r) (length s) ids) refl
+
+      pub laid-before : length s < c .next → false ≡ laidOut s r c
+      laid-before h = sym (laid-rest ∙ lt-leb (c .next + 28 * c .left) (length s) (omega arith))
+
+      pub laid-ranges : c .next ≤ length s → (b : Bool) → b ≡ leb (28 * c .left) (length s - c .next) → b ≡ laidOut s r c
+      laid-ranges h b e =
+          elim (order (length s) (c .next + 28 * c .left)) [
+            | less l ↦
+                e ∙ lt-leb (28 * c .left) (length s - c .next) (omega arith)
+                ∙ sym (laid-rest ∙ lt-leb (c .next + 28 * c .left) (length s) l)
+            | same l ↦ fits (omega arith)
+            | more l ↦ fits (omega arith)
+          ]
+        where
+          fits : c .next + 28 * c .left ≤ length s → b ≡ laidOut s r c
+          fits l =
+              e ∙ le-leb (28 * c .left) (length s - c .next) (omega arith)
+              ∙ sym (laid-rest ∙ le-leb (c .next + 28 * c .left) (length s) l)
+
+  pub laid-all : LaidOut s r c → laidOut s r c ≡ true
+  laid-all l = laid-rest (l .small) (l .ids) ∙ le-leb (c .next + 28 * c .left) (length s) (l .ranges)
+
+  -- part by part
+  pub laid-parts : (b : Bool) → b ≡ laidOut s r c → b ≡ true → LaidOut s r c
+  laid-parts b e f =
+      let t : laidOut s r c ≡ true = sym e ∙ f in
+      let small : r ≤ largestReplicas =
+      elim (order largestReplicas r) [
+        | less h ↦ clash (laidOut s r c) t (sym (laid-many h))
+        | same h ↦ omega arith
+        | more h ↦ omega arith
+      ] in
+      let ids : idsPlace + 16 * r ≤ length s =
+      elim (order (length s) (idsPlace + 16 * r)) [
+        | less h ↦ clash (laidOut s r c) t (sym (laid-ids small h))
+        | same h ↦ omega arith
+        | more h ↦ omega arith
+      ] in
+      record { small = small; ids = ids; ranges = leb-true (c .next + 28 * c .left) (length s) (sym (laid-rest small ids) ∙ t) }
+
+-- The whole
+
+module _ (s : List ℕ) (r : ℕ) (from : Cursor) (t : List ℕ) (m : ℕ) (begin : Cursor) (lo hi : ℕ) (a : Bool)
+    (ea : a ≡ laidOut s r from) where
+  pub lacks-first : a ≡ false → lackOf O.Nowhere ≡ lackingBy s r from t m begin lo hi
+  unfolding lackOf lackingBy
+  lacks-first f = sym (rw (sym ea ∙ f, lackingBy) refl)
+
+  module _ (fa : a ≡ true) (b : Bool) (eb : b ≡ laidOut t m begin) where
+    pub lacks-second : b ≡ false → lackOf O.Nowhere ≡ lackingBy s r from t m begin lo hi
+    unfolding lackOf lackingBy
+    lacks-second f = sym (rw (sym ea ∙ fa, lackingBy, sym eb ∙ f) refl)
+
+    pub lacks-whole : (p : Place) → b ≡ true → lackOf p ≡ walkFrom s r from t m begin lo hi
+        → lackOf p ≡ lackingBy s r from t m begin lo hi
+    unfolding lackingBy
+    lacks-whole p f e = e ∙ sym (rw (sym ea ∙ fa, lackingBy, sym eb ∙ f) refl)

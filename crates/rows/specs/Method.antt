@@ -1,15 +1,17 @@
 -- The method of the rows, by places, for any bytes: nothing here is to be believed. The laws show that for bytes that the
--- check accepts cover answers as defined. The cursor and the keys are lookup's.
-use Rattle.codec.specs.Prelude.{ℕ, _+_, _*_, _≤_, _<_, _≡_, true, false, Option, none, some, List, ltb, length, getD}
+-- check accepts the first lacking place is the defined one, and that cover answers as defined. The cursor and the keys are lookup's.
+use Rattle.codec.specs.Prelude.{ℕ, zero, suc, _+_, _*_, _≤_, _<_, _≡_, Bool, true, false, Option, none, some, List, ltb, leb, length, getD}
 use Rattle.codec.specs.Number.{beAt}
 use Rattle.codec.specs.Total.{readAt}
 use Rattle.codec.specs.Words.{words2, words3}
 use Rattle.layout.specs.Knowledge.{Element}
+use Rattle.layout.specs.Permitted.{largestReplicas}
 use Rattle.layout.specs.MethodPlaces.{idsPlace}
 use Rattle.ticks.specs.Meaning.{tickAt}
+use Rattle.ticks.specs.MethodRows.{leastOf}
 use Rattle.ticks.specs.Operations.{Lack, nowhere, here}
 use Rattle.lookup.specs.declared.Cursor.{Cursor}
-use Rattle.lookup.specs.Method.{keyAt, elementsHere}
+use Rattle.lookup.specs.Method.{keyAt, advanced, elementsHere, tickOf}
 use Rattle.rows.specs.declared.Least.{Least}
 use Rattle.rows.specs.declared.Least.the-variants as M
 use Rattle.rows.specs.declared.Stop.{Stop}
@@ -58,6 +60,11 @@ pub record Blank (row after : List ℕ) : Type 0 where
 pub record RowOf (es : List Element) (row : List ℕ) : Type 0 where
   pub is : (c : ℕ) → c < length row → getD row c 0 ≡ tickAt es c
 
+-- a row has the ticks of the vector at a place
+pub record Poured (s : List ℕ) (vector : ℕ) (row after : List ℕ) : Type 0 where
+  pub is : RowOf (elementsHere s vector) after
+  pub size : length after ≡ length row
+
 -- where a row had the ticks of the vector at one place, it has those of the vector at another
 pub record Filled (s : List ℕ) (before vector : ℕ) (row after : List ℕ) : Type 0 where
   pub is : RowOf (elementsHere s before) row → RowOf (elementsHere s vector) after
@@ -76,6 +83,59 @@ levelOf keys row key = elim (ltb key (length keys)) [ true ↦ getD row (getD ke
 unfoldable pub leastId : Least → Option ℕ
 leastId M.Nothing = none
 leastId (M.Id x y) = some (words2 x y)
+
+-- the tick in s, in the vector at a place, for a key of t: the ids of both are compared
+unfoldable pub levelAt : List ℕ → ℕ → List ℕ → ℕ → ℕ → ℕ → ℕ
+levelAt s r t m vector key =
+    elim (ltb key m) [ true ↦ tickOf s vector (keyAt s r (beAt t 16 (idsPlace + 16 * key))) | false ↦ 0 ]
+
+-- the least id of an element of t's vector at a place whose tick is above the one in s's vector at another
+unfoldable pub leastAt : List ℕ → ℕ → List ℕ → ℕ → ℕ → ℕ → Option ℕ
+leastAt s r t m vector other = leastOf (levelAt s r t m vector) (idFrom t) none (elementsHere t other)
+
+-- The first lacking place
+
+-- from an item on, to which both cursors have come, in at most n steps more: from stop to stop up to the last item
+unfoldable pub walkBy : List ℕ → ℕ → List ℕ → ℕ → ℕ → ℕ → Cursor → Cursor → ℕ → Lack
+walkBy s r t m last zero x y i = elim (leastAt s r t m (x .vector) (y .vector)) [ some p ↦ here i p | none ↦ nowhere ]
+walkBy s r t m last (suc n) x y i =
+    elim (leastAt s r t m (x .vector) (y .vector)) [
+      | some p ↦ here i p
+      | none ↦
+          elim (nearerOf (boundOf s x last) (boundOf t y last)) [
+            | some stop ↦ walkBy s r t m last n (advanced s r x stop) (advanced t m y stop) stop
+            | none ↦ nowhere
+          ]
+    ]
+
+-- from the first item of a span on, to which both cursors are moved; each step passes a range
+unfoldable pub walkFrom : List ℕ → ℕ → Cursor → List ℕ → ℕ → Cursor → ℕ → ℕ → Lack
+walkFrom s r from t m begin first last =
+    let x = advanced s r from first in
+    let y = advanced t m begin first in
+    walkBy s r t m last (x .left + y .left) x y first
+
+-- no more replicas than the largest scratch has room for, and all ids and ranges there
+unfoldable pub laidOut : List ℕ → ℕ → Cursor → Bool
+laidOut s r c =
+    elim (leb r largestReplicas) [
+      | true ↦ elim (leb (idsPlace + 16 * r) (length s)) [ true ↦ leb (c .next + 28 * c .left) (length s) | false ↦ false ]
+      | false ↦ false
+    ]
+
+-- the same, part by part
+pub record LaidOut (s : List ℕ) (r : ℕ) (c : Cursor) : Type 0 where
+  pub small : r ≤ largestReplicas
+  pub ids : idsPlace + 16 * r ≤ length s
+  pub ranges : c .next + 28 * c .left ≤ length s
+
+-- the first place of a span where the knowledge of s knows less than that of t; nowhere where one of them is not laid out
+unfoldable pub lackingBy : List ℕ → ℕ → Cursor → List ℕ → ℕ → Cursor → ℕ → ℕ → Lack
+lackingBy s r from t m begin first last =
+    elim (laidOut s r from) [
+      | true ↦ elim (laidOut t m begin) [ true ↦ walkFrom s r from t m begin first last | false ↦ nowhere ]
+      | false ↦ nowhere
+    ]
 
 unfoldable pub lackOf : Place → Lack
 lackOf O.Nowhere = nowhere

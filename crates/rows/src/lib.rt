@@ -1,4 +1,4 @@
-// Rows of ticks in the bytes of a knowledge, and cover.
+// Rows of ticks in the bytes of a knowledge, the first place where one knowledge lacks a tick of another, and cover.
 //
 // Every public function is total. An item id is three words and a replica id two, the highest first. The keys of two
 // knowledges meet through their ids only.
@@ -15,12 +15,11 @@ ghost use Rattle.codec.specs.Number.{beAt};
 ghost use Rattle.codec.specs.Words.{words2, words3};
 ghost use Rattle.layout.specs.Knowledge.{Rules, basic};
 ghost use Rattle.layout.specs.Permitted.{rulesWithin};
-ghost use Rattle.layout.specs.Decode.{decode};
 ghost use Rattle.ticks.specs.MethodRows.{lesser, weigh, leastOf};
-ghost use Rattle.ticks.specs.Operations.{lacking};
 ghost use Rattle.ticks.specs.Calls.{coverAnswer};
 ghost use Rattle.lookup.specs.Method.{elementAt, elementsHere, Opens, Open};
-ghost use Rattle.rows.specs.Method.{idFrom, levelOf, leastId, Blank, Zeros, Filled, Keyed, stopAt, boundOf, nearerOf, lackOf};
+ghost use Rattle.rows.specs.Method.{idFrom, levelOf, leastId, Blank, Zeros, Poured, Filled, Keyed, stopAt, boundOf, nearerOf, lackOf};
+ghost use Rattle.rows.specs.Method.{laidOut, LaidOut, walkFrom, lackingBy};
 
 // the place of the replica ids
 const IDS: usize = 27;
@@ -135,15 +134,12 @@ fn clear(row: &mut [u64])
     }
 }
 
-// The ticks of the elements of the vector at a place, each in the cell of its key, from the last one to the first. The row
-// was filled from the vector at another place, or the same.
-fn fill(s: &[u8], before: usize, vector: usize, row: &mut [u64])
-    ensures { λ _. ⌜ Filled (now (s .entry)) before vector (now (row .entry)) (now (row .exit)) ⌝ }
+// The ticks of the elements of the vector at a place, each in the cell of its key, from the last one to the first, in a row that
+// is clear.
+fn pour(s: &[u8], vector: usize, row: &mut [u64])
+    requires { ⌜ Zeros (now row) ⌝ }
+    ensures { λ _. ⌜ Poured (now (s .entry)) vector (now (row .entry)) (now (row .exit)) ⌝ }
 {
-    if before == vector {
-        return;
-    }
-    clear(row);
     let n = lookup::elements_at(s, vector);
     if n == 0 {
         return;
@@ -158,6 +154,17 @@ fn fill(s: &[u8], before: usize, vector: usize, row: &mut [u64])
         }
         left -= 1;
     }
+}
+
+// The same in a row that was filled from the vector at another place, or the same.
+fn fill(s: &[u8], before: usize, vector: usize, row: &mut [u64])
+    ensures { λ _. ⌜ Filled (now (s .entry)) before vector (now (row .entry)) (now (row .exit)) ⌝ }
+{
+    if before == vector {
+        return;
+    }
+    clear(row);
+    pour(s, vector, row);
 }
 
 // ---- what lacks at an item
@@ -262,7 +269,23 @@ fn least_lacking(t: &[u8], vector: usize, keys: &[u32], row: &[u64]) -> Least
     best
 }
 
-// ---- cover
+// ---- the first lacking place
+
+// Is there room for the replicas, and are all ids and ranges there.
+fn laid_out(s: &[u8], r: u32, c: Cursor) -> bool
+    ensures { λ b. ⌜ b ≡ laidOut (now (s .entry)) r c ⌝ }
+{
+    if layout::LARGEST_REPLICAS < r {
+        return false;
+    }
+    if s.len() < IDS + 16 * (r as usize) {
+        return false;
+    }
+    if s.len() < c.next {
+        return false;
+    }
+    28 * (c.left as usize) <= s.len() - c.next
+}
 
 // The first place of a span where the knowledge of s knows less than that of t, with a key among those of s for each of t,
 // and a row that is clear. Item by item: at the first one, and at each bound of either up to the last.
@@ -282,14 +305,13 @@ fn walk(
     keys: &[u32],
     row: &mut [u64],
 ) -> Place
-    requires { ⌜ (Open (now s) r from) × (Open (now t) m begin)
-        × (Keyed (now s) r (now t) m (now keys)) × (Zeros (now row)) × (r ≤ length (now row))
-        × (words3 f0 f1 f2 ≤ words3 l0 l1 l2) ⌝ }
-    ensures { λ a. ⌜ lackOf a ≡ lacking (decode (now (s .entry))) (decode (now (t .entry))) (words3 f0 f1 f2) (words3 l0 l1 l2) ⌝ }
+    requires { ⌜ (from .next + 28 * from .left ≤ length (now s)) × (begin .next + 28 * begin .left ≤ length (now t))
+        × (Keyed (now s) r (now t) m (now keys)) × (m ≡ length (now keys)) × (Zeros (now row)) × (r < length (now row)) ⌝ }
+    ensures { λ a. ⌜ lackOf a ≡ walkFrom (now (s .entry)) r from (now (t .entry)) m begin (words3 f0 f1 f2) (words3 l0 l1 l2) ⌝ }
 {
     let mut x = lookup::advance(s, r, from, f0, f1, f2);
     let mut y = lookup::advance(t, m, begin, f0, f1, f2);
-    fill(s, from.vector, x.vector, row);
+    pour(s, x.vector, row);
     let mut i0 = f0;
     let mut i1 = f1;
     let mut i2 = f2;
@@ -313,7 +335,7 @@ fn walk(
 }
 
 // The same, with scratch for the keys and the row.
-fn lacking(
+fn search(
     s: &[u8],
     r: u32,
     from: Cursor,
@@ -327,8 +349,8 @@ fn lacking(
     l1: u64,
     l2: u64,
 ) -> Place
-    requires { ⌜ (Open (now s) r from) × (Open (now t) m begin) × (words3 f0 f1 f2 ≤ words3 l0 l1 l2) ⌝ }
-    ensures { λ a. ⌜ lackOf a ≡ lacking (decode (now (s .entry))) (decode (now (t .entry))) (words3 f0 f1 f2) (words3 l0 l1 l2) ⌝ }
+    requires { ⌜ (LaidOut (now s) r from) × (LaidOut (now t) m begin) ⌝ }
+    ensures { λ a. ⌜ lackOf a ≡ walkFrom (now (s .entry)) r from (now (t .entry)) m begin (words3 f0 f1 f2) (words3 l0 l1 l2) ⌝ }
 {
     let mut keys = [0u32; CELLS];
     let mut row = [0u64; CELLS];
@@ -350,6 +372,34 @@ fn lacking(
         &mut row,
     )
 }
+
+// The first place of a span where the knowledge of s, with its replicas and the cursor before any of its ranges, knows less than that
+// of t, both checked before; nowhere where ids or ranges are not all there.
+pub fn lacking(
+    s: &[u8],
+    r: u32,
+    from: Cursor,
+    t: &[u8],
+    m: u32,
+    begin: Cursor,
+    f0: u64,
+    f1: u64,
+    f2: u64,
+    l0: u64,
+    l1: u64,
+    l2: u64,
+) -> Place
+    ensures { λ a. ⌜ lackOf a ≡ lackingBy (now (s .entry)) r from (now (t .entry)) m begin (words3 f0 f1 f2) (words3 l0 l1 l2) ⌝ }
+{
+    if laid_out(s, r, from) {
+        if laid_out(t, m, begin) {
+            return search(s, r, from, t, m, begin, f0, f1, f2, l0, l1, l2);
+        }
+    }
+    Place::Nowhere
+}
+
+// ---- cover
 
 // Cover of two accepted knowledges, by whichever rules accept both.
 fn cover_in(

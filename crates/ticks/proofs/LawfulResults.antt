@@ -10,7 +10,9 @@ use mathlib.Core.List.{List, [], _∷_, _++_}
 use native.Mathlib.Omega.{arith, none}
 use lib.Dec.{eqb}
 use lib.ListN.{length, getD}
-use Rattle.layout.specs.Knowledge.{Rules, largestTick, Element, Range, Knowledge, All, Rising, keys, bounds, Lawful}
+use Rattle.layout.specs.Answer.{elements}
+use Rattle.layout.proofs.Forward.{encode-length}
+use Rattle.layout.specs.Knowledge.{encode, Rules, largestTick, Element, Range, Knowledge, All, Rising, keys, bounds, Lawful}
 use Rattle.layout.proofs.Parts.{LawfulId, LawfulElement, LawfulVector, LawfulRange, parts, whole}
 use Rattle.ticks.specs.Meaning.{highest, placeBy, tickAt, vectorAt, known, indices, Sound, Formed, EachUsed, emptyKnowledge, indexFrom}
 use Rattle.ticks.specs.Operations.{normalise, merge, project, raise, tooManyReplicas, tooManyRanges}
@@ -275,3 +277,8 @@ lawful-empty R h = whole R emptyKnowledge (record {
   spans = (record { size = top-below 0 (omega arith); index = omega arith }, tt);
   rising = (omega arith, tt);
 })
+
+-- and the smallest there is
+pub empty-length : length (encode emptyKnowledge) ≡ 113
+unfolding emptyKnowledge elements
+empty-length = encode-length emptyKnowledge

@@ -29,3 +29,4 @@ pub mod Settled
 pub mod Results
 pub mod ForCode
 pub mod ForRows
+pub mod Told

@@ -2,7 +2,7 @@
 -- definitions give for the answer that `check` ensures. Assumes nothing.
 use mathlib.Core.Path.{sym, _∙_}
 use borrow.Author.Needs.{needs}
-use Rattle.collector.proofs.Sizes.{number-accepted, sizes-accepted, number-refused, sizes-refused}
+use Rattle.layout.proofs.Told.{number-accepted, sizes-accepted, number-refused, sizes-refused}
 use Rattle.collector.proofs.sync_check.Statement.{statement}
 use Rattle.collector.proofs.sync_check.Tie as tie
 

@@ -2,7 +2,7 @@
 -- the answer that `contain` ensures. Assumes nothing.
 use mathlib.Core.Path.{sym, _∙_}
 use borrow.Author.Needs.{needs}
-use Rattle.collector.proofs.Values.{value-contained, value-lacking, contain-stays}
+use Rattle.ticks.proofs.Told.{value-contained, value-lacking, contain-stays}
 use Rattle.collector.proofs.sync_contain.Statement.{statement}
 use Rattle.collector.proofs.sync_contain.Tie as tie
 

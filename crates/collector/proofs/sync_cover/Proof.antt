@@ -2,7 +2,7 @@
 -- answer that `cover` ensures. Assumes nothing.
 use mathlib.Core.Path.{sym, _∙_}
 use borrow.Author.Needs.{needs}
-use Rattle.collector.proofs.Covers.{value-covers, value-lacks, cover-stays}
+use Rattle.ticks.proofs.Told.{value-covers, value-lacks, cover-stays}
 use Rattle.collector.proofs.sync_cover.Statement.{statement}
 use Rattle.collector.proofs.sync_cover.Tie as tie
 

@@ -4,7 +4,7 @@ use mathlib.Core.Path.{sym, _∙_}
 use mir.Facts.{toZ-ofZ}
 use mir.Syntax.{w64}
 use borrow.Author.Needs.{needs}
-use Rattle.collector.proofs.Values.{value-ahead, lead-stays}
+use Rattle.ticks.proofs.Told.{value-ahead, lead-stays}
 use Rattle.collector.proofs.sync_lead.Statement.{statement}
 use Rattle.collector.proofs.sync_lead.Tie as tie
 

@@ -1,63 +1,52 @@
 -- `operations::merge_many` meets its contract: scratch of the largest sizes has room.
-use Prim.Native.Nat.{_*_}
+use mathlib.Core.Path.{refl}
+use Prim.Native.Nat.{_*_, _+_}
 use native.Mathlib.Omega.{arith}
 use Rattle.tables.specs.MethodWords.{stride, mostRows}
-use Rattle.operations.proofs.Opening.{opened-few-replicas, opened-few-ranges}
-use Rattle.operations.proofs.Scratch.{table-room, plan-room}
-use borrow.Author.Needs.{needs}
+use Rattle.filling.proofs.Scratch.{table-room}
+use Rattle.operations.proofs.Scratch.{opened-few-replicas, opened-few-ranges, plan-room}
 use Rattle.operations.proofs.merge_many.Statement.{statement}
 use Rattle.operations.proofs.merge_many.Tie as tie
-use Rattle.operations.proofs.merge_many.Reads as reads
-use Rattle.operations.proofs.merge_many.Lts as lts
-use Rattle.operations.proofs.merge_in.Reads as merge-in-reads
 
--- src/lib.rt:774:9
 slice-aggregate-merge-in : tie.Need-slice-aggregate-merge-in
-slice-aggregate-merge-in c = search needs
+slice-aggregate-merge-in c = refl
 
--- src/lib.rt:775:9
 slice-aggregate-merge-in-2 : tie.Need-slice-aggregate-merge-in-2
-slice-aggregate-merge-in-2 c = search needs
+slice-aggregate-merge-in-2 c = refl
 
--- src/lib.rt:776:9
 slice-aggregate-merge-in-3 : tie.Need-slice-aggregate-merge-in-3
-slice-aggregate-merge-in-3 c = search needs
+slice-aggregate-merge-in-3 c = refl
 
--- src/lib.rt:777:9
 slice-aggregate-merge-in-4 : tie.Need-slice-aggregate-merge-in-4
-slice-aggregate-merge-in-4 c = search needs
+slice-aggregate-merge-in-4 c = refl
 
--- src/lib.rt:778:9
 slice-aggregate-merge-in-5 : tie.Need-slice-aggregate-merge-in-5
-slice-aggregate-merge-in-5 c = search needs
+slice-aggregate-merge-in-5 c = refl
 
--- src/lib.rt:779:9
 slice-aggregate-merge-in-6 : tie.Need-slice-aggregate-merge-in-6
-slice-aggregate-merge-in-6 c = search needs
+slice-aggregate-merge-in-6 c = refl
 
--- src/lib.rt:764:5
 merge-in-requires : tie.Need-merge-in-requires
 merge-in-requires c κs =
+    let a = c .before .before .before .before .before .before .before .before .before .before .args in
     let o = c .before .before .before .before .before .before .before .before .before .before .pre .0 in
     let p = c .before .before .before .before .before .before .before .before .before .before .pre .1 in
-    let r = opened-few-replicas _ _ _ _ _ o in
-    let m = opened-few-replicas _ _ _ _ _ p in
-    let g = opened-few-ranges _ _ _ _ _ o in
-    let h = opened-few-ranges _ _ _ _ _ p in (
+    let r = opened-few-replicas (a .replicas) (a .ranges) _ _ _ o in
+    let m = opened-few-replicas (a .replicas) (a .ranges) _ _ _ p in
+    let g = opened-few-ranges (a .replicas) (a .ranges) _ _ _ o in
+    let h = opened-few-ranges (a .replicas) (a .ranges) _ _ _ p in (
       o,
       p,
-      table-room _ _ (2 * stride) (3 * mostRows) (stride * mostRows) (omega (arith, r, m)) (omega (arith, g, h)) (omega (arith, r, m))
+      table-room (a .r + a .m) (a .start .left + a .begin .left + 1) (2 * stride) (3 * mostRows) (stride * mostRows) (omega (arith, r, m)) (omega (arith, g, h)) (omega (arith, r, m))
           (omega (arith, g, h)) (omega (arith, g, h)),
-      plan-room _ _ stride mostRows mostRows (omega (arith, r, m)) (omega (arith, g, h)) (omega (arith, g, h)),
+      plan-room (a .r + a .m) (a .start .left + a .begin .left + 1) stride mostRows mostRows (omega (arith, r, m)) (omega (arith, g, h)) (omega (arith, g, h)),
     )
 
--- src/lib.rt:744:1
 same-length : tie.Need-same-length
-same-length c = search needs
+same-length c = c .before .before .before .before .before .before .before .out .given
 
--- src/lib.rt:744:1
 returns : tie.Need-returns
-returns c = search needs
+returns c = c .before .before .before .before .before .before .before .before .merge-in .ensures
 
 pub merge-many-spec : {M : Type 1} → statement M
 merge-many-spec =

@@ -6,7 +6,8 @@ use Rattle.ticks.specs.Calls.{mergeReply}
 use Rattle.ticks.proofs.ForCode.{refusing}
 use Rattle.lookup.proofs.Calls.{opens-within, refuses-within}
 use Rattle.loading.proofs.Closing.{merge-second}
-use Rattle.operations.proofs.Opening.{opened-read, opened-few-ranges}
+use Rattle.operations.proofs.Scratch.{opened-few-ranges}
+use Rattle.filling.proofs.Opening.{opened-read}
 use Rattle.operations.proofs.Judged.{ended-refused}
 use borrow.Author.Needs.{needs}
 use Rattle.operations.proofs.merge_second.Statement.{statement}

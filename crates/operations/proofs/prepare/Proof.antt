@@ -1,8 +1,6 @@
 -- `operations::prepare` meets its contract: the plan of a table is judged by the limits.
-use native.Mathlib.Omega.{arith}
 use Rattle.layout.specs.Permitted.{rulesWithin}
-use Rattle.tables.specs.MethodWords.{Words}
-use Rattle.operations.proofs.Judged.{planned-prepares}
+use Rattle.operations.proofs.Judged.{planned-is}
 use borrow.Author.Needs.{needs}
 use Rattle.operations.proofs.prepare.Statement.{statement}
 use Rattle.operations.proofs.prepare.Tie as tie
@@ -34,11 +32,8 @@ same-length-3 c = search needs
 -- src/lib.rt:425:1
 returns : tie.Need-returns
 returns c =
-    let a = c .before .before .before .before .before .before .before .before .before .before .before .before .before .before .before .before .before .args in
-    let wi : Words (a .ids .now) = record { below = λ i. omega (arith, c .before .before .before .before .before .before .before .before .before .before .before .before .before .before .before .before .shared-slice-known .given i) } in
-    let wb : Words (a .bounds .now) = record { below = λ i. omega (arith, c .before .before .before .before .before .before .before .before .before .before .before .before .before .before .before .shared-slice-known2 .given i) } in
-    planned-prepares (rulesWithin (a .replicas) (a .ranges) .limits) (a .q .columns) (a .q .rows) _ _ _ _ _ _ _ _ _ _ _
-    (c .before .before .before .before .before .before .before .plan .ensures .0) (c .before .before .before .before .before .before .before .before .before .before .before .before .before .before .before .before .before .pre .0) (c .before .before .before .before .before .before .before .before .before .before .before .before .before .before .before .before .before .pre .1) (c .before .before .before .before .before .before .before .before .before .before .before .before .before .before .before .before .before .pre .2) wi wb (c .judge .ensures)
+    planned-is (rulesWithin (c .before .before .before .before .before .before .before .before .before .before .before .before .before .before .before .before .args .replicas) (c .before .before .before .before .before .before .before .before .before .before .before .before .before .before .before .before .args .ranges) .limits) _ _ _ _ _ _ _ _ _ _ _ (c .before .before .before .before .before .before .before .plan .ensures .0) (c .before .before .before .before .before .before .before .plan .ensures .1)
+    (c .judge .ensures)
 
 pub prepare-spec : {M : Type 1} → statement M
 prepare-spec =

@@ -1,51 +1,49 @@
 -- `operations::project_few` meets its contract: scratch for few rows has room.
-use Prim.Native.Nat.{_*_}
+use mathlib.Core.Path.{refl}
+use Prim.Native.Nat.{_*_, _+_}
 use native.Mathlib.Omega.{arith}
 use Rattle.tables.specs.MethodWords.{stride}
 use Rattle.operations.specs.MethodCalls.{few}
-use Rattle.operations.proofs.Opening.{opened-few-replicas}
-use Rattle.operations.proofs.Scratch.{table-room, plan-room}
-use borrow.Author.Needs.{needs}
+use Rattle.filling.proofs.Scratch.{table-room}
+use Rattle.operations.proofs.Scratch.{opened-few-replicas, plan-room}
 use Rattle.operations.proofs.project_few.Statement.{statement}
 use Rattle.operations.proofs.project_few.Tie as tie
-use Rattle.operations.proofs.project_few.Reads as reads
-use Rattle.operations.proofs.project_few.Lts as lts
-use Rattle.operations.proofs.project_in.Reads as project-in-reads
 
 slice-aggregate-project-in : tie.Need-slice-aggregate-project-in
-slice-aggregate-project-in c = search needs
+slice-aggregate-project-in c = refl
 
 slice-aggregate-project-in-2 : tie.Need-slice-aggregate-project-in-2
-slice-aggregate-project-in-2 c = search needs
+slice-aggregate-project-in-2 c = refl
 
 slice-aggregate-project-in-3 : tie.Need-slice-aggregate-project-in-3
-slice-aggregate-project-in-3 c = search needs
+slice-aggregate-project-in-3 c = refl
 
 slice-aggregate-project-in-4 : tie.Need-slice-aggregate-project-in-4
-slice-aggregate-project-in-4 c = search needs
+slice-aggregate-project-in-4 c = refl
 
 slice-aggregate-project-in-5 : tie.Need-slice-aggregate-project-in-5
-slice-aggregate-project-in-5 c = search needs
+slice-aggregate-project-in-5 c = refl
 
 slice-aggregate-project-in-6 : tie.Need-slice-aggregate-project-in-6
-slice-aggregate-project-in-6 c = search needs
+slice-aggregate-project-in-6 c = refl
 
 project-in-requires : tie.Need-project-in-requires
 project-in-requires c κs =
+    let a = c .before .before .before .before .before .before .before .before .before .before .before .args in
     let p = c .before .before .before .before .before .before .before .before .before .before .before .pre in
-    let r = opened-few-replicas _ _ _ _ _ (p .0) in (
+    let r = opened-few-replicas (a .replicas) (a .ranges) _ _ _ (p .0) in (
       p .0,
       p .1,
-      table-room _ _ (2 * stride) (3 * few) (stride * few) (omega (arith, r)) (omega (arith, p .2)) (omega (arith, r)) (omega (arith, p .2))
+      table-room (a .r) (a .start .left + 3) (2 * stride) (3 * few) (stride * few) (omega (arith, r)) (omega (arith, p .2)) (omega (arith, r)) (omega (arith, p .2))
           (omega (arith, p .2)),
-      plan-room _ _ stride few few (omega (arith, r)) (omega (arith, p .2)) (omega (arith, p .2)),
+      plan-room (a .r) (a .start .left + 3) stride few few (omega (arith, r)) (omega (arith, p .2)) (omega (arith, p .2)),
     )
 
 same-length : tie.Need-same-length
-same-length c = search needs
+same-length c = c .before .before .before .before .before .before .before .out .given
 
 returns : tie.Need-returns
-returns c = search needs
+returns c = c .before .before .before .before .before .before .before .before .project-in .ensures
 
 pub project-few-spec : {M : Type 1} → statement M
 project-few-spec =

@@ -1,50 +1,33 @@
 -- `operations::project_in` meets its contract: what is made ready is what the reply says, and so the call ends.
-use mathlib.Core.Path.{_∙_}
+use mathlib.Core.Path.{refl}
 use native.Mathlib.Omega.{arith}
-use Rattle.layout.specs.Permitted.{rulesWithin}
+use Rattle.layout.specs.Permitted.{base, rulesWithin}
 use Rattle.ticks.specs.Calls.{projectReply}
-use Rattle.ticks.proofs.ForCalls.{span-right}
-use Rattle.lookup.proofs.Calls.{opens-open}
-use Rattle.operations.proofs.Tabling.{project-ready}
-use Rattle.operations.proofs.Span.{bound-id, samples-between}
+use Rattle.operations.proofs.Ready.{project-prepares, span-rises, project-says}
 use borrow.Author.Needs.{needs}
 use Rattle.operations.proofs.project_in.Statement.{statement}
 use Rattle.operations.proofs.project_in.Tie as tie
 use Rattle.operations.proofs.project_in.Reads as reads
 use Rattle.operations.proofs.project_in.Lts as lts
-use Rattle.operations.proofs.bound_at.Reads as bound-at-reads
-use Rattle.operations.proofs.fill_span.Reads as fill-span-reads
+use Rattle.filling.proofs.fill_span.Reads as fill-span-reads
+use Rattle.filling.proofs.bound_of.Reads as bound-of-reads
 use Rattle.operations.proofs.finish.Reads as finish-reads
 use Rattle.operations.proofs.prepare.Reads as prepare-reads
 
-bound-at-requires : tie.Need-bound-at-requires
-bound-at-requires c κs = omega (arith, span-right _ _ (c .before .before .before .before .before .before .before .before .before .before .pre .1) .0)
+bound-of-requires : tie.Need-bound-of-requires
+bound-of-requires c κs = tt
 
-bound-at-requires-2 : tie.Need-bound-at-requires-2
-bound-at-requires-2 c κs = omega (arith, span-right _ _ (c .before .before .before .before .before .before .before .before .before .before .before .pre .1) .1 .0)
+bound-of-requires-2 : tie.Need-bound-of-requires-2
+bound-of-requires-2 c κs = tt
 
 fill-span-requires : tie.Need-fill-span-requires
-fill-span-requires c κs =
-    let p = c .before .before .before .before .before .before .before .before .before .before .before .before .before .before .before .pre in
-    let x = c .before .before .before .before .bound-at .ensures ∙ bound-id _ in
-    let y = c .before .before .before .bound-at2 .ensures ∙ bound-id _ in
-    (opens-open (c .before .before .before .before .before .before .before .before .before .before .before .before .before .before .before .args .replicas) (c .before .before .before .before .before .before .before .before .before .before .before .before .before .before .before .args .ranges) _ _ _ (p .0), p .2, omega (arith, span-right _ _ (p .1) .1 .1, x, y))
+fill-span-requires c κs = tt
 
 prepare-requires : tie.Need-prepare-requires
-prepare-requires c κs =
-    let p = c .before .before .before .before .before .before .before .before .before .before .before .before .before .before .before .before .before .before .before .before .before .before .before .before .before .before .before .before .pre in
-    let f = c .before .before .before .before .before .before .before .before .before .before .before .before .fill-span .ensures in (
-      omega (arith, f .columns, p .2 .columns),
-      omega (arith, f .rows, p .2 .rows),
-      record {
-        columns = omega (arith, f .columns, p .3 .columns);
-        distinct = omega (arith, f .rows, p .3 .distinct);
-        rows = omega (arith, f .rows, p .3 .rows);
-      },
-    )
+prepare-requires c κs = tt
 
 finish-requires : tie.Need-finish-requires
-finish-requires c κs = search needs
+finish-requires c κs = tt
 
 same-length : tie.Need-same-length
 same-length c = search needs
@@ -69,21 +52,25 @@ same-length-7 c = search needs
 
 returns : tie.Need-returns
 returns c =
-    let a = c .before .before .before .before .before .before .before .before .before .before .before .before .before .before .before .before .before .before .before .before .before .before .before .before .before .before .before .before .before .before .before .before .before .before .before .before .before .before .before .before .before .before .before .before .before .args in
-    let p = c .before .before .before .before .before .before .before .before .before .before .before .before .before .before .before .before .before .before .before .before .before .before .before .before .before .before .before .before .before .before .before .before .before .before .before .before .before .before .before .before .before .before .before .before .before .pre in
+    let a = c .before .before .before .before .before .before .before .before .before .before .before .before .before .before .before .before .before .before .before .before .before .before .before .before .before .before .before .before .before .before .before .before .before .before .before .before .before .before .before .before .before .before .before .before .args in
+    let h = c .before .before .before .before .before .before .before .before .before .before .before .before .before .before .before .before .before .before .before .before .before .before .before .before .before .before .before .before .before .before .before .before .before .before .before .before .before .before .before .before .before .before .before .before .pre in
     let R = rulesWithin (a .replicas) (a .ranges) in
-    let x = c .before .before .before .before .before .before .before .before .before .before .before .before .before .before .before .before .before .before .before .before .before .before .before .before .before .before .before .before .before .before .before .before .before .before .bound-at .ensures ∙ bound-id _ in
-    let y = c .before .before .before .before .before .before .before .before .before .before .before .before .before .before .before .before .before .before .before .before .before .before .before .before .before .before .before .before .before .before .before .before .before .bound-at2 .ensures ∙ bound-id _ in
+    let f = c .before .before .before .before .before .before .before .before .before .before .before .before .before .before .before .before .before .before .before .before .before .before .before .before .before .before .before .before .before .before .before .before .before .bound-of .ensures .0 in
+    let l = c .before .before .before .before .before .before .before .before .before .before .before .before .before .before .before .before .before .before .before .before .before .before .before .before .before .before .before .before .before .before .before .before .bound-of2 .ensures .0 in
     c .before .before .finish .ensures (projectReply R (a .s .now) (a .first .now) (a .last .now))
-    (project-ready R _ _ _ (p .0) _ _ _ _ _ _ _ _ _ _ (c .before .before .before .before .before .before .before .before .before .before .before .before .before .before .before .before .prepare .ensures) (a .first .now) (a .last .now) (p .1)
-    (samples-between _ _ _ _ _ _ _ _ _ _ _ x y (c .before .before .before .before .before .before .before .before .before .before .before .before .before .before .before .before .before .before .before .before .before .before .before .before .before .before .before .before .before .fill-span .ensures)))
+    (project-says R _ _ _ (h .0) _ _ _ _ _ _ _ (a .first .now) (a .last .now) (h .1) _ _ f l
+    (project-prepares (a .replicas) (a .ranges) (base .records) R refl _ _ _ _ _ _ _ _ _ _ _ (c .before .before .before .before .before .before .before .before .before .before .before .before .before .before .before .before .prepare .ensures)
+    (record { below = λ i. omega (arith, c .before .before .before .before .before .before .before .before .before .before .before .before .before .before .before .before .before .before .before .before .before .before .before .before .before .before .slice-known8 .given i) })
+    (record { below = λ i. omega (arith, c .before .before .before .before .before .before .before .before .before .before .before .before .before .before .before .before .before .before .before .before .before .before .before .before .slice-known9 .given i) }) _ _ _ _ _ _ (h .0) _ _
+    (c .before .before .before .before .before .before .before .before .before .before .before .before .before .before .before .before .before .before .before .before .before .before .before .before .before .before .before .before .fill-span .ensures) (h .2) (h .3) (c .before .before .before .before .before .before .before .before .before .before .before .before .before .before .before .before .before .before .before .before .before .before .before .before .before .before .before .before .before .before .before .before .bound-of2 .ensures .1)
+    (span-rises (a .first .now) (a .last .now) (h .1) _ _ f l)))
 
 pub project-in-spec : {M : Type 1} → statement M
 project-in-spec =
     tie.close
     (tie.spec
-    bound-at-requires
-    bound-at-requires-2
+    bound-of-requires
+    bound-of-requires-2
     fill-span-requires
     prepare-requires
     finish-requires

@@ -3,9 +3,6 @@ use Rattle.ranges.proofs.Ranges.{alike-is}
 use Rattle.ranges.proofs.own_alike.Statement.{statement}
 use Rattle.ranges.proofs.own_alike.Tie as tie
 
-start-requires : tie.Need-start-requires
-start-requires c κs = tt
-
 key-of-requires : tie.Need-key-of-requires
 key-of-requires c κs = tt
 
@@ -20,15 +17,13 @@ alike-requires c κs = tt
 
 returns : tie.Need-returns
 returns c =
-    alike-is _ _ _ _ _ _ _ _ _ _ _ (c .before .before .before .before .start .ensures)
-    (c .before .before .before .key-of .ensures) (c .before .before .advance .ensures) (c .before .tick-at .ensures)
-    (c .alike .ensures)
+    alike-is _ _ _ _ _ _ _ _ (c .before .before .before .key-of .ensures) (c .before .before .advance .ensures)
+    (c .before .tick-at .ensures) (c .alike .ensures)
 
 pub own-alike-spec : {M : Type 1} → statement M
 own-alike-spec =
     tie.close
     (tie.spec
-    start-requires
     key-of-requires
     advance-requires
     tick-at-requires

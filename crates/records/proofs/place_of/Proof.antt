@@ -1,12 +1,12 @@
--- `records::place_of` meets its contract. The loop's invariant: what is found from the first place on is what is found from the
--- present place on.
+-- `records::place_of` meets its contract. The loop's invariant: the place of the item's record among all records is the one among those
+-- that are left.
 use Prim.Native.Nat.{_-_}
+use lib.ListN.{length}
 use mathlib.Core.Path.{_≡_, refl}
 use native.Mathlib.Omega.{arith}
-use lib.ListN.{length}
 use Rattle.codec.specs.Words.{words3}
 use Rattle.replication.specs.Queries.{places, placeOf}
-use Rattle.records.proofs.Finding.{search-past, search-end, search-found, search-on, search-later}
+use Rattle.records.proofs.Finding.{length-at, length-inside, search-past, search-end, search-found, search-on}
 use Rattle.records.proofs.place_of.Statement.{statement}
 use Rattle.records.proofs.place_of.Tie as tie
 
@@ -19,34 +19,33 @@ abbrev μ-loop : tie.MeasureT-loop
 loop-holds : tie.Need-loop-holds Inv-loop μ-loop
 loop-holds c = refl
 
-whole-requires : tie.Need-whole-requires Inv-loop μ-loop
-whole-requires c κs = tt
+length-at-requires : tie.Need-length-at-requires Inv-loop μ-loop
+length-at-requires c κs = tt
 
 returns : tie.Need-returns Inv-loop μ-loop
-returns c = search-end _ _ _ _ (c .before .before .before .loop .inv) _ (c .before .whole .ensures) (c .if1 .left)
+returns c = search-end _ _ _ _ (c .before .before .before .loop .inv) _ (c .before .length-at .ensures) (c .if1 .taken)
 
 has-item-requires : tie.Need-has-item-requires Inv-loop μ-loop
-has-item-requires c κs = tt
+has-item-requires c κs = length-at _ _ _ (c .before .length-at .ensures) (c .if1 .left)
 
 returns-2 : tie.Need-returns-2 Inv-loop μ-loop
 returns-2 c =
     search-found _ _ _ _ (c .before .before .before .before .before .loop .inv) _
-    (c .before .before .before .whole .ensures) (c .before .before .if1 .taken) _ (c .before .has-item .ensures)
+    (c .before .before .before .length-at .ensures) (c .before .before .if1 .left) _ (c .before .has-item .ensures)
     (c .if2 .taken)
 
-behind-requires : tie.Need-behind-requires Inv-loop μ-loop
-behind-requires c κs = tt
+add-p : tie.Need-add-p Inv-loop μ-loop
+add-p c =
+    omega (arith, length-inside _ _ _ (c .before .before .before .length-at .ensures) (c .before .before .if1 .left))
 
 loop-less : tie.Need-loop-less Inv-loop μ-loop
-loop-less c =
-    omega
-    (arith, search-later _ _ _ _ (c .before .before .before .before .whole .ensures) (c .before .before .before .if1 .taken) (c .behind .ensures))
+loop-less c = omega arith
 
 loop-again : tie.Need-loop-again Inv-loop μ-loop
 loop-again c =
-    search-on _ _ _ _ (c .before .before .before .before .before .before .loop .inv) _
-    (c .before .before .before .before .whole .ensures) (c .before .before .before .if1 .taken) _
-    (c .before .before .has-item .ensures) _ (c .behind .ensures) (c .before .if2 .left)
+    search-on _ _ _ _ (c .before .before .before .before .before .loop .inv) _
+    (c .before .before .before .length-at .ensures) (c .before .before .if1 .left) _ (c .before .has-item .ensures)
+    (c .if2 .left)
 
 returns-3 : tie.Need-returns-3 Inv-loop μ-loop
 returns-3 c = search-past _ _ _ _ (c .before .loop .inv) (omega arith)
@@ -58,11 +57,11 @@ place-of-spec =
     Inv-loop
     μ-loop
     loop-holds
-    whole-requires
+    length-at-requires
     returns
     has-item-requires
     returns-2
-    behind-requires
+    add-p
     loop-less
     loop-again
     returns-3)

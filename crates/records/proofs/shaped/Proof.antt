@@ -1,9 +1,10 @@
 -- `records::shaped` meets its contract. The loop's invariant: the check of all records is the check of those that are left, above
 -- the last item.
-use mathlib.Core.Path.{_≡_, sym, _∙_}
+use mathlib.Core.Path.{_≡_}
 use native.Mathlib.Omega.{arith}
 use Rattle.replication.specs.MethodRecords.{shapedAt}
 use Rattle.records.specs.Method.{least}
+use Rattle.records.proofs.Finding.{length-at, length-inside}
 use Rattle.records.proofs.Shape.{shape-all, shape-end, shape-stop, shape-low, shape-invalid, shape-on}
 use Rattle.records.proofs.shaped.Statement.{statement}
 use Rattle.records.proofs.shaped.Tie as tie
@@ -17,54 +18,50 @@ abbrev μ-loop : tie.MeasureT-loop
 loop-holds : tie.Need-loop-holds Inv-loop μ-loop
 loop-holds c = shape-all _ _ _ _ _ _
 
-whole-requires : tie.Need-whole-requires Inv-loop μ-loop
-whole-requires c κs = tt
+length-at-requires : tie.Need-length-at-requires Inv-loop μ-loop
+length-at-requires c κs = tt
 
 returns : tie.Need-returns Inv-loop μ-loop
 returns c =
     shape-stop _ _ _ _ _ _ (c .before .before .before .loop .inv) (c .before .before .loop-test .taken) _
-    (c .before .whole .ensures) (c .if1 .left)
+    (c .before .length-at .ensures) (c .if1 .taken)
 
-item-0-requires : tie.Need-item-0-requires Inv-loop μ-loop
-item-0-requires c κs = tt
+add-item-there : tie.Need-add-item-there Inv-loop μ-loop
+add-item-there c = omega (arith, length-at _ _ _ (c .before .length-at .ensures) (c .if1 .left) .item)
 
-item-1-requires : tie.Need-item-1-requires Inv-loop μ-loop
-item-1-requires c κs = tt
-
-item-2-requires : tie.Need-item-2-requires Inv-loop μ-loop
-item-2-requires c κs = tt
+item-there-requires : tie.Need-item-there-requires Inv-loop μ-loop
+item-there-requires c κs = length-at _ _ _ (c .before .length-at .ensures) (c .if1 .left) .item
 
 rises-requires : tie.Need-rises-requires Inv-loop μ-loop
 rises-requires c κs = tt
 
 returns-2 : tie.Need-returns-2 Inv-loop μ-loop
 returns-2 c =
-    shape-low _ _ _ _ _ _ (c .before .before .before .before .before .before .before .before .loop .inv)
-    (c .before .before .before .before .before .before .before .loop-test .taken) _
-    (c .before .before .before .before .before .before .whole .ensures)
-    (c .before .before .before .before .before .if1 .taken) _ _ _ (c .before .before .before .before .item-0 .ensures)
-    (c .before .before .before .item-1 .ensures) (c .before .before .item-2 .ensures) _ (c .before .rises .ensures)
-    (c .if2 .left)
+    shape-low _ _ _ _ _ _ (c .before .before .before .before .before .before .loop .inv)
+    (c .before .before .before .before .before .loop-test .taken) _
+    (c .before .before .before .before .length-at .ensures) (c .before .before .before .if1 .left) _ _ _
+    (c .before .before .item-there .ensures) _ (c .before .rises .ensures) (c .if2 .left)
 
 valid-requires : tie.Need-valid-requires Inv-loop μ-loop
 valid-requires c κs =
-    sym (c .before .before .before .before .before .before .whole .ensures) ∙ c .before .before .before .before
-    .before .if1 .taken
+    length-at _ _ _ (c .before .before .before .before .length-at .ensures) (c .before .before .before .if1 .left)
 
 returns-3 : tie.Need-returns-3 Inv-loop μ-loop
 returns-3 c =
-    shape-invalid _ _ _ _ _ _
-    (c .before .before .before .before .before .before .before .before .before .before .loop .inv)
-    (c .before .before .before .before .before .before .before .before .before .loop-test .taken) _
-    (c .before .before .before .before .before .before .before .before .whole .ensures)
-    (c .before .before .before .before .before .before .before .if1 .taken) _ _ _
-    (c .before .before .before .before .before .before .item-0 .ensures)
-    (c .before .before .before .before .before .item-1 .ensures) (c .before .before .before .before .item-2 .ensures)
-    _ (c .before .before .before .rises .ensures) (c .before .before .if2 .taken) _ (c .before .valid .ensures)
-    (c .if3 .left)
+    shape-invalid _ _ _ _ _ _ (c .before .before .before .before .before .before .before .before .loop .inv)
+    (c .before .before .before .before .before .before .before .loop-test .taken) _
+    (c .before .before .before .before .before .before .length-at .ensures)
+    (c .before .before .before .before .before .if1 .left) _ _ _
+    (c .before .before .before .before .item-there .ensures) _ (c .before .before .before .rises .ensures)
+    (c .before .before .if2 .taken) _ (c .before .valid .ensures) (c .if3 .left)
 
-behind-requires : tie.Need-behind-requires Inv-loop μ-loop
-behind-requires c κs = tt
+add-p : tie.Need-add-p Inv-loop μ-loop
+add-p c =
+    omega (
+      arith,
+      length-inside _ _ _ (c .before .before .before .before .before .before .length-at .ensures)
+          (c .before .before .before .before .before .if1 .left),
+    )
 
 sub-left : tie.Need-sub-left Inv-loop μ-loop
 sub-left c = omega arith
@@ -74,16 +71,12 @@ loop-less c = omega arith
 
 loop-again : tie.Need-loop-again Inv-loop μ-loop
 loop-again c =
-    shape-on _ _ _ _ _ _
-    (c .before .before .before .before .before .before .before .before .before .before .before .loop .inv)
-    (c .before .before .before .before .before .before .before .before .before .before .loop-test .taken) _
-    (c .before .before .before .before .before .before .before .before .before .whole .ensures)
-    (c .before .before .before .before .before .before .before .before .if1 .taken) _ _ _
-    (c .before .before .before .before .before .before .before .item-0 .ensures)
-    (c .before .before .before .before .before .before .item-1 .ensures)
-    (c .before .before .before .before .before .item-2 .ensures) _ (c .before .before .before .before .rises .ensures)
-    (c .before .before .before .if2 .taken) _ (c .before .before .valid .ensures) (c .before .if3 .taken) _
-    (c .behind .ensures)
+    shape-on _ _ _ _ _ _ (c .before .before .before .before .before .before .before .before .loop .inv)
+    (c .before .before .before .before .before .before .before .loop-test .taken) _
+    (c .before .before .before .before .before .before .length-at .ensures)
+    (c .before .before .before .before .before .if1 .left) _ _ _
+    (c .before .before .before .before .item-there .ensures) _ (c .before .before .before .rises .ensures)
+    (c .before .before .if2 .taken) _ (c .before .valid .ensures) (c .if3 .taken)
 
 returns-4 : tie.Need-returns-4 Inv-loop μ-loop
 returns-4 c = shape-end _ _ _ _ _ _ (c .before .loop .inv) (omega arith)
@@ -95,16 +88,15 @@ shaped-spec =
     Inv-loop
     μ-loop
     loop-holds
-    whole-requires
+    length-at-requires
     returns
-    item-0-requires
-    item-1-requires
-    item-2-requires
+    add-item-there
+    item-there-requires
     rises-requires
     returns-2
     valid-requires
     returns-3
-    behind-requires
+    add-p
     sub-left
     loop-less
     loop-again

@@ -5,45 +5,48 @@ use borrow.Author.Needs.{needs}
 use Rattle.records.proofs.valid.Statement.{statement}
 use Rattle.records.proofs.valid.Tie as tie
 
-create-tick-requires : tie.Need-create-tick-requires
-create-tick-requires c κs = search needs
+add-eight : tie.Need-add-eight
+add-eight c = search needs
 
-change-tick-requires : tie.Need-change-tick-requires
-change-tick-requires c κs = search needs
+eight-requires : tie.Need-eight-requires
+eight-requires c κs = search needs
+
+add-eight-2 : tie.Need-add-eight-2
+add-eight-2 c = search needs
+
+eight-requires-2 : tie.Need-eight-requires-2
+eight-requires-2 c κs = search needs
 
 returns : tie.Need-returns
-returns c =
-    valid-zero _ _ (c .before .before .before .before .pre) _ _ (c .before .before .create-tick .ensures)
-    (c .before .change-tick .ensures) (c .if1 .taken)
+returns c = valid-zero _ _ _ _ (c .before .before .eight .ensures .0) (c .before .eight2 .ensures .0) (c .if1 .taken)
 
 returns-2 : tie.Need-returns-2
 returns-2 c =
-    valid-later _ _ (c .before .before .before .before .before .pre) _ _
-    (c .before .before .before .create-tick .ensures) (c .before .before .change-tick .ensures) (omega arith)
-    (c .if2 .taken)
+    valid-later _ _ _ _ (c .before .before .before .eight .ensures .0) (c .before .before .eight2 .ensures .0)
+    (omega arith) (c .if2 .taken)
 
 returns-3 : tie.Need-returns-3
 returns-3 c =
-    valid-large _ _ (c .before .before .before .before .before .before .pre) _ _
-    (c .before .before .before .before .create-tick .ensures) (c .before .before .before .change-tick .ensures)
-    (omega arith) (omega arith) (c .if3 .taken)
+    valid-large _ _ _ _ (c .before .before .before .before .eight .ensures .0)
+    (c .before .before .before .eight2 .ensures .0) (omega arith) (omega arith) (c .if3 .taken)
 
 tag-kept-requires : tie.Need-tag-kept-requires
-tag-kept-requires c κs = c .before .before .before .before .before .before .pre
+tag-kept-requires c κs = search needs
 
 returns-4 : tie.Need-returns-4
 returns-4 c =
-    valid-tag _ _ (c .before .before .before .before .before .before .before .pre) _ _
-    (c .before .before .before .before .before .create-tick .ensures)
-    (c .before .before .before .before .change-tick .ensures) (omega arith) (omega arith) (omega arith) _
+    valid-tag _ _ _ _ (c .before .before .before .before .before .eight .ensures .0)
+    (c .before .before .before .before .eight2 .ensures .0) (omega arith) (omega arith) (omega arith) _
     (c .tag-kept .ensures)
 
 pub valid-spec : {M : Type 1} → statement M
 valid-spec =
     tie.close
     (tie.spec
-    create-tick-requires
-    change-tick-requires
+    add-eight
+    eight-requires
+    add-eight-2
+    eight-requires-2
     returns
     returns-2
     returns-3

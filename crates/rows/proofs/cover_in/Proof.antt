@@ -1,5 +1,5 @@
 -- `rows::cover_in` meets its contract: 17 for the span, and else whether there is a lacking place.
-use Rattle.rows.proofs.Calls.{proper, cover-first-length, cover-last-length, cover-above, cover-yes, cover-no}
+use Rattle.rows.proofs.Calls.{cover-first-length, cover-last-length, cover-above, cover-yes, cover-no}
 use native.Mathlib.Omega.{arith}
 use Rattle.rows.proofs.cover_in.Statement.{statement}
 use Rattle.rows.proofs.cover_in.Tie as tie
@@ -43,9 +43,7 @@ returns-3 c =
     _ (c .before .less3 .ensures) (c .if3 .taken)
 
 lacking-requires : tie.Need-lacking-requires
-lacking-requires c κs =
-    let p = c .before .before .before .before .before .before .before .before .before .before .before .before .before .before .pre in
-    (p .0, p .1, proper _ _ _ _ _ _ _ (c .before .less3 .ensures) (c .if3 .left))
+lacking-requires c κs = tt
 
 enum-told : tie.Need-enum-told
 enum-told c = omega arith
@@ -58,11 +56,12 @@ returns-4 c =
     λ R o q.
     let l = c .before .before .before .before .before in
     let f = l .before .before .before in
+    let pre = f .before .before .before .before .before .before .before .before .before .pre in
     cover-yes R _ _ _ _ _ _ o _ _ q (f .before .before .before .before .if1 .left) (f .before .before .before .if2 .left)
     _ _ _ _ _ _
     (record { high = f .before .before .read8 .ensures .0; middle = f .before .read82 .ensures .0; low = f .read83 .ensures .0 })
     (record { high = l .before .before .read84 .ensures .0; middle = l .before .read85 .ensures .0; low = l .read86 .ensures .0 })
-    _ (c .before .before .before .before .less3 .ensures) (c .before .before .before .if3 .left) _
+    _ (c .before .before .before .before .less3 .ensures) (c .before .before .before .if3 .left) (pre .0) (pre .1) _
     (c .before .before .lacking .ensures) (c .enum-told .given .1)
 
 returns-5 : tie.Need-returns-5
@@ -70,11 +69,12 @@ returns-5 c =
     λ R o q.
     let l = c .before .before .before .before .before in
     let f = l .before .before .before in
+    let pre = f .before .before .before .before .before .before .before .before .before .pre in
     cover-no R _ _ _ _ _ _ o _ _ q (f .before .before .before .before .if1 .left) (f .before .before .before .if2 .left)
     _ _ _ _ _ _
     (record { high = f .before .before .read8 .ensures .0; middle = f .before .read82 .ensures .0; low = f .read83 .ensures .0 })
     (record { high = l .before .before .read84 .ensures .0; middle = l .before .read85 .ensures .0; low = l .read86 .ensures .0 })
-    _ (c .before .before .before .before .less3 .ensures) (c .before .before .before .if3 .left) _
+    _ (c .before .before .before .before .less3 .ensures) (c .before .before .before .if3 .left) (pre .0) (pre .1) _
     (c .before .before .lacking .ensures) _ _ _ _ _ (c .enum-told2 .given .1)
 
 pub cover-in-spec : {M : Type 1} → statement M

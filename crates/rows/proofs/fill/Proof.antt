@@ -1,128 +1,25 @@
--- `rows::fill` meets its contract. The loop's invariant: the row has the ticks of the elements from here on.
-use Prim.Native.Nat.{_+_, _-_, _*_, _≤_}
-use mathlib.Core.Path.{_≡_, refl}
-use mathlib.Core.Logic.{⊎-elim}
-use lib.ListN.{length}
-use Rattle.layout.specs.Decode.{elementsAt}
-use Rattle.lookup.specs.Method.{There}
-use Rattle.rows.specs.Method.{RowOf}
-use Rattle.rows.proofs.Cells.{filled-same, filled-nothing, filled-all, row-begins, Put, put-set, put-skip}
+-- `rows::fill` meets its contract: a row of the same vector stays, and another is cleared and filled anew.
+use Rattle.rows.proofs.Cells.{filled-same, filled-anew}
 use native.Mathlib.Omega.{arith}
 use Rattle.rows.proofs.fill.Statement.{statement}
 use Rattle.rows.proofs.fill.Tie as tie
 
-abbrev Inv-loop : tie.InvT-loop
-Inv-loop s before vector row₀ n left₀ at₀ row left at =
-    RowOf (elementsAt s (n - left) at) row × (at ≡ vector + 8 + 12 * left) × (left ≤ n) × (length row ≡ length row₀)
-    × (vector + 8 + 12 * n ≤ length s) × There s vector n
-
-abbrev μ-loop : tie.MeasureT-loop
-μ-loop s before vector row₀ n left₀ at₀ row left at = left
-
-returns : tie.Need-returns Inv-loop μ-loop
+returns : tie.Need-returns
 returns c = filled-same _ _ _ _ (c .if1 .taken)
 
-clear-requires : tie.Need-clear-requires Inv-loop μ-loop
+clear-requires : tie.Need-clear-requires
 clear-requires c κs = tt
 
-elements-at-requires : tie.Need-elements-at-requires Inv-loop μ-loop
-elements-at-requires c κs = tt
+pour-requires : tie.Need-pour-requires
+pour-requires c κs = (c .before .before .before .clear .ensures .is)
 
-same-length : tie.Need-same-length Inv-loop μ-loop
-same-length c = c .before .before .before .before .clear .ensures .size
+same-length : tie.Need-same-length
+same-length c =
+    let b5 = c .before .before .before .before .before in
+    omega (arith, c .before .before .pour .ensures .size, b5 .before .clear .ensures .size)
 
-returns-2 : tie.Need-returns-2 Inv-loop μ-loop
-returns-2 c = filled-nothing _ _ _ _ _ _ (c .before .elements-at .ensures) (c .before .before .before .before .clear .ensures) (c .if2 .taken)
-
-add-at : tie.Need-add-at Inv-loop μ-loop
-add-at c = omega (arith, c .before .elements-at .ensures .room (omega arith))
-
-mul-at : tie.Need-mul-at Inv-loop μ-loop
-mul-at c = omega (arith, c .before .elements-at .ensures .room (omega arith))
-
-add-at-2 : tie.Need-add-at-2 Inv-loop μ-loop
-add-at-2 c = omega (arith, c .before .elements-at .ensures .room (omega arith))
-
-loop-holds : tie.Need-loop-holds Inv-loop μ-loop
-loop-holds c = (
-  row-begins _ _ _ _ _ (c .before .before .before .before .clear .ensures),
-  omega arith,
-  omega arith,
-  refl,
-  c .before .elements-at .ensures .room (omega arith),
-  c .before .elements-at .ensures,
-)
-
-sub-at : tie.Need-sub-at Inv-loop μ-loop
-sub-at c = omega arith
-
-four-requires : tie.Need-four-requires Inv-loop μ-loop
-four-requires c κs = omega arith
-
-add-eight : tie.Need-add-eight Inv-loop μ-loop
-add-eight c = omega arith
-
-eight-requires : tie.Need-eight-requires Inv-loop μ-loop
-eight-requires c κs = omega arith
-
-mul-row : tie.Need-mul-row Inv-loop μ-loop
-mul-row c = omega arith
-
-slice-write-row : tie.Need-slice-write-row Inv-loop μ-loop
-slice-write-row c = omega arith
-
-sub-left : tie.Need-sub-left Inv-loop μ-loop
-sub-left c = omega arith
-
-loop-less : tie.Need-loop-less Inv-loop μ-loop
-loop-less c = omega arith
-
-loop-again : tie.Need-loop-again Inv-loop μ-loop
-loop-again c =
-    let l = c .before .before .before .loop in
-    let s = c .before .before .before .before .before .before .before .before .before .before .before .before .before .args .s .now in
-    let n = c .before .before .before .before .before .elements-at .result in
-    let f = c .before .four .ensures .0 in
-    let after = c .if3 .row in
-    let w : Put s n (l .left) (l .at - 12) (l .row) after =
-    ⊎-elim {C = Put s n (l .left) (l .at - 12) (l .row) after}
-    (λ x.
-    put-set s n (l .left) (l .at) (l .at - 12) (l .row) (c .before .four .result) (l .inv .0) (omega arith) (omega arith)
-    (omega arith) f after (x .1 .result) (x .1 .ensures .0) (x .0 .taken) (x .2))
-    (λ x.
-    put-skip s n (l .left) (l .at) (l .at - 12) (l .row) (c .before .four .result) (l .inv .0) (omega arith) (omega arith)
-    (omega arith) f after (x .0 .left) (x .1)) (c .if3 .came) in
-    (w .cells, omega arith, omega arith, omega (arith, w .size), omega arith, l .inv .5)
-
-same-length-2 : tie.Need-same-length-2 Inv-loop μ-loop
-same-length-2 c = omega arith
-
-returns-3 : tie.Need-returns-3 Inv-loop μ-loop
-returns-3 c = filled-all _ _ _ _ _ _ (c .before .loop .inv .5) _ _ (c .before .loop .inv .0) (omega arith) (omega arith) (omega arith)
+returns-2 : tie.Need-returns-2
+returns-2 c = filled-anew _ _ _ _ _ _ (c .before .before .before .before .before .before .clear .ensures) (c .before .before .pour .ensures)
 
 pub fill-spec : {M : Type 1} → statement M
-fill-spec =
-    tie.close
-    (tie.spec
-    Inv-loop
-    μ-loop
-    returns
-    clear-requires
-    elements-at-requires
-    same-length
-    returns-2
-    add-at
-    mul-at
-    add-at-2
-    loop-holds
-    sub-at
-    four-requires
-    add-eight
-    eight-requires
-    mul-row
-    slice-write-row
-    sub-left
-    loop-less
-    loop-again
-    same-length-2
-    returns-3)
+fill-spec = tie.close (tie.spec returns clear-requires pour-requires same-length returns-2)

@@ -1,17 +1,20 @@
--- `rows::walk` meets its contract. The loop's invariant: the first lacking place of the span is the one from the item on to
--- which both cursors have come, and the row is the first one's there.
+-- `rows::walk` meets its contract. The loop's invariant: the whole answer is the one from the item on to which both cursors have
+-- come, and the row is the first one's there.
 use Prim.Native.Nat.{_+_}
 use mathlib.Core.Path.{_≡_, refl}
 use lib.ListN.{length}
 use Rattle.codec.specs.Words.{words3}
-use Rattle.rows.proofs.Walking.{Walks, walk-starts, walk-here, walk-past, walk-on, walk-less}
+use Rattle.rows.specs.Method.{walkBy}
+use Rattle.rows.proofs.Walking.{Walks, walk-starts, walk-whole, walk-here, walk-past, walk-on, walk-less}
 use native.Mathlib.Omega.{arith}
 use Rattle.rows.proofs.walk.Statement.{statement}
 use Rattle.rows.proofs.walk.Tie as tie
 
 abbrev Inv-loop : tie.InvT-loop
 Inv-loop s r t m f0 f1 f2 l0 l1 l2 keys row₀ x₀ y₀ i0₀ i1₀ i2₀ row x y i0 i1 i2 =
-    Walks s r t m (words3 f0 f1 f2) (words3 l0 l1 l2) keys row x y (words3 i0 i1 i2) × (length row ≡ length row₀)
+    Walks s r t m (words3 l0 l1 l2) keys row x y (words3 i0 i1 i2)
+    (walkBy s r t m (words3 l0 l1 l2) (x₀ .left + y₀ .left) x₀ y₀ (words3 i0₀ i1₀ i2₀))
+    × (length row ≡ length row₀)
 
 abbrev μ-loop : tie.MeasureT-loop
 μ-loop s r t m f0 f1 f2 l0 l1 l2 keys row₀ x₀ y₀ i0₀ i1₀ i2₀ row x y i0 i1 i2 = x .left + y .left
@@ -22,14 +25,15 @@ advance-requires c κs = tt
 advance-requires-2 : tie.Need-advance-requires-2 Inv-loop μ-loop
 advance-requires-2 c κs = tt
 
-fill-requires : tie.Need-fill-requires Inv-loop μ-loop
-fill-requires c κs = tt
+pour-requires : tie.Need-pour-requires Inv-loop μ-loop
+pour-requires c κs = (c .before .before .before .before .before .before .before .pre .4)
 
 loop-holds : tie.Need-loop-holds Inv-loop μ-loop
 loop-holds c =
-    let p = c .before .before .before .before .before .before .before .before .before .before .pre in (
-      walk-starts _ _ _ _ _ _ _ _ _ _ _ _ _ (p .0) (p .1) (p .2) (p .3) (p .4) (p .5) (c .before .before .before .before .before .advance .ensures)
-          (c .before .before .before .before .advance2 .ensures) (c .before .before .fill .ensures),
+    let p = (c .before .before .before .before .before .before .before .before .before .before .pre) in (
+      walk-starts _ _ _ _ _ _ _ _ _ _ (c .before .before .before .before .before .advance .ensures)
+          (c .before .before .before .before .advance2 .ensures) _ _ _ (p .0) (p .1) (p .2) (p .3) (p .5)
+          (c .before .before .pour .ensures),
       refl,
     )
 
@@ -42,21 +46,24 @@ enum-known-least c = omega arith
 same-length : tie.Need-same-length Inv-loop μ-loop
 same-length c =
     let b5 = c .before .before .before .before .before in
-    omega (arith, b5 .loop .inv .1, b5 .before .before .before .fill .ensures .size)
+    omega (arith, b5 .loop .inv .1, b5 .before .before .before .pour .ensures .size)
 
 returns : tie.Need-returns Inv-loop μ-loop
 returns c =
-    walk-here _ _ _ _ _ _ _ _ _ _ _ (c .before .before .before .before .before .loop .inv .0) _
-    (c .before .before .before .least-lacking .ensures) _ _ _ _ _ refl (c .before .least .given .1)
+    let b5 = c .before .before .before .before .before in
+    let b10 = b5 .before .before .before .before .before in
+    walk-whole _ _ _ _ _ _ _ _ _ _ (b10 .before .advance .ensures) (b10 .advance2 .ensures) _
+    (walk-here _ _ _ _ _ _ _ _ _ _ _ (b5 .loop .inv .0) _ (c .before .before .before .least-lacking .ensures) _ _ _ _ _ refl
+    (c .before .least .given .1))
 
 enum-told : tie.Need-enum-told Inv-loop μ-loop
 enum-told c = omega arith
 
 bound-of-requires : tie.Need-bound-of-requires Inv-loop μ-loop
-bound-of-requires c κs = c .before .before .before .before .loop .inv .0 .first .room
+bound-of-requires c κs = c .before .before .before .before .loop .inv .0 .first
 
 bound-of-requires-2 : tie.Need-bound-of-requires-2 Inv-loop μ-loop
-bound-of-requires-2 c κs = c .before .before .before .before .before .loop .inv .0 .second .room
+bound-of-requires-2 c κs = c .before .before .before .before .before .loop .inv .0 .second
 
 nearer-requires : tie.Need-nearer-requires Inv-loop μ-loop
 nearer-requires c κs = tt
@@ -71,15 +78,18 @@ same-length-2 : tie.Need-same-length-2 Inv-loop μ-loop
 same-length-2 c =
     let b5 = c .before .before .before .before .before in
     let b10 = b5 .before .before .before .before .before in
-    omega (arith, b5 .before .before .before .before .loop .inv .1, b10 .before .before .fill .ensures .size)
+    omega (arith, b5 .before .before .before .before .loop .inv .1, b10 .before .before .pour .ensures .size)
 
 returns-2 : tie.Need-returns-2 Inv-loop μ-loop
 returns-2 c =
     let b5 = c .before .before .before .before .before in
-    walk-past _ _ _ _ _ _ _ _ _ _ _ (b5 .before .before .before .before .loop .inv .0) _
+    let b10 = b5 .before .before .before .before .before in
+    walk-whole _ _ _ _ _ _ _ _ _ _ (b10 .before .before .before .before .before .advance .ensures)
+    (b10 .before .before .before .before .advance2 .ensures) _
+    (walk-past _ _ _ _ _ _ _ _ _ _ _ (b5 .before .before .before .before .loop .inv .0) _
     (b5 .before .before .least-lacking .ensures) (b5 .enum-told .given .1) _ _ _
     (c .before .before .before .before .bound-of .ensures) (c .before .before .before .bound-of2 .ensures)
-    (c .before .before .nearer .ensures) (c .enum-told2 .given .1)
+    (c .before .before .nearer .ensures) (c .enum-told2 .given .1))
 
 advance-requires-3 : tie.Need-advance-requires-3 Inv-loop μ-loop
 advance-requires-3 c κs = tt
@@ -87,8 +97,8 @@ advance-requires-3 c κs = tt
 advance-requires-4 : tie.Need-advance-requires-4 Inv-loop μ-loop
 advance-requires-4 c κs = tt
 
-fill-requires-2 : tie.Need-fill-requires-2 Inv-loop μ-loop
-fill-requires-2 c κs = tt
+fill-requires : tie.Need-fill-requires Inv-loop μ-loop
+fill-requires c κs = tt
 
 loop-less : tie.Need-loop-less Inv-loop μ-loop
 loop-less c =
@@ -108,8 +118,8 @@ loop-again c =
       walk-on _ _ _ _ _ _ _ _ _ _ _ (b15 .before .loop .inv .0) _ (b10 .before .before .before .before .least-lacking .ensures)
           (b10 .before .before .enum-told .given .1) _ _ _ (b10 .before .bound-of .ensures) (b10 .bound-of2 .ensures)
           (b5 .before .before .before .before .nearer .ensures) _ _ _ (b5 .before .before .stop .given .1) _ _ (b5 .advance3 .ensures)
-          (c .before .before .before .before .advance4 .ensures) _ (c .before .before .fill2 .ensures),
-      omega (arith, b15 .before .loop .inv .1, c .before .before .fill2 .ensures .size),
+          (c .before .before .before .before .advance4 .ensures) _ (c .before .before .fill .ensures),
+      omega (arith, b15 .before .loop .inv .1, c .before .before .fill .ensures .size),
     )
 
 pub walk-spec : {M : Type 1} → statement M
@@ -120,7 +130,7 @@ walk-spec =
     μ-loop
     advance-requires
     advance-requires-2
-    fill-requires
+    pour-requires
     loop-holds
     least-lacking-requires
     enum-known-least
@@ -136,6 +146,6 @@ walk-spec =
     returns-2
     advance-requires-3
     advance-requires-4
-    fill-requires-2
+    fill-requires
     loop-less
     loop-again)

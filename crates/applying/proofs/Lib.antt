@@ -1,0 +1,2 @@
+-- The laws of apply.
+pub mod Applying

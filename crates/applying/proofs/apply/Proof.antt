@@ -1,0 +1,17 @@
+-- `applying::apply` meets its contract: document 01's limits are those of its three numbers.
+use Rattle.applying.proofs.Applying.{apply-base}
+use borrow.Author.Needs.{needs}
+use Rattle.applying.proofs.apply.Statement.{statement}
+use Rattle.applying.proofs.apply.Tie as tie
+
+apply-within-requires : tie.Need-apply-within-requires
+apply-within-requires c κs = search needs
+
+same-length : tie.Need-same-length
+same-length c = search needs
+
+returns : tie.Need-returns
+returns c = apply-base _ _ _ _ _ (c .before .before .apply-within .ensures)
+
+pub apply-spec : {M : Type 1} → statement M
+apply-spec = tie.close (tie.spec apply-within-requires same-length returns)

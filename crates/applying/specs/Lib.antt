@@ -1,0 +1,2 @@
+-- The method of apply.
+pub mod Method

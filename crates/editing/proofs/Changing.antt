@@ -1,0 +1,444 @@
+-- An edit or a delete of a store that was opened. The new record's tick is one more than the largest tick known, and the change version of
+-- the item's record is contained, so the new record wins over it: joining the store's table with the table of the new record puts it in its
+-- place. The knowledge with the own tick raised was prepared, and what is then written ends the call as its reply says. Before that, the
+-- lines of the table in their order.
+use Prim.Native.Nat.{ℕ, _+_, _-_, _*_, _^_, _≤_, _<_}
+use mathlib.Core.Path.{_≡_, refl, sym, ap, ap₂, _∙_, subst}
+use mathlib.Core.Logic.{inl, inr}
+use mathlib.Core.Bool.{Bool, true, false}
+use mathlib.Core.List.{List, [], _∷_}
+use mathlib.Core.Option.{Option, none, some}
+use native.Mathlib.Omega.{arith}
+use lib.ListN.{length, take, drop, replicate}
+use Rattle.codec.specs.Number.{Bytes, beAt}
+use Rattle.codec.specs.Reply.{Reply, refuses, answer, after}
+use Rattle.codec.specs.Total.{readAt, brought}
+use Rattle.codec.specs.Words.{words2, words3}
+use Rattle.codec.specs.Part.{placed}
+use Rattle.codec.specs.declared.Answer.{Answer}
+use Rattle.codec.specs.declared.Answer.the-variants.{Refused}
+use Rattle.codec.proofs.Numbers.{power-positive, be-below}
+use Rattle.codec.proofs.Total.{read-id2, read-id3, brought-within}
+use Rattle.layout.specs.Knowledge.{Limits, anyId, largestTick}
+use Rattle.layout.specs.Permitted.{base, within, largestRecords}
+use Rattle.layout.specs.Decode.{decode}
+use Rattle.layout.proofs.Within.{base-within, within-permitted}
+use Rattle.ticks.specs.Meaning.{known}
+use Rattle.ticks.specs.Operations.{raise, largest}
+use Rattle.ticks.specs.Calls.{idOf}
+use Rattle.ticks.proofs.Largest.{largest-bounds}
+use Rattle.ticks.proofs.ForCalls.{id-is}
+use Rattle.tables.specs.MethodWords.{stride, mostRows, Words}
+use Rattle.loading.specs.MethodReply.{resultReply}
+use Rattle.lookup.specs.declared.Cursor.{Cursor}
+use Rattle.lookup.specs.Method.{Opens}
+use Rattle.ranges.specs.Method.{topOf}
+use Rattle.ranges.proofs.Ranges.{largest-from}
+use Rattle.filling.specs.declared.Filled.{Filled}
+use Rattle.filling.specs.MethodTables.{tableOf, raisedTable, TableRoom}
+use Rattle.filling.proofs.Scratch.{zeros-length, table-room}
+use Rattle.filling.proofs.Opening.{scratch-replicas, scratch-ranges}
+use Rattle.operations.specs.declared.Prepared.{Prepared}
+use Rattle.operations.specs.MethodCalls.{oneRows, planOf, planned, Prepares, Ended, PlanRoom}
+use Rattle.operations.proofs.Scratch.{plan-room}
+use Rattle.operations.proofs.Judged.{ended-refused}
+use Rattle.operations.proofs.Ready.{raise-prepares}
+use Rattle.replication.specs.Record.{Content, Rec}
+use Rattle.replication.specs.Reading.{recAt, createReplicaPlace, createTickPlace}
+use Rattle.replication.specs.Formats.{putRec, find, Store}
+use Rattle.replication.specs.Operate.{replace, join, wins, nextTick, changedRec, changed}
+use Rattle.replication.specs.Queries.{places, placeOf}
+use Rattle.replication.specs.OpenStore.{knowledgeLength, storeKnowledge, storeTable}
+use Rattle.replication.specs.Valid.{LawfulRec, ContainedIn, LawfulStore}
+use Rattle.replication.specs.MethodRecords.{foundAt}
+use Rattle.replication.specs.MethodTable.{tableAt}
+use Rattle.replication.specs.MethodOpening.{storeAt}
+use Rattle.replication.specs.MethodReplies.{brings, changeReply, storeReply}
+use Rattle.replication.specs.Calls.{gone, liveContent, tombstone, editReply, deleteReply}
+use Rattle.replication.proofs.PartBytes.{part-length}
+use Rattle.replication.proofs.RecordsInBytes.{whole-at}
+use Rattle.replication.proofs.RecordsTable.{find-table, none-found, found-some, found-place}
+use Rattle.replication.proofs.RecordBytes.{FitsRec, recSize}
+use Rattle.replication.proofs.Tables.{find-all}
+use Rattle.replication.proofs.TablesJoin.{wins-tick}
+use Rattle.replication.proofs.ContentsValid.{rec-fits, store-exact}
+use Rattle.replication.proofs.ContentsEdit.{NewRec, changed-is}
+use Rattle.replication.proofs.OpeningStore.{store-own, store-walked}
+use Rattle.replication.proofs.RefusalsEdit.{edit-store, edit-17, delete-store, delete-17}
+use Rattle.replication.proofs.CallSteps.{change-last, change-on, edit-left, delete-gone, delete-left}
+use Rattle.records.specs.declared.Found.{Found}
+use Rattle.records.specs.declared.Found.the-variants as F
+use Rattle.records.specs.declared.ItemWords.{ItemWords}
+use Rattle.records.specs.Method.{readRec, foundPlace}
+use Rattle.records.proofs.Fields.{deleted-read, read-whole}
+use Rattle.records.proofs.Finding.{found-at, found-nothing}
+use Rattle.joining.specs.declared.RecordWords.{RecordWords}
+use Rattle.joining.specs.declared.TagWords.{TagWords}
+use Rattle.joining.specs.declared.VersionWords.{VersionWords}
+use Rattle.joining.specs.MethodJoin.{joinAt, sizeFrom, fronted}
+use Rattle.joining.specs.MethodWritten.{recordOf}
+use Rattle.joining.proofs.Written.{record-table, record-placed, replaced-table}
+use Rattle.stores.specs.declared.KnowledgePart.{KnowledgePart}
+use Rattle.stores.specs.declared.OpenedStore.{OpenedStore}
+use Rattle.stores.specs.declared.OpenedStore.the-variants as S
+use Rattle.stores.specs.Method.{ownPart, storeOpened}
+use Rattle.stores.proofs.Opened.{StoreOpen, store-open, store-closed, store-place, store-room, store-slice}
+use Rattle.storing.specs.MethodStoring.{finishedAnswer, finishedOut, storeWritten}
+use Rattle.storing.proofs.Storing.{finish-ends}
+use Rattle.editing.specs.declared.Change.{Change}
+use Rattle.editing.specs.MethodEditing.{itemOf, contentOf, versionReplica, foundRead, Becomes, Asked}
+
+-- ---- ids
+
+pub item-is : (s : List ℕ) (i0 i1 i2 : ℕ) → length s ≡ 24 → i0 ≡ readAt s 8 0 → i1 ≡ readAt s 8 8 → i2 ≡ readAt s 8 16
+    → words3 i0 i1 i2 ≡ beAt s 24 0
+item-is s i0 i1 i2 e a b c = rw (a, b, c) (read-id3 s 0 (omega arith))
+
+pub tag-is : (s : List ℕ) (t0 t1 : ℕ) → length s ≡ 16 → t0 ≡ readAt s 8 0 → t1 ≡ readAt s 8 8 → words2 t0 t1 ≡ beAt s 16 0
+tag-is s t0 t1 e a b = rw (a, b) (read-id2 s 0 (omega arith))
+
+-- ---- the record of the item
+
+-- what was found is the item's record in the table
+pub found-is : (s : List ℕ) (found : Found) (i at : ℕ) → foundPlace found ≡ placeOf s i (places s at)
+    → foundRead s found ≡ find i (tableAt s at)
+unfolding foundRead
+found-is s (F.At a) i at h =
+    let e : placeOf s i (places s at) ≡ some a = sym h ∙ found-at a in
+    let w = found-place s i at a e in
+    ap some (read-whole s a (whole-at s a (w .0))) ∙ sym (find-table s i at ∙ (ap (foundAt s) e ∙ found-some s a))
+found-is s F.Nothing i at h = sym (none-found s i at (sym h ∙ found-nothing))
+
+module _ (s : List ℕ) (found : Found) where
+  pub gone-nothing : found ≡ F.Nothing → true ≡ gone (foundRead s found)
+  unfolding foundRead gone
+  gone-nothing e = sym (ap (λ (f : Found). gone (foundRead s f)) e)
+
+  pub gone-at : (at : ℕ) → found ≡ F.At at → (b : Bool) → b ≡ recAt s at .content .deleted → b ≡ gone (foundRead s found)
+  unfolding foundRead gone readRec
+  gone-at at e b h = h ∙ (sym (deleted-read s at (readAt s 1 at) refl) ∙ sym (ap (λ (f : Found). gone (foundRead s f)) e))
+
+  module _ (what : Change) (change : VersionWords) where
+    -- the code's record, by its create version
+    abbrev pub wordsOf : VersionWords → RecordWords
+    wordsOf create = record { item = what .item; change = change; create = create; deleted = what .deleted; tag = what .tag }
+
+    abbrev pub ofChange : Rec
+    ofChange = changedRec (contentOf what) (itemOf what) (versionReplica change) (change .tick) (foundRead s found)
+
+    pub record-new : found ≡ F.Nothing → recordOf (wordsOf change) ≡ ofChange
+    unfolding recordOf changedRec foundRead
+    record-new e =
+        sym (ap (λ (f : Found). changedRec (contentOf what) (itemOf what) (versionReplica change) (change .tick) (foundRead s f)) e)
+
+    pub record-kept : (at : ℕ) → found ≡ F.At at → (create : VersionWords) → versionReplica create ≡ readAt s 16 (at + createReplicaPlace)
+        → create .tick ≡ readAt s 8 (at + createTickPlace) → recordOf (wordsOf create) ≡ ofChange
+    unfolding recordOf changedRec foundRead readRec
+    record-kept at e create p t =
+        ap₂ (λ (q x : ℕ). record {
+          item = itemOf what;
+          changeReplica = versionReplica change;
+          changeTick = change .tick;
+          createReplica = q;
+          createTick = x;
+          content = contentOf what;
+        }) p t
+        ∙ sym (ap (λ (f : Found). changedRec (contentOf what) (itemOf what) (versionReplica change) (change .tick) (foundRead s f)) e)
+
+-- ---- what is written
+
+-- the new record's bytes alone are the other table
+pub put-becomes : (s k : List ℕ) (w : RecordWords) (d one : List ℕ) (st : Store) → length d ≡ recSize
+    → one ≡ placed d 0 (putRec (recordOf w) [])
+    → Becomes s k (recordOf w .changeReplica) (recordOf w .changeTick) (putRec (recordOf w) []) st
+    → Becomes s k (versionReplica (w .change)) (w .change .tick) one st
+unfolding recordOf
+put-becomes s k w d one st e f h =
+    subst (λ (x : List ℕ). Becomes s k (recordOf w .changeReplica) (recordOf w .changeTick) x st)
+    (sym (f ∙ record-placed d (recordOf w) e)) h
+
+-- a table that was filled, prepared and finished
+pub change-finishes : (replicas ranges records : ℕ) (s k : List ℕ) (r : ℕ) (start : Cursor) (p0 p1 tick : ℕ) (one : List ℕ)
+    (ids bounds t ids' bounds' t' cols firsts numbers cols' firsts' numbers' picks : List ℕ) (q : Filled) (p : Prepared) (out u : List ℕ)
+    (x : Answer)
+    → Opens (anyId (within replicas ranges records)) k r start
+    → TableRoom (r + 1) (start .left + 1) ids bounds t → PlanRoom (r + 1) (start .left + 1) cols firsts numbers
+    → brought records largestRecords ≤ length picks → Words ids' → Words bounds' → Bytes s → Bytes one
+    → tableOf ids' bounds' t' q ≡ raisedTable k r start p0 p1 tick ids bounds t
+    → planOf cols' firsts' numbers' p ≡ planned (within replicas ranges (base .records)) q ids' t' cols firsts numbers
+    → x ≡ finishedAnswer p (brought records largestRecords) (length (joinAt s (storeKnowledge + length k) one 0))
+    (sizeFrom s one (joinAt s (storeKnowledge + length k) one 0)) (length out)
+    → u ≡ finishedOut p (brought records largestRecords) (length (joinAt s (storeKnowledge + length k) one 0))
+    (sizeFrom s one (joinAt s (storeKnowledge + length k) one 0)) out
+    (storeWritten (words2 p0 p1) ids' bounds' t' cols' firsts' numbers' s one
+    (fronted picks (joinAt s (storeKnowledge + length k) one 0)) (length (joinAt s (storeKnowledge + length k) one 0)) out)
+    → (st : Store) → Becomes s k (words2 p0 p1) tick one st → Ended (storeReply (within replicas ranges records) st) out u x
+change-finishes replicas ranges records s k r start p0 p1 tick one ids bounds t ids' bounds' t' cols firsts numbers cols' firsts' numbers'
+    picks q p out u x o room make few wi wb bytes others filled planning answers leaves st b =
+    let L = within replicas ranges records in
+    finish-ends L st (words2 p0 p1) (b .own) ids' bounds' t' cols' firsts' numbers' s (storeKnowledge + length k) one 0 bytes others
+    (b .records) picks (brought records largestRecords) refl few out u x p
+    (subst (λ y. Prepares (resultReply L y) ids' bounds' t' cols' firsts' numbers' p) (b .knowledge)
+    (raise-prepares replicas ranges records (anyId L) refl ids' bounds' t' cols firsts numbers cols' firsts' numbers' q p planning wi wb
+    ids bounds t k r start o p0 p1 tick filled room make))
+    answers leaves
+
+-- scratch of so many rows has room
+pub change-room : (a b n : ℕ) (k : List ℕ) (r : ℕ) (start : Cursor) → Opens (anyId (within a b n)) k r start → (rows : ℕ)
+    → start .left + 1 < rows → rows ≤ mostRows
+    → (TableRoom (r + 1) (start .left + 1) (replicate (2 * stride) 0) (replicate (3 * rows) 0) (replicate (stride * rows) 0))
+    × (PlanRoom (r + 1) (start .left + 1) (replicate stride 0) (replicate rows 0) (replicate rows 0))
+    × (brought n largestRecords ≤ length (replicate {A = ℕ} largestRecords 0))
+change-room a b n k r start o rows h l =
+    let f = scratch-replicas (anyId (within a b n)) a b n refl k r start o in (
+      table-room (r + 1) (start .left + 1) (2 * stride) (3 * rows) (stride * rows) (omega (arith, f)) (omega arith) (omega (arith, f))
+          (omega arith) (omega arith),
+      plan-room (r + 1) (start .left + 1) stride rows rows (omega (arith, f)) (omega arith) (omega arith),
+      omega (arith, zeros-length largestRecords, brought-within n largestRecords (omega arith) .1),
+    )
+
+pub change-rows : (a b n : ℕ) (k : List ℕ) (r : ℕ) (start : Cursor) → Opens (anyId (within a b n)) k r start → start .left + 1 < oneRows
+change-rows a b n k r start o = omega (arith, scratch-ranges (anyId (within a b n)) a b n refl k r start o)
+
+-- ---- the changed store
+
+module _ (a b n : ℕ) (s : List ℕ) (bytes : Bytes s) (k : List ℕ) (own : KnowledgePart) (found : Found) (what : Change)
+    (h : Asked (within a b n) s k own found what) where
+  abbrev L : Limits
+  L = within a b n
+
+  abbrev st : Store
+  st = storeAt L s
+
+  abbrev content : Content
+  content = contentOf what
+
+  abbrev item : ℕ
+  item = itemOf what
+
+  opened : StoreOpen L s own (h .count)
+  opened = store-open a b n s bytes own (h .count) (h .valid)
+
+  lawful : LawfulStore L st
+  lawful = store-exact L s st (within-permitted a b n) bytes .0 (opened .value) .1
+
+  pub change-opens : Opens (anyId L) k (own .r) (own .start)
+  change-opens = subst (λ (x : List ℕ). Opens (anyId L) x (own .r) (own .start)) (sym (h .part)) (opened .opens)
+
+  decodes : decode k ≡ st .knowledge
+  decodes = ap decode (h .part) ∙ sym (opened .knowledge)
+
+  part-size : length k ≡ own .length
+  part-size =
+      ap length (h .part) ∙ part-length s (knowledgeLength s) storeKnowledge (omega (arith, opened .tests .inside)) ∙ sym (opened .length)
+
+  walked : tableAt s (storeKnowledge + own .length) ≡ st .records
+  walked = ap (tableAt s) (store-place L s own (h .count) opened) ∙ store-walked L s (opened .tests)
+
+  found-here : foundRead s found ≡ find item (st .records)
+  found-here = found-is s found item (storeKnowledge + own .length) (h .place) ∙ ap (find item) walked
+
+  module _ (t : ℕ) (e : t ≡ topOf k (own .r) (own .start)) where
+    largest-is : t ≡ largest (st .knowledge)
+    largest-is = e ∙ largest-from (anyId L) k (own .r) (own .start) change-opens ∙ ap largest decodes
+
+    pub change-20 : (out : List ℕ) → largestTick ≤ t → Ended (changeReply L st content item) out out (Refused 20)
+    change-20 out l = ended-refused (changeReply L st content item) out 20 (change-last L st content item (omega (arith, largest-is)))
+
+    module _ (below : t < largestTick) (p0 p1 : ℕ) (e0 : p0 ≡ readAt s 8 1) (e1 : p1 ≡ readAt s 8 (1 + 8)) (w : RecordWords)
+        (f : recordOf w ≡ changedRec content item (words2 p0 p1) (t + 1) (foundRead s found)) where
+      abbrev new : Rec
+      new = changedRec content item (st .own) (nextTick st) (find item (st .records))
+
+      own-is : words2 p0 p1 ≡ st .own
+      own-is = rw (e0, e1) (read-id2 s 1 (omega (arith, opened .tests .header))) ∙ sym (store-own L s)
+
+      tick-is : t + 1 ≡ nextTick st
+      unfolding nextTick
+      tick-is = omega (arith, largest-is)
+
+      record-is : recordOf w ≡ new
+      record-is =
+          f
+          ∙ ap₂ (λ (p x : ℕ). changedRec content item p x (foundRead s found)) own-is tick-is
+          ∙ ap (changedRec content item (st .own) (nextTick st)) found-here
+
+      new-is : NewRec content item (st .own) (nextTick st) (find item (st .records)) new
+      new-is = changed-is content item (st .own) (nextTick st) (find item (st .records))
+
+      created : (o : Option Rec) → find item (st .records) ≡ o → NewRec content item (st .own) (nextTick st) o new
+          → (new .createReplica < 256 ^ 16) × (new .createTick < 256 ^ 8)
+      created none g m =
+          let c = m .absent refl in
+          (subst (λ (x : ℕ). x < 256 ^ 16) (sym (c .0)) (lawful .own), omega (arith, c .1, tick-is, below))
+      created (some old) g m =
+          let c = m .there old refl in
+          let v = rec-fits old (find-all LawfulRec item (st .records) old (lawful .records) g) in
+          (subst (λ (x : ℕ). x < 256 ^ 16) (sym (c .0)) (v .createReplica), omega (arith, c .1, v .createTick))
+
+      fits : FitsRec new
+      fits =
+          let c = created (find item (st .records)) refl new-is in
+          record {
+            item = subst (λ (x : ℕ). x < 256 ^ 24) (sym (new-is .item)) (h .item);
+            changeReplica = subst (λ (x : ℕ). x < 256 ^ 16) (sym (new-is .changeReplica)) (lawful .own);
+            changeTick = omega (arith, new-is .changeTick, tick-is, below);
+            createReplica = c .0;
+            createTick = c .1;
+            tag = subst (λ (x : Content). x .tag < 256 ^ 16) (sym (new-is .content)) (h .tag);
+          }
+
+      -- the new tick is above that of the item's record
+      new-wins : (x : Rec) → find (new .item) (tableAt s (storeKnowledge + own .length)) ≡ some x → wins x new ≡ true
+      new-wins x g =
+          let v : ContainedIn (st .knowledge) x =
+          find-all (ContainedIn (st .knowledge)) (new .item) (st .records) x (lawful .versions) (sym (ap (find (new .item)) walked) ∙ g) in
+          wins-tick x new
+          (omega (arith, v .change, largest-bounds (st .knowledge) (x .item) (x .changeReplica), largest-is, new-is .changeTick, tick-is))
+
+      joins : join (tableAt s (storeKnowledge + length k)) (tableAt (putRec new []) 0) ≡ replace new (st .records)
+      joins =
+          ap (λ (m : ℕ). join (tableAt s (storeKnowledge + m)) (tableAt (putRec new []) 0)) part-size
+          ∙ replaced-table s (storeKnowledge + own .length) (putRec new []) new (record-table new fits) new-wins
+          ∙ ap (replace new) walked
+
+      becomes : Becomes s k (new .changeReplica) (new .changeTick) (putRec new []) (changed content item st)
+      unfolding changed
+      becomes =
+          record {
+            own = new-is .changeReplica;
+            knowledge =
+                ap₂ (λ (p x : ℕ). raise p x (decode k)) (new-is .changeReplica) (new-is .changeTick)
+                ∙ ap (raise (st .own) (nextTick st)) decodes;
+            records = joins;
+          }
+
+      pub change-done : (out u : List ℕ) (x : Answer)
+          → ((y : Store) → Becomes s k (recordOf w .changeReplica) (recordOf w .changeTick) (putRec (recordOf w) []) y
+          → Ended (storeReply L y) out u x)
+          → Ended (changeReply L st content item) out u x
+      change-done out u x g =
+          subst (λ (r : Reply). Ended r out u x) (sym (change-on L st content item (omega (arith, largest-is, below))))
+          (g (changed content item st)
+          (subst (λ (r : Rec). Becomes s k (r .changeReplica) (r .changeTick) (putRec r []) (changed content item st)) (sym record-is) becomes))
+
+-- ---- the calls, by what the check answered
+
+-- a change of the words of an item and of a tag
+abbrev pub changeOf : ItemWords → Bool → TagWords → Change
+changeOf i deleted t = record { item = i; deleted = deleted; tag = t }
+
+module _ (a b n : ℕ) (s : List ℕ) (o : OpenedStore) (e : o ≡ storeOpened (within a b n) s) (item : List ℕ) (out : List ℕ) where
+  pub edit-15 : (tag : List ℕ) → o ≡ S.NotValid → Ended (editReply (within a b n) s item (brings tag)) out out (Refused 15)
+  edit-15 tag f =
+      ended-refused (editReply (within a b n) s item (brings tag)) out 15
+      (edit-store (within a b n) s item (brings tag) 15 (store-closed a b n s (sym e ∙ f)))
+
+  pub delete-15 : o ≡ S.NotValid → Ended (deleteReply (within a b n) s item) out out (Refused 15)
+  delete-15 f =
+      ended-refused (deleteReply (within a b n) s item) out 15 (delete-store (within a b n) s item 15 (store-closed a b n s (sym e ∙ f)))
+
+  module _ (bytes : Bytes s) (own : KnowledgePart) (count : ℕ) (f : o ≡ S.Valid own count) where
+    opens : StoreOpen (within a b n) s own count
+    opens = store-open a b n s bytes own count (sym e ∙ f)
+
+    -- where the records begin
+    pub opened-end : storeKnowledge + own .length ≤ length s
+    opened-end = store-room (within a b n) s own count opens
+
+    pub edit-no-item : (tag : List ℕ) → (length item ≡ 24 → ⊥)
+        → Ended (editReply (within a b n) s item (brings tag)) out out (Refused 17)
+    edit-no-item tag g =
+        ended-refused (editReply (within a b n) s item (brings tag)) out 17
+        (edit-17 (within a b n) (within-permitted a b n) s item (brings tag) bytes (storeAt (within a b n) s) (opens .value) .1 (inl g))
+
+    pub edit-no-tag : (tag : List ℕ) → (length tag ≡ 16 → ⊥)
+        → Ended (editReply (within a b n) s item (brings tag)) out out (Refused 17)
+    edit-no-tag tag g =
+        ended-refused (editReply (within a b n) s item (brings tag)) out 17
+        (edit-17 (within a b n) (within-permitted a b n) s item (brings tag) bytes (storeAt (within a b n) s) (opens .value) .1
+        (inr (λ b. g (b .tag))))
+
+    pub delete-no-item : (length item ≡ 24 → ⊥) → Ended (deleteReply (within a b n) s item) out out (Refused 17)
+    delete-no-item g =
+        ended-refused (deleteReply (within a b n) s item) out 17
+        (delete-17 (within a b n) (within-permitted a b n) s item bytes (storeAt (within a b n) s) (opens .value) .1 g)
+
+    module _ (octets : Bytes item) (long : length item ≡ 24) (i : ItemWords) (is : words3 (i .high) (i .middle) (i .low) ≡ beAt item 24 0)
+        (found : Found)
+        (place : foundPlace found ≡ placeOf s (words3 (i .high) (i .middle) (i .low)) (places s (storeKnowledge + own .length))) where
+      abbrev words : ℕ
+      words = words3 (i .high) (i .middle) (i .low)
+
+      words-id : words ≡ idOf 24 item
+      words-id = is ∙ sym (id-is 24 item)
+
+      -- the item was looked for in a store that was opened
+      asked : (deleted : Bool) (t : TagWords) → words2 (t .high) (t .low) < 256 ^ 16
+          → Asked (within a b n) s (take (storeKnowledge + own .length - storeKnowledge) (drop storeKnowledge s)) own found (changeOf i deleted t)
+      asked deleted t small =
+          record {
+            count = count;
+            valid = sym e ∙ f;
+            part = store-slice (within a b n) s own count opens;
+            place = place;
+            item = subst (λ (x : ℕ). x < 256 ^ 24) (sym is) (be-below item 24 0 octets);
+            tag = small;
+          }
+
+      pub edit-asked : (tag : List ℕ) → Bytes tag → (t : TagWords) → words2 (t .high) (t .low) ≡ beAt tag 16 0
+          → Asked (within a b n) s (take (storeKnowledge + own .length - storeKnowledge) (drop storeKnowledge s)) own found (changeOf i false t)
+      edit-asked tag y t tag-words = asked false t (subst (λ (x : ℕ). x < 256 ^ 16) (sym tag-words) (be-below tag 16 0 y))
+
+      pub delete-asked : (t : TagWords) → words2 (t .high) (t .low) ≡ 0
+          → Asked (within a b n) s (take (storeKnowledge + own .length - storeKnowledge) (drop storeKnowledge s)) own found (changeOf i true t)
+      delete-asked t zeros = asked true t (subst (λ (x : ℕ). x < 256 ^ 16) (sym zeros) (power-positive 16))
+
+      pub edit-done : (tag : List ℕ) → length tag ≡ 16 → (t : TagWords) → words2 (t .high) (t .low) ≡ beAt tag 16 0
+          → (u : List ℕ) (x : Answer)
+          → Ended (changeReply (within a b n) (storeAt (within a b n) s) (contentOf (changeOf i false t)) (itemOf (changeOf i false t))) out u x
+          → Ended (editReply (within a b n) s item (brings tag)) out u x
+      unfolding liveContent
+      edit-done tag long16 t tag-words u x g =
+          subst (λ (r : Reply). Ended r out u x)
+          (ap₂ (λ (c j : ℕ). changeReply (within a b n) (storeAt (within a b n) s) (record { deleted = false; tag = c }) j)
+          (tag-words ∙ sym (id-is 16 tag)) words-id
+          ∙ sym (edit-left (within a b n) s (storeAt (within a b n) s) (opens .value) item (brings tag) long long16)) g
+
+      -- the record that was found is the item's
+      found-item : foundRead s found ≡ find (idOf 24 item) (storeAt (within a b n) s .records)
+      found-item =
+          found-is s found words (storeKnowledge + own .length) place
+          ∙ ap₂ find words-id
+          (ap (tableAt s) (store-place (within a b n) s own count opens) ∙ store-walked (within a b n) s (opens .tests))
+
+      module _ (g : Bool) (went : g ≡ gone (foundRead s found)) where
+        gone-is : g ≡ gone (find (idOf 24 item) (storeAt (within a b n) s .records))
+        gone-is = went ∙ ap gone found-item
+
+        pub delete-19 : g ≡ true → Ended (deleteReply (within a b n) s item) out out (Refused 19)
+        delete-19 went-off =
+            ended-refused (deleteReply (within a b n) s item) out 19
+            (delete-gone (within a b n) s (storeAt (within a b n) s) (opens .value) item long (sym gone-is ∙ went-off))
+
+        pub delete-done : g ≡ false → (t : TagWords) → words2 (t .high) (t .low) ≡ 0 → (u : List ℕ) (x : Answer)
+            → Ended (changeReply (within a b n) (storeAt (within a b n) s) (contentOf (changeOf i true t)) (itemOf (changeOf i true t))) out u x
+            → Ended (deleteReply (within a b n) s item) out u x
+        unfolding tombstone
+        delete-done there t zeros u x z =
+            subst (λ (r : Reply). Ended r out u x)
+            (ap₂ (λ (c j : ℕ). changeReply (within a b n) (storeAt (within a b n) s) (record { deleted = true; tag = c }) j) zeros words-id
+            ∙ sym (delete-left (within a b n) s (storeAt (within a b n) s) (opens .value) item long (sym gone-is ∙ there))) z
+
+-- the words of a tombstone's tag
+pub zero-tag : words2 0 0 ≡ 0
+unfolding words2
+zero-tag = refl
+
+-- document 01's limits
+pub ended-base : (call : Limits → Reply) (out u : List ℕ) (x : Answer)
+    → Ended (call (within (base .replicas) (base .ranges) (base .records))) out u x
+    → (x ≡ answer (call base) (length out)) × (u ≡ after (call base) out)
+ended-base call out u x h =
+    let e : call (within (base .replicas) (base .ranges) (base .records)) ≡ call base = ap call base-within in
+    (h .answers ∙ ap (λ (r : Reply). answer r (length out)) e, h .leaves ∙ ap (λ (r : Reply). after r out) e)

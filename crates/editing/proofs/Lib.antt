@@ -1,0 +1,2 @@
+-- The laws of edit and delete.
+pub mod Changing

@@ -1,0 +1,26 @@
+-- `editing::edit` meets its contract: document 01's limits are those of its three numbers.
+use Rattle.replication.specs.Calls.{editReply}
+use Rattle.replication.specs.MethodReplies.{brings}
+use Rattle.editing.proofs.Changing.{ended-base}
+use borrow.Author.Needs.{needs}
+use Rattle.editing.proofs.edit.Statement.{statement}
+use Rattle.editing.proofs.edit.Tie as tie
+
+edit-within-requires : tie.Need-edit-within-requires
+edit-within-requires c κs = search needs
+
+same-length : tie.Need-same-length
+same-length c = search needs
+
+returns : tie.Need-returns
+returns c =
+    let a = c .before .before .before .before .before .before .before .before .args in
+    ended-base (λ L. editReply L (a .store .now) (a .item .now) (brings (a .tag .now))) _ _ _ (c .before .before .edit-within .ensures)
+
+pub edit-spec : {M : Type 1} → statement M
+edit-spec =
+    tie.close
+    (tie.spec
+    edit-within-requires
+    same-length
+    returns)

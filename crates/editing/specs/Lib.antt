@@ -1,0 +1,2 @@
+-- The method of edit and delete.
+pub mod MethodEditing

@@ -1,0 +1,22 @@
+-- `filling::bound_of` meets its contract: three words of eight bytes.
+use Rattle.filling.proofs.Span.{bound-is-read}
+use Rattle.filling.proofs.bound_of.Statement.{statement}
+use Rattle.filling.proofs.bound_of.Tie as tie
+
+read8-requires : tie.Need-read8-requires
+read8-requires c κs = tt
+
+read8-requires-2 : tie.Need-read8-requires-2
+read8-requires-2 c κs = tt
+
+read8-requires-3 : tie.Need-read8-requires-3
+read8-requires-3 c κs = tt
+
+returns : tie.Need-returns
+returns c = (
+  bound-is-read _ _ _ _ (c .before .before .read8 .ensures .0) (c .before .read82 .ensures .0) (c .read83 .ensures .0),
+  record { high = c .before .before .read8 .ensures .1; middle = c .before .read82 .ensures .1; low = c .read83 .ensures .1 },
+)
+
+pub bound-of-spec : {M : Type 1} → statement M
+bound-of-spec = tie.close (tie.spec read8-requires read8-requires-2 read8-requires-3 returns)

@@ -1,0 +1,59 @@
+-- `filling::raise_cell` meets its contract: what is written is the larger of the cell and the tick.
+use native.Mathlib.Omega.{arith}
+use lib.ListN.{length-set}
+use Rattle.filling.proofs.Cells.{raised-past, raised-is}
+use Rattle.filling.proofs.raise_cell.Statement.{statement}
+use Rattle.filling.proofs.raise_cell.Tie as tie
+
+column-of-requires : tie.Need-column-of-requires
+column-of-requires c κs = tt
+
+mul-i : tie.Need-mul-i
+mul-i c = omega arith
+
+cast-i : tie.Need-cast-i
+cast-i c = omega arith
+
+add-i : tie.Need-add-i
+add-i c = omega arith
+
+returns : tie.Need-returns
+returns c = raised-past _ _ _ _ _ _ (c .before .before .column-of .ensures) (omega arith)
+
+mul-larger : tie.Need-mul-larger
+mul-larger c = omega arith
+
+slice-read-larger : tie.Need-slice-read-larger
+slice-read-larger c = omega arith
+
+larger-requires : tie.Need-larger-requires
+larger-requires c κs = tt
+
+mul-t : tie.Need-mul-t
+mul-t c = omega arith
+
+slice-write-t : tie.Need-slice-write-t
+slice-write-t c = omega arith
+
+same-length : tie.Need-same-length
+same-length c = simp length-set
+
+returns-2 : tie.Need-returns-2
+returns-2 c = raised-is _ _ _ _ _ _ (c .before .before .before .before .column-of .ensures) _ (c .larger .ensures)
+
+pub raise-cell-spec : {M : Type 1} → statement M
+raise-cell-spec =
+    tie.close
+    (tie.spec
+    column-of-requires
+    mul-i
+    cast-i
+    add-i
+    returns
+    mul-larger
+    slice-read-larger
+    larger-requires
+    mul-t
+    slice-write-t
+    same-length
+    returns-2)

@@ -1,0 +1,2 @@
+-- The laws of the headers.
+pub mod Headers

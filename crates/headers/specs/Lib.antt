@@ -1,0 +1,2 @@
+-- The headers of stores and batches.
+pub mod MethodHeaders

@@ -1,0 +1,31 @@
+-- `joining::write_version` meets its contract: the tick stands behind the replica.
+use Rattle.joining.proofs.Written.{version-wrote}
+use borrow.Author.Needs.{needs}
+use Rattle.joining.proofs.write_version.Statement.{statement}
+use Rattle.joining.proofs.write_version.Tie as tie
+
+write-pair-requires : tie.Need-write-pair-requires
+write-pair-requires c κs = search needs
+
+add-write8 : tie.Need-add-write8
+add-write8 c = search needs
+
+write8-requires : tie.Need-write8-requires
+write8-requires c κs = search needs
+
+same-length : tie.Need-same-length
+same-length c = search needs
+
+returns : tie.Need-returns
+returns c =
+    let h = c .before .before .before .before .before .before .before .before .before .fits in (
+      version-wrote _ _ _ _ _ _ (c .before .before .before .before .before .before .write-pair .ensures .0)
+          (c .before .before .write8 .ensures),
+      h .high .fits,
+      h .low .fits,
+      h .tick .fits,
+    )
+
+pub write-version-spec : {M : Type 1} → statement M
+write-version-spec =
+    tie.close (tie.spec write-pair-requires add-write8 write8-requires same-length returns)

@@ -1,0 +1,3 @@
+-- The laws of the call make.
+pub mod Batches
+pub mod Steps

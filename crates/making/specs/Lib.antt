@@ -1,0 +1,2 @@
+-- The method of the call make.
+pub mod Method

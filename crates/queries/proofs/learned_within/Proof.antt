@@ -1,0 +1,45 @@
+-- `queries::learned_within` meets its contract, in each of the answers of the check.
+use native.Mathlib.Omega.{arith}
+use Rattle.codec.specs.Number.{Bytes}
+use Rattle.queries.proofs.Handed.{learned-not-batch, learned-place, learned-is}
+use borrow.Author.Needs.{needs}
+use Rattle.queries.proofs.learned_within.Statement.{statement}
+use Rattle.queries.proofs.learned_within.Tie as tie
+
+open-batch-requires : tie.Need-open-batch-requires
+open-batch-requires c κs = search needs
+
+enum-known-needed : tie.Need-enum-known-needed
+enum-known-needed c = search needs
+
+add-t11 : tie.Need-add-t11
+add-t11 c =
+    let b4 = c .before .before .before .before in
+    let b5 = b4 .before in
+    let b6 = b5 .before in
+    let a = b6 .args in
+    let z : Bytes (a .batch .now) = record { below = λ i. omega (arith, b5 .shared-slice-known .given i) } in
+    let inside = learned-place (a .replicas) (a .ranges) (a .records) _ _ (b4 .open-batch .ensures) z _ _ _
+    (c .before .before .needed .given .1) in
+    omega (arith, inside)
+
+enum-told : tie.Need-enum-told
+enum-told c = search needs
+
+returns : tie.Need-returns
+returns c =
+    let b4 = c .before .before .before .before in
+    let b5 = b4 .before in
+    let b6 = b5 .before in
+    let a = b6 .args in
+    let z : Bytes (a .batch .now) = record { below = λ i. omega (arith, b5 .shared-slice-known .given i) } in
+    learned-is (a .replicas) (a .ranges) (a .records) _ _ (b4 .open-batch .ensures) z _ _ _ (c .before .before .needed .given .1)
+
+returns-2 : tie.Need-returns-2
+returns-2 c =
+    let a = c .before .before .before .before .args in
+    learned-not-batch (a .replicas) (a .ranges) (a .records) _ _ (c .before .before .open-batch .ensures) (c .enum-told .given .1)
+
+pub learned-within-spec : {M : Type 1} → statement M
+learned-within-spec =
+    tie.close (tie.spec open-batch-requires enum-known-needed add-t11 enum-told returns returns-2)

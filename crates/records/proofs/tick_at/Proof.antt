@@ -1,0 +1,32 @@
+-- `records::tick_at` meets its contract: the tick is read where all of its bytes are there.
+use native.Mathlib.Omega.{arith}
+use mathlib.Core.Path.{sym}
+use Rattle.codec.proofs.Total.{read-missing}
+use Rattle.records.proofs.Fields.{tick-total}
+use borrow.Author.Needs.{needs}
+use Rattle.records.proofs.tick_at.Statement.{statement}
+use Rattle.records.proofs.tick_at.Tie as tie
+
+add-beyond : tie.Need-add-beyond
+add-beyond c = search needs
+
+beyond-requires : tie.Need-beyond-requires
+beyond-requires c κs = search needs
+
+returns : tie.Need-returns
+returns c = sym (read-missing _ 8 _ (omega (arith, c .before .beyond .ensures .0 (c .if1 .taken))))
+
+add-eight : tie.Need-add-eight
+add-eight c = omega (arith, c .before .beyond .ensures .1 (c .if1 .left))
+
+eight-requires : tie.Need-eight-requires
+eight-requires c κs = omega (arith, c .before .beyond .ensures .1 (c .if1 .left))
+
+returns-2 : tie.Need-returns-2
+returns-2 c =
+    tick-total _ _ (omega (arith, c .before .before .beyond .ensures .1 (c .before .if1 .left))) _
+    (c .eight .ensures .0)
+
+pub tick-at-spec : {M : Type 1} → statement M
+tick-at-spec =
+    tie.close (tie.spec add-beyond beyond-requires returns add-eight eight-requires returns-2)

@@ -1,0 +1,117 @@
+-- `rows::pour` meets its contract. The loop's invariant: the row has the ticks of the elements from here on.
+use Prim.Native.Nat.{_+_, _-_, _*_, _≤_}
+use mathlib.Core.Path.{_≡_, refl}
+use mathlib.Core.Logic.{⊎-elim}
+use lib.ListN.{length}
+use Rattle.layout.specs.Decode.{elementsAt}
+use Rattle.lookup.specs.Method.{There}
+use Rattle.rows.specs.Method.{RowOf}
+use Rattle.rows.proofs.Cells.{poured-nothing, poured-all, row-begins, Put, put-set, put-skip}
+use native.Mathlib.Omega.{arith}
+use Rattle.rows.proofs.pour.Statement.{statement}
+use Rattle.rows.proofs.pour.Tie as tie
+
+abbrev Inv-loop : tie.InvT-loop
+Inv-loop s vector row₀ n left₀ at₀ row left at =
+    RowOf (elementsAt s (n - left) at) row × (at ≡ vector + 8 + 12 * left) × (left ≤ n) × (length row ≡ length row₀)
+    × (vector + 8 + 12 * n ≤ length s) × There s vector n
+
+abbrev μ-loop : tie.MeasureT-loop
+μ-loop s vector row₀ n left₀ at₀ row left at = left
+
+elements-at-requires : tie.Need-elements-at-requires Inv-loop μ-loop
+elements-at-requires c κs = tt
+
+returns : tie.Need-returns Inv-loop μ-loop
+returns c =
+    poured-nothing _ _ _ _ (c .before .elements-at .ensures) (c .before .before .before .before .pre) (c .if1 .taken)
+
+add-at : tie.Need-add-at Inv-loop μ-loop
+add-at c = omega (arith, c .before .elements-at .ensures .room (omega arith))
+
+mul-at : tie.Need-mul-at Inv-loop μ-loop
+mul-at c = omega (arith, c .before .elements-at .ensures .room (omega arith))
+
+add-at-2 : tie.Need-add-at-2 Inv-loop μ-loop
+add-at-2 c = omega (arith, c .before .elements-at .ensures .room (omega arith))
+
+loop-holds : tie.Need-loop-holds Inv-loop μ-loop
+loop-holds c = (
+  row-begins _ _ _ _ (c .before .before .before .before .pre),
+  omega arith,
+  omega arith,
+  refl,
+  c .before .elements-at .ensures .room (omega arith),
+  c .before .elements-at .ensures,
+)
+
+sub-at : tie.Need-sub-at Inv-loop μ-loop
+sub-at c = omega arith
+
+four-requires : tie.Need-four-requires Inv-loop μ-loop
+four-requires c κs = omega arith
+
+add-eight : tie.Need-add-eight Inv-loop μ-loop
+add-eight c = omega arith
+
+eight-requires : tie.Need-eight-requires Inv-loop μ-loop
+eight-requires c κs = omega arith
+
+mul-row : tie.Need-mul-row Inv-loop μ-loop
+mul-row c = omega arith
+
+slice-write-row : tie.Need-slice-write-row Inv-loop μ-loop
+slice-write-row c = omega arith
+
+sub-left : tie.Need-sub-left Inv-loop μ-loop
+sub-left c = omega arith
+
+loop-less : tie.Need-loop-less Inv-loop μ-loop
+loop-less c = omega arith
+
+loop-again : tie.Need-loop-again Inv-loop μ-loop
+loop-again c =
+    let l = c .before .before .before .loop in
+    let s = c .before .before .before .before .before .before .before .before .args .s .now in
+    let n = c .before .before .before .before .before .elements-at .result in
+    let f = c .before .four .ensures .0 in
+    let after = c .if2 .row in
+    let w : Put s n (l .left) (l .at - 12) (l .row) after =
+    ⊎-elim {C = Put s n (l .left) (l .at - 12) (l .row) after}
+    (λ x.
+    put-set s n (l .left) (l .at) (l .at - 12) (l .row) (c .before .four .result) (l .inv .0) (omega arith) (omega arith)
+    (omega arith) f after (x .1 .result) (x .1 .ensures .0) (x .0 .taken) (x .2))
+    (λ x.
+    put-skip s n (l .left) (l .at) (l .at - 12) (l .row) (c .before .four .result) (l .inv .0) (omega arith) (omega arith)
+    (omega arith) f after (x .0 .left) (x .1)) (c .if2 .came) in
+    (w .cells, omega arith, omega arith, omega (arith, w .size), omega arith, l .inv .5)
+
+same-length : tie.Need-same-length Inv-loop μ-loop
+same-length c = omega arith
+
+returns-2 : tie.Need-returns-2 Inv-loop μ-loop
+returns-2 c = poured-all _ _ _ _ (c .before .loop .inv .5) _ _ _ (c .before .loop .inv .0) (omega arith) (omega arith) (omega arith)
+
+pub pour-spec : {M : Type 1} → statement M
+pour-spec =
+    tie.close
+    (tie.spec
+    Inv-loop
+    μ-loop
+    elements-at-requires
+    returns
+    add-at
+    mul-at
+    add-at-2
+    loop-holds
+    sub-at
+    four-requires
+    add-eight
+    eight-requires
+    mul-row
+    slice-write-row
+    sub-left
+    loop-less
+    loop-again
+    same-length
+    returns-2)

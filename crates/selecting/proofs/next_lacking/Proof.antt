@@ -1,0 +1,75 @@
+-- `selecting::next_lacking` meets its contract. The loop's invariant: what is selected from the first place on is what is selected from the
+-- present place on, with the cursor as it was moved on. The measure is the bytes that are left.
+use mathlib.Core.Path.{_≡_, refl}
+use Prim.Native.Nat.{_+_, _-_}
+use native.Mathlib.Omega.{arith}
+use lib.ListN.{length}
+use Rattle.codec.specs.Words.{words3}
+use Rattle.records.proofs.Finding.{length-inside}
+use Rattle.selecting.proofs.Picking.{less-left, Passed, passed-none, pick-end, pick-past, pick-taken, pick-on}
+use Rattle.selecting.proofs.next_lacking.Statement.{statement}
+use Rattle.selecting.proofs.next_lacking.Tie as tie
+
+abbrev Inv-loop : tie.InvT-loop
+Inv-loop s from k r l0 l1 l2 at₀ cursor₀ at cursor = Passed s from k r cursor₀ (words3 l0 l1 l2) at cursor
+
+abbrev μ-loop : tie.MeasureT-loop
+μ-loop s from k r l0 l1 l2 at₀ cursor₀ at cursor = length s - at
+
+loop-holds : tie.Need-loop-holds Inv-loop μ-loop
+loop-holds c = passed-none _ _ _ _ _ _
+
+length-at-requires : tie.Need-length-at-requires Inv-loop μ-loop
+length-at-requires c κs = tt
+
+returns : tie.Need-returns Inv-loop μ-loop
+returns c = pick-end _ _ _ _ _ _ _ _ (c .before .before .loop .inv) _ (c .before .length-at .ensures) (c .if1 .taken)
+
+item-of-requires : tie.Need-item-of-requires Inv-loop μ-loop
+item-of-requires c κs = tt
+
+less3-requires : tie.Need-less3-requires Inv-loop μ-loop
+less3-requires c κs = tt
+
+returns-2 : tie.Need-returns-2 Inv-loop μ-loop
+returns-2 c =
+    pick-past _ _ _ _ _ _ _ _ (c .before .before .before .before .before .loop .inv) _ (c .before .before .before .before .length-at .ensures) (c .before .before .before .if1 .left) _ _ _ (c .before .before .item-of .ensures) _ (c .before .less3 .ensures) (c .if2 .taken)
+
+advance-requires : tie.Need-advance-requires Inv-loop μ-loop
+advance-requires c κs = tt
+
+change-in-requires : tie.Need-change-in-requires Inv-loop μ-loop
+change-in-requires c κs = tt
+
+returns-3 : tie.Need-returns-3 Inv-loop μ-loop
+returns-3 c =
+    pick-taken _ _ _ _ _ _ _ _ (c .before .before .before .before .before .before .before .before .loop .inv) _ (c .before .before .before .before .before .before .before .length-at .ensures) (c .before .before .before .before .before .before .if1 .left) _ _ _ (c .before .before .before .before .before .item-of .ensures) _ (c .before .before .before .before .less3 .ensures) (c .before .before .before .if2 .left) _ (c .before .before .advance .ensures) _ (c .before .change-in .ensures) (c .if3 .left)
+
+add-at : tie.Need-add-at Inv-loop μ-loop
+add-at c = omega (arith, length-inside _ _ _ (c .before .before .before .before .before .before .before .length-at .ensures) (c .before .before .before .before .before .before .if1 .left))
+
+loop-less : tie.Need-loop-less Inv-loop μ-loop
+loop-less c = less-left _ _ _ (c .before .before .before .before .before .before .before .length-at .ensures) (c .before .before .before .before .before .before .if1 .left)
+
+loop-again : tie.Need-loop-again Inv-loop μ-loop
+loop-again c =
+    pick-on _ _ _ _ _ _ _ _ (c .before .before .before .before .before .before .before .before .loop .inv) _ (c .before .before .before .before .before .before .before .length-at .ensures) (c .before .before .before .before .before .before .if1 .left) _ _ _ (c .before .before .before .before .before .item-of .ensures) _ (c .before .before .before .before .less3 .ensures) (c .before .before .before .if2 .left) _ (c .before .before .advance .ensures) _ (c .before .change-in .ensures) (c .if3 .taken)
+
+pub next-lacking-spec : {M : Type 1} → statement M
+next-lacking-spec =
+    tie.close
+    (tie.spec
+    Inv-loop
+    μ-loop
+    loop-holds
+    length-at-requires
+    returns
+    item-of-requires
+    less3-requires
+    returns-2
+    advance-requires
+    change-in-requires
+    returns-3
+    add-at
+    loop-less
+    loop-again)

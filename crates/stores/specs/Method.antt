@@ -1,0 +1,108 @@
+-- What the check of a store or a batch answers: the tests of opening, then its sizes by places. There is nothing to believe here: the laws
+-- `store-open`, `store-closed`, `batch-open` and `batch-closed` say what these answers are in the terms of specs/OpenStore.antt and
+-- specs/OpenBatch.antt of `replication`.
+use Rattle.codec.specs.Prelude.{ℕ, _≤_, _≡_, Bool, true, false, List, length, take, drop}
+use Rattle.codec.specs.Number.{Bytes, beAt}
+use Rattle.layout.specs.Knowledge.{Limits, anyId}
+use Rattle.layout.specs.Permitted.{largestReplicas}
+use Rattle.layout.specs.Decode.{decode}
+use Rattle.layout.specs.Parse.{checkedBy, parse}
+use Rattle.ticks.specs.Written.{isNormal}
+use Rattle.ticks.specs.Calls.{readAs}
+use Rattle.replication.specs.OpenStore.{knowledgeLength, storeCount, storeKnowledge, storeTable}
+use Rattle.replication.specs.OpenBatch.{firstId, lastId, neededLength, learnedLength, batchCount, batchNeeded, batchLearned, batchTable}
+use Rattle.replication.specs.MethodRecords.{shapedAt}
+use Rattle.replication.specs.MethodOpening.{isAccepted, isStore, isBatch}
+use Rattle.lookup.specs.declared.Cursor.{Cursor}
+use Rattle.lookup.specs.declared.Opened.{Opened}
+use Rattle.lookup.specs.declared.Opened.the-variants as O
+use Rattle.lookup.specs.Method.{openOf, Opens}
+use Rattle.stores.specs.declared.KnowledgePart.{KnowledgePart}
+use Rattle.stores.specs.declared.OpenedStore.{OpenedStore}
+use Rattle.stores.specs.declared.OpenedStore.the-variants as S
+use Rattle.stores.specs.declared.OpenedBatch.{OpenedBatch}
+use Rattle.stores.specs.declared.OpenedBatch.the-variants as B
+use Rattle.stores.specs.declared.Normality.{Normality}
+use Rattle.stores.specs.declared.Normality.the-variants as N
+
+-- a knowledge of n bytes
+abbrev pub knowledgePart : ℕ → ℕ → Cursor → KnowledgePart
+knowledgePart n r c = record { length = n; r = r; start = c }
+
+-- a knowledge in normal form that was opened for lookup, with no more replicas than scratch of the largest size has room for
+pub record NormalOf (L : Limits) (k : List ℕ) (p : KnowledgePart) : Type 0 where
+  pub opens : Opens (anyId L) k (p .r) (p .start)
+  pub normal : isNormal (decode k) ≡ true
+  pub length : p .length ≡ length k
+  pub small : p .r ≤ largestReplicas
+
+-- bytes that the check does not accept, or that are not in normal form
+abbrev pub NotNormal : Limits → List ℕ → Type 0
+NotNormal L k = isAccepted (parse (anyId L) k) ≡ true → isNormal (readAs (parse (anyId L) k)) ≡ true → ⊥
+
+-- what the check of a knowledge and of its normal form came to
+pub record NormalityOf (L : Limits) (k : List ℕ) (z : Normality) : Type 0 where
+  pub normal : (p : KnowledgePart) → z ≡ N.Normal p → NormalOf L k p
+  pub other : z ≡ N.Other → NotNormal L k
+
+-- ---- stores
+
+-- the bytes of a store's knowledge
+abbrev pub ownPart : List ℕ → List ℕ
+ownPart s = take (knowledgeLength s) (drop storeKnowledge s)
+
+-- from what the check of the knowledge answered
+unfoldable pub storeFrom : List ℕ → Opened → OpenedStore
+storeFrom s (O.At r c) = S.Valid (knowledgePart (knowledgeLength s) r c) (storeCount s)
+storeFrom s (O.Refused n) = S.NotValid
+
+unfoldable pub storeIf : Bool → OpenedStore → OpenedStore
+storeIf true x = x
+storeIf false x = S.NotValid
+
+unfoldable pub storeOpened : Limits → List ℕ → OpenedStore
+storeOpened L s = storeIf (isStore L s) (storeFrom s (openOf (checkedBy (anyId L) (ownPart s))))
+
+-- the tests before the knowledge hold, but for the limit of records; k is the knowledge's bytes, and n the count of records
+pub record StoreHeader (s k : List ℕ) (n : ℕ) : Type 0 where
+  pub header : storeKnowledge ≤ length s
+  pub kind : beAt s 1 0 ≡ 3
+  pub inside : storeTable s ≤ length s
+  pub ordered : shapedAt s 0 (storeCount s) (storeTable s) ≡ true
+  pub part : k ≡ ownPart s
+  pub count : n ≡ storeCount s
+
+-- ---- batches
+
+abbrev pub neededPart : List ℕ → List ℕ
+neededPart s = take (neededLength s) (drop batchNeeded s)
+
+abbrev pub learnedPart : List ℕ → List ℕ
+learnedPart s = take (learnedLength s) (drop (batchLearned s) s)
+
+unfoldable pub batchFrom : List ℕ → Opened → Opened → OpenedBatch
+batchFrom s (O.At r c) (O.At m d) =
+    B.Valid (knowledgePart (neededLength s) r c) (knowledgePart (learnedLength s) m d) (batchCount s)
+batchFrom s (O.At r c) (O.Refused n) = B.NotValid
+batchFrom s (O.Refused n) o = B.NotValid
+
+unfoldable pub batchIf : Bool → OpenedBatch → OpenedBatch
+batchIf true x = x
+batchIf false x = B.NotValid
+
+unfoldable pub batchOpened : Limits → List ℕ → OpenedBatch
+batchOpened L s =
+    batchIf (isBatch L s)
+    (batchFrom s (openOf (checkedBy (anyId L) (neededPart s))) (openOf (checkedBy (anyId L) (learnedPart s))))
+
+-- the same for a batch: k and l are the bytes of the needed and of the learned knowledge
+pub record BatchHeader (s k l : List ℕ) (n : ℕ) : Type 0 where
+  pub bytes : Bytes s
+  pub header : batchNeeded ≤ length s
+  pub kind : beAt s 1 0 ≡ 4
+  pub inside : batchTable s ≤ length s
+  pub span : firstId s ≤ lastId s
+  pub ordered : shapedAt s 0 (batchCount s) (batchTable s) ≡ true
+  pub needed : k ≡ neededPart s
+  pub learned : l ≡ learnedPart s
+  pub count : n ≡ batchCount s

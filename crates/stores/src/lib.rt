@@ -1,0 +1,304 @@
+// The check of a store and of a batch: each test once, from the front to the records' versions.
+//
+// Both public functions are total and take limits of the caller's. For a valid store or batch they answer the sizes that its other
+// functions go on from, so that nothing is checked again.
+use layout::Checked;
+use lookup::Cursor;
+use records::ItemWords;
+ghost use mathlib.Core.Path.{_≡_};
+ghost use mathlib.Core.Bool.{true};
+ghost use Prim.Native.Nat.{ℕ, _+_, _≤_};
+ghost use lib.Dec.{ltb};
+ghost use lib.ListN.{length};
+ghost use Rattle.codec.specs.Number.{beAt};
+ghost use Rattle.codec.specs.Total.{brought};
+ghost use Rattle.codec.specs.Words.{words3};
+ghost use Rattle.layout.specs.Permitted.{largestRecords, within};
+ghost use Rattle.layout.specs.Decode.{decode};
+ghost use Rattle.replication.specs.OpenStore.{versionsIn};
+ghost use Rattle.replication.specs.OpenBatch.{firstId, lastId, batchNeeded, lacksChange};
+ghost use Rattle.replication.specs.MethodRecords.{recordsAt, shapedAt, each};
+ghost use Rattle.lookup.specs.Method.{Open};
+ghost use Rattle.ranges.specs.Method.{insideOf};
+ghost use Rattle.stores.specs.Method.{NormalOf, NormalityOf, StoreHeader, storeOpened, BatchHeader, batchOpened};
+
+// the places of a store's own id, of the knowledge's length, of the count of records, and of the knowledge
+const OWN: usize = 1;
+
+const OWN_LENGTH: usize = 17;
+
+const STORE_COUNT: usize = 21;
+
+const STORE_KNOWLEDGE: usize = 25;
+
+// the places of a batch's first and last id, of the lengths of its knowledges, of the count of records, and of the needed knowledge
+const FIRST: usize = 1;
+
+const LAST: usize = 25;
+
+const NEEDED_LENGTH: usize = 49;
+
+const LEARNED_LENGTH: usize = 53;
+
+const BATCH_COUNT: usize = 57;
+
+const BATCH_NEEDED: usize = 61;
+
+// A knowledge inside a store or batch: the length of its bytes, the count of its replicas, and the cursor before any of its ranges.
+pub struct KnowledgePart {
+    pub length: usize,
+    pub r: u32,
+    pub start: Cursor,
+}
+
+// What the check of a store comes to.
+pub enum OpenedStore {
+    // its knowledge, and how many records it has
+    Valid { own: KnowledgePart, count: u32 },
+    NotValid,
+}
+
+// What the check of a batch comes to.
+pub enum OpenedBatch {
+    // its two knowledges, and how many records it has
+    Valid {
+        needed: KnowledgePart,
+        learned: KnowledgePart,
+        count: u32,
+    },
+    NotValid,
+}
+
+// What the check of a knowledge and of its normal form comes to.
+pub enum Normality {
+    Normal { part: KnowledgePart },
+    Other,
+}
+
+// ---- what stores and batches share
+
+// The check of a knowledge's bytes, and then of their normal form.
+fn normal_part(k: &[u8], replicas: u32, ranges: u32) -> Normality
+    ensures { λ z. ⌜ ((n : ℕ) → NormalityOf (within replicas ranges n) (now (k .entry)) z) ⌝ }
+{
+    let Checked::Accepted { r, v, e, g } = reader::check_within(&k[..], replicas, ranges) else {
+        return Normality::Other;
+    };
+    let r = r as u32;
+    let v = v as u32;
+    let e = e as u32;
+    let g = g as u32;
+    if normal::normal_in(k, r, v, e, g) {} else {
+        return Normality::Other;
+    }
+    let length = k.len();
+    let start = lookup::start(r, v, e, g);
+    let part = KnowledgePart { length, r, start };
+    Normality::Normal { part }
+}
+
+// Does a knowledge contain the change and the create version of each of the n records from a place on.
+fn each_contained(s: &[u8], n: u32, at: usize, k: &[u8], r: u32, start: Cursor) -> bool
+    requires { ⌜ (shapedAt (now s) 0 n at ≡ true) × (Open (now k) r start) ⌝ }
+    ensures { λ b. ⌜ b ≡ each (versionsIn (decode (now (k .entry)))) (recordsAt (now (s .entry)) n at) ⌝ }
+{
+    let mut c = start;
+    let mut left = n;
+    let mut p = at;
+    while 0 < left {
+        c = versions::move_to(s, p, k, r, c);
+        if versions::both_in(s, p, k, r, c.vector) {} else {
+            return false;
+        }
+        p = records::behind(s, p);
+        left -= 1;
+    }
+    true
+}
+
+// Does a knowledge lack the change version of each of the n records from a place on.
+fn each_lacking(s: &[u8], n: u32, at: usize, k: &[u8], r: u32, start: Cursor) -> bool
+    requires { ⌜ (shapedAt (now s) 0 n at ≡ true) × (Open (now k) r start) ⌝ }
+    ensures { λ b. ⌜ b ≡ each (lacksChange (decode (now (k .entry)))) (recordsAt (now (s .entry)) n at) ⌝ }
+{
+    let mut c = start;
+    let mut left = n;
+    let mut p = at;
+    while 0 < left {
+        c = versions::move_to(s, p, k, r, c);
+        if versions::change_in(s, p, k, r, c.vector) {
+            return false;
+        }
+        p = records::behind(s, p);
+        left -= 1;
+    }
+    true
+}
+
+// ---- stores
+
+// The check of a store from its knowledge k on, with the count of records.
+fn store_from(s: &[u8], k: &[u8], count: u32, replicas: u32, ranges: u32) -> OpenedStore
+    requires { ⌜ StoreHeader (now s) (now k) count ⌝ }
+    ensures { λ o. ⌜ ((m : ℕ) → count ≤ brought m largestRecords → o ≡ storeOpened (within replicas ranges m) (now (s .entry))) ⌝ }
+{
+    let Normality::Normal { part: own } = normal_part(k, replicas, ranges) else {
+        return OpenedStore::NotValid;
+    };
+    let p0 = codec::read8(s, OWN);
+    let p1 = codec::read8(s, OWN + 8);
+    if ranges::own_alike(k, own.r, own.start, p0, p1) {} else {
+        return OpenedStore::NotValid;
+    }
+    if each_contained(s, count, STORE_KNOWLEDGE + k.len(), k, own.r, own.start) {} else {
+        return OpenedStore::NotValid;
+    }
+    OpenedStore::Valid { own, count }
+}
+
+// Checks a store, with the most replicas, ranges and records, each brought into 1 to its largest.
+pub fn open_store(s: &[u8], replicas: u32, ranges: u32, records: u32) -> OpenedStore
+    ensures { λ o. ⌜ o ≡ storeOpened (within replicas ranges records) (now (s .entry)) ⌝ }
+{
+    if s.len() < STORE_KNOWLEDGE {
+        return OpenedStore::NotValid;
+    }
+    if codec::read1(s, 0) != 3 {
+        return OpenedStore::NotValid;
+    }
+    let n = codec::read4(s, OWN_LENGTH) as usize;
+    if s.len() - STORE_KNOWLEDGE < n {
+        return OpenedStore::NotValid;
+    }
+    let count = codec::read4(s, STORE_COUNT) as u32;
+    let most = codec::brought(records, layout::LARGEST_RECORDS);
+    if most < count {
+        return OpenedStore::NotValid;
+    }
+    if records::shaped(s, count, STORE_KNOWLEDGE + n) {} else {
+        return OpenedStore::NotValid;
+    }
+    store_from(
+        s,
+        &s[STORE_KNOWLEDGE..STORE_KNOWLEDGE + n],
+        count,
+        replicas,
+        ranges,
+    )
+}
+
+// ---- batches
+
+// The words of the item id at a place.
+fn item_id(s: &[u8], at: usize) -> ItemWords
+    requires { ⌜ at + 24 ≤ length (now s) ⌝ }
+    ensures { λ r. ⌜ words3 (r .high) (r .middle) (r .low) ≡ beAt (now (s .entry)) 24 at ⌝ }
+{
+    let high = codec::read8(s, at);
+    let middle = codec::read8(s, at + 8);
+    let low = codec::read8(s, at + 16);
+    ItemWords { high, middle, low }
+}
+
+// Is a batch's last id below its first.
+fn span_falls(s: &[u8]) -> bool
+    requires { ⌜ batchNeeded ≤ length (now s) ⌝ }
+    ensures { λ b. ⌜ b ≡ ltb (lastId (now (s .entry))) (firstId (now (s .entry))) ⌝ }
+{
+    let f = item_id(s, FIRST);
+    let l = item_id(s, LAST);
+    codec::less3(l.high, l.middle, l.low, f.high, f.middle, f.low)
+}
+
+// Do the ranges of a knowledge, but for those of vector 0, lie inside a batch's span.
+fn inside_span(s: &[u8], k: &[u8], start: Cursor) -> bool
+    requires { ⌜ batchNeeded ≤ length (now s) ⌝ }
+    ensures { λ b. ⌜ b ≡ insideOf (now (k .entry)) start (firstId (now (s .entry))) (lastId (now (s .entry))) ⌝ }
+{
+    let f = item_id(s, FIRST);
+    let l = item_id(s, LAST);
+    ranges::inside(k, start, f.high, f.middle, f.low, l.high, l.middle, l.low)
+}
+
+// The check of a batch from its learned knowledge l on, with the needed knowledge k, its sizes, and the count of records. A record
+// whose change version is contained in learned has its item inside the span, as learned has.
+fn batch_learned(
+    s: &[u8],
+    k: &[u8],
+    needed: KnowledgePart,
+    l: &[u8],
+    count: u32,
+    replicas: u32,
+    ranges: u32,
+) -> OpenedBatch
+    requires { ⌜ (BatchHeader (now s) (now k) (now l) count)
+        × ((n : ℕ) → NormalOf (within replicas ranges n) (now k) needed) ⌝ }
+    ensures { λ o. ⌜ ((m : ℕ) → count ≤ brought m largestRecords → o ≡ batchOpened (within replicas ranges m) (now (s .entry))) ⌝ }
+{
+    let Normality::Normal { part: learned } = normal_part(l, replicas, ranges) else {
+        return OpenedBatch::NotValid;
+    };
+    if inside_span(s, l, learned.start) {} else {
+        return OpenedBatch::NotValid;
+    }
+    let at = BATCH_NEEDED + k.len() + l.len();
+    if each_contained(s, count, at, l, learned.r, learned.start) {} else {
+        return OpenedBatch::NotValid;
+    }
+    if each_lacking(s, count, at, k, needed.r, needed.start) {} else {
+        return OpenedBatch::NotValid;
+    }
+    OpenedBatch::Valid {
+        needed,
+        learned,
+        count,
+    }
+}
+
+// The check of a batch from its needed knowledge k on, with the learned knowledge l and the count of records.
+fn batch_needed(s: &[u8], k: &[u8], l: &[u8], count: u32, replicas: u32, ranges: u32) -> OpenedBatch
+    requires { ⌜ BatchHeader (now s) (now k) (now l) count ⌝ }
+    ensures { λ o. ⌜ ((m : ℕ) → count ≤ brought m largestRecords → o ≡ batchOpened (within replicas ranges m) (now (s .entry))) ⌝ }
+{
+    let Normality::Normal { part: needed } = normal_part(k, replicas, ranges) else {
+        return OpenedBatch::NotValid;
+    };
+    batch_learned(s, k, needed, l, count, replicas, ranges)
+}
+
+// Checks a batch, with the most replicas, ranges and records, each brought into 1 to its largest.
+pub fn open_batch(s: &[u8], replicas: u32, ranges: u32, records: u32) -> OpenedBatch
+    ensures { λ o. ⌜ o ≡ batchOpened (within replicas ranges records) (now (s .entry)) ⌝ }
+{
+    if s.len() < BATCH_NEEDED {
+        return OpenedBatch::NotValid;
+    }
+    if codec::read1(s, 0) != 4 {
+        return OpenedBatch::NotValid;
+    }
+    let n = codec::read4(s, NEEDED_LENGTH) as usize;
+    let m = codec::read4(s, LEARNED_LENGTH) as usize;
+    if s.len() - BATCH_NEEDED < n + m {
+        return OpenedBatch::NotValid;
+    }
+    let count = codec::read4(s, BATCH_COUNT) as u32;
+    if codec::brought(records, layout::LARGEST_RECORDS) < count {
+        return OpenedBatch::NotValid;
+    }
+    if span_falls(s) {
+        return OpenedBatch::NotValid;
+    }
+    let learned = BATCH_NEEDED + n;
+    let table = learned + m;
+    if records::shaped(s, count, table) {} else {
+        return OpenedBatch::NotValid;
+    }
+    batch_needed(
+        s,
+        &s[BATCH_NEEDED..learned],
+        &s[learned..table],
+        count,
+        replicas,
+        ranges,
+    )
+}

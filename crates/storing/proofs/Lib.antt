@@ -1,0 +1,2 @@
+-- The laws of what is written for a store or a batch.
+pub mod Storing

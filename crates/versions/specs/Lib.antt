@@ -1,0 +1,2 @@
+-- The method of asking a knowledge for records.
+pub mod Method

@@ -1,0 +1,2 @@
+-- The laws of the walker.
+pub mod Given

@@ -1,0 +1,3 @@
+-- What a walker over a lent table hands out.
+pub mod Method
+pub mod Given

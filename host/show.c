@@ -1,0 +1,250 @@
+#include "show.h"
+
+#include <inttypes.h>
+#include <stdio.h>
+#include <string.h>
+
+#include "format.h"
+#include "ids.h"
+
+/* A table of text cells, with columns as wide as their widest cell. */
+enum { CELL = ID_TEXT + 24, COLUMNS = 17, ROWS = 257 };
+static char cells[ROWS][COLUMNS][CELL];
+
+/* Prints the first rows and columns; the columns from the given one on stand to the right, as numbers do. */
+static void print_table(int rows, int columns, int right)
+{
+    int widths[COLUMNS] = {0}, row, column;
+    for (row = 0; row < rows; row++)
+        for (column = 0; column < columns; column++)
+            if ((int)strlen(cells[row][column]) > widths[column])
+                widths[column] = (int)strlen(cells[row][column]);
+    if (right == columns)
+        widths[columns - 1] = 0; /* no blanks at the end of a line */
+    for (row = 0; row < rows; row++) {
+        for (column = 0; column < columns; column++)
+            printf(column < right ? "  %-*s" : "  %*s", widths[column], cells[row][column]);
+        putchar('\n');
+    }
+}
+
+static void put_tick(char *cell, uint64_t tick)
+{
+    if (tick > 0)
+        snprintf(cell, CELL, "%" PRIu64, tick);
+    else
+        strcpy(cell, "-");
+}
+
+void show_count(uint64_t count, const char *one, const char *many)
+{
+    printf("%" PRIu64 " %s", count, count == 1 ? one : many);
+}
+
+struct part records_of(const struct file *file)
+{
+    struct part part;
+    size_t at = kind_of(file) == STORE
+        ? STORE_KNOWLEDGE + (size_t)number_at(file->bytes + STORE_KNOWLEDGE_LENGTH, 4)
+        : BATCH_NEEDED + (size_t)number_at(file->bytes + BATCH_NEEDED_LENGTH, 4) + (size_t)number_at(file->bytes + BATCH_LEARNED_LENGTH, 4);
+    part.bytes = file->bytes + at;
+    part.n = file->n - at;
+    return part;
+}
+
+/* The record at a place of a table, or null; moves the place behind it. */
+static const uint8_t *next_record(struct part table, uint64_t *at)
+{
+    uint64_t length, here = *at;
+    if (sync_walk(table.bytes, table.n, here, &length) != 0 || length == 0)
+        return NULL;
+    *at += length;
+    return table.bytes + here;
+}
+
+const uint8_t *find_record(struct part table, const uint8_t *item)
+{
+    uint64_t at = 0;
+    const uint8_t *record;
+    while ((record = next_record(table, &at)))
+        if (memcmp(record + RECORD_ITEM, item, ITEM) == 0)
+            return record;
+    return NULL;
+}
+
+/* The sizes of a knowledge that is valid: r, v, e and g. */
+struct sizes {
+    uint64_t of[4];
+};
+
+static struct sizes sizes_of(struct part knowledge)
+{
+    struct sizes sizes = {{0, 0, 0, 0}};
+    sync_check(knowledge.bytes, knowledge.n, sizes.of);
+    return sizes;
+}
+
+static struct part needed_of(const struct file *batch)
+{
+    struct part part = {batch->bytes + BATCH_NEEDED, (size_t)number_at(batch->bytes + BATCH_NEEDED_LENGTH, 4)};
+    return part;
+}
+
+static void add_knowledge(struct part knowledge)
+{
+    struct sizes sizes = sizes_of(knowledge);
+    uint64_t at;
+    for (at = 0; at < sizes.of[0]; at++)
+        add_id(&replicas, knowledge.bytes + KNOWLEDGE_REPLICAS + REPLICA * at);
+    for (at = 0; at < sizes.of[3]; at++)
+        add_id(&items, knowledge.bytes + ranges_at(sizes.of) + RANGE * at);
+}
+
+static void add_records(struct part table)
+{
+    uint64_t at = 0;
+    const uint8_t *record;
+    while ((record = next_record(table, &at))) {
+        add_id(&items, record + RECORD_ITEM);
+        add_id(&replicas, record + RECORD_CHANGE);
+        add_id(&replicas, record + RECORD_CREATE);
+    }
+}
+
+void add_ids(const struct file *file)
+{
+    enum kind kind = kind_of(file);
+    add_knowledge(knowledge_of(file));
+    if (kind == STORE)
+        add_id(&replicas, file->bytes + STORE_OWN);
+    if (kind == BATCH) {
+        add_knowledge(needed_of(file));
+        add_id(&items, file->bytes + BATCH_FIRST);
+        add_id(&items, file->bytes + BATCH_LAST);
+    }
+    if (kind != KNOWLEDGE)
+        add_records(records_of(file));
+}
+
+/* Whether a knowledge is as the engine would write it. */
+static int is_normal(struct part knowledge)
+{
+    static uint8_t normal[SYNC_LARGEST_KNOWLEDGE];
+    uint64_t written;
+    return sync_normalise(knowledge.bytes, knowledge.n, normal, sizeof normal, &written) == 0 && written == knowledge.n &&
+        memcmp(normal, knowledge.bytes, knowledge.n) == 0;
+}
+
+void show_kind(const struct file *file)
+{
+    char first[ID_TEXT], last[ID_TEXT];
+    enum kind kind = kind_of(file);
+    if (kind == KNOWLEDGE) {
+        struct part knowledge = knowledge_of(file);
+        struct sizes sizes = sizes_of(knowledge);
+        printf("knowledge, %zu bytes: ", file->n);
+        show_count(sizes.of[0], "replica, ", "replicas, ");
+        show_count(sizes.of[1], "clock vector, ", "clock vectors, ");
+        show_count(sizes.of[2], "element, ", "elements, ");
+        show_count(sizes.of[3], "range", "ranges");
+        printf("%s\n", is_normal(knowledge) ? "" : "; not in normal form");
+    } else if (kind == STORE) {
+        printf("store of replica %s, %zu bytes: ", id_text(&replicas, file->bytes + STORE_OWN, first), file->n);
+        show_count(records_of(file).n / RECORD, "record\n", "records\n");
+    } else {
+        printf("batch for items %s to %s, %zu bytes: ", id_text(&items, file->bytes + BATCH_FIRST, first),
+               id_text(&items, file->bytes + BATCH_LAST, last), file->n);
+        show_count(records_of(file).n / RECORD, "record\n", "records\n");
+    }
+}
+
+/* A line for each range with the ticks that are known from its item on, a column for each replica. */
+static void show_ticks(struct part knowledge)
+{
+    struct sizes sizes = sizes_of(knowledge);
+    int r = (int)sizes.of[0], g = (int)sizes.of[3], row, column;
+    if (sizes.of[2] == 0) {
+        puts("  nothing");
+        return;
+    }
+    strcpy(cells[0][0], "from item");
+    for (row = 1; row <= g; row++)
+        id_text(&items, knowledge.bytes + ranges_at(sizes.of) + RANGE * (row - 1), cells[row][0]);
+    for (column = 1; column <= r; column++) {
+        const uint8_t *replica = knowledge.bytes + KNOWLEDGE_REPLICAS + REPLICA * (column - 1);
+        id_text(&replicas, replica, cells[0][column]);
+        for (row = 1; row <= g; row++)
+            put_tick(cells[row][column], known_tick(knowledge, knowledge.bytes + ranges_at(sizes.of) + RANGE * (row - 1), replica));
+    }
+    print_table(1 + g, 1 + r, 1);
+}
+
+static void put_version(char *cell, const uint8_t *version)
+{
+    char text[ID_TEXT];
+    snprintf(cell, CELL, "%s %" PRIu64, id_text(&replicas, version, text), number_at(version + VERSION_TICK, 8));
+}
+
+static void show_records(struct part table)
+{
+    static const char *const titles[] = {"item", "state", "changed", "created", "tag"};
+    int row, column;
+    uint64_t at = 0;
+    const uint8_t *record;
+    for (column = 0; column < 5; column++)
+        strcpy(cells[0][column], titles[column]);
+    for (row = 1; row < ROWS && (record = next_record(table, &at)); row++) {
+        int live = record[0] == KIND_LIVE;
+        id_text(&items, record + RECORD_ITEM, cells[row][0]);
+        strcpy(cells[row][1], live ? "live" : "deleted");
+        put_version(cells[row][2], record + RECORD_CHANGE);
+        put_version(cells[row][3], record + RECORD_CREATE);
+        strcpy(cells[row][4], "-");
+        if (live)
+            tag_text(record + RECORD_TAG, cells[row][4]);
+    }
+    print_table(row, 5, 5);
+}
+
+void show(const struct file *file)
+{
+    enum kind kind = kind_of(file);
+    struct part table;
+    show_kind(file);
+    if (kind == BATCH) {
+        puts("for a replica that knows at least, in these items:");
+        show_ticks(needed_of(file));
+    }
+    puts(kind == BATCH ? "it then also knows:" : "knows, from each item on, the edits of each replica up to this tick:");
+    show_ticks(knowledge_of(file));
+    if (kind == KNOWLEDGE)
+        return;
+    table = records_of(file);
+    puts(kind == STORE ? "holds:" : "carries:");
+    if (table.n > 0)
+        show_records(table);
+    else
+        puts("  nothing");
+}
+
+void show_list(struct part table)
+{
+    uint64_t at = 0;
+    const uint8_t *record;
+    char item[ID_TEXT], tag[ID_TEXT];
+    full_ids = 1;
+    while ((record = next_record(table, &at)))
+        if (record[0] == KIND_LIVE)
+            printf("%s %s\n", id_text(&items, record + RECORD_ITEM, item), tag_text(record + RECORD_TAG, tag));
+}
+
+void show_record(const uint8_t *record)
+{
+    char text[ID_TEXT];
+    printf("%s, changed by %s at tick %" PRIu64, record[0] == KIND_LIVE ? "live" : "deleted",
+           id_text(&replicas, record + RECORD_CHANGE, text), number_at(record + RECORD_CHANGE + VERSION_TICK, 8));
+    printf(", created by %s at tick %" PRIu64, id_text(&replicas, record + RECORD_CREATE, text),
+           number_at(record + RECORD_CREATE + VERSION_TICK, 8));
+    if (record[0] == KIND_LIVE)
+        printf(", tag %s", tag_text(record + RECORD_TAG, text));
+}

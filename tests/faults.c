@@ -1,0 +1,219 @@
+/*
+ * Faults for the tests of the host program. It is linked with the program, in front of the calls that touch files (gcc -Wl,--wrap=open and
+ * so on). The environment variable COLLECTOR_FAULT says what happens:
+ *
+ *   stop N   the program ends right after the N-th call of open, write, fsync, rename or mkdir
+ *   half N   likewise, and if that is a write only half of its bytes are written
+ *   lose N   likewise, and as after a power failure the bytes of files that were not synced are lost
+ *   undo N   likewise, and the first renaming that no sync of a folder has followed is undone
+ *   full N   the N-th call fails: no space left on the device
+ *   slow     each read gives one byte
+ *   cut      each file ends after 20 bytes
+ *   broken   each read fails: input or output error
+ *   busy     another program has the lock, and time flies
+ *
+ * If COLLECTOR_UNSYNCED is set, fsync does nothing: what is then lost shows that the tests would notice a missing one. A program that is
+ * stopped says after which call, and has the status 77.
+ */
+
+#define _DEFAULT_SOURCE
+
+#include <errno.h>
+#include <fcntl.h>
+#include <stdarg.h>
+#include <stdio.h>
+#include <stdlib.h>
+#include <string.h>
+#include <sys/stat.h>
+#include <time.h>
+#include <unistd.h>
+
+int __real_open(const char *path, int flags, ...);
+ssize_t __real_read(int descriptor, void *bytes, size_t n);
+ssize_t __real_write(int descriptor, const void *bytes, size_t n);
+int __real_fsync(int descriptor);
+int __real_rename(const char *from, const char *to);
+int __real_mkdir(const char *path, mode_t mode);
+int __real_flock(int descriptor, int operation);
+int __real_nanosleep(const struct timespec *time, struct timespec *left);
+
+enum { ROOM = 4200, MOST = 16 };
+
+/* The files that were opened for writing, under their present names. */
+static struct {
+    char path[ROOM];
+    int descriptor, unsynced;
+} files[MOST];
+static int file_count;
+
+/* The renamings that no sync of a folder has followed yet; what was there before has a second name. */
+static struct {
+    char path[ROOM], before[ROOM];
+} renamings[MOST];
+static int renaming_count;
+
+static int calls;
+
+static int is_mode(const char *mode)
+{
+    const char *fault = getenv("COLLECTOR_FAULT");
+    return fault && strncmp(fault, mode, strlen(mode)) == 0;
+}
+
+/* Whether this is the call that the fault names. */
+static int is_now(void)
+{
+    const char *number = getenv("COLLECTOR_FAULT");
+    number = number ? strchr(number, ' ') : NULL;
+    return number && calls == atoi(number);
+}
+
+static void lose(void)
+{
+    int at;
+    for (at = 0; at < file_count; at++)
+        if (files[at].unsynced && truncate(files[at].path, 0) != 0)
+            abort();
+}
+
+static void undo(void)
+{
+    if (renaming_count > 0 && __real_rename(renamings[0].before, renamings[0].path) != 0)
+        unlink(renamings[0].path);
+}
+
+/* Counts a call that has been made, and stops the program behind it. */
+static void stop(const char *call)
+{
+    if (!is_now() || !(is_mode("stop") || is_mode("half") || is_mode("lose") || is_mode("undo")))
+        return;
+    if (is_mode("lose"))
+        lose();
+    if (is_mode("undo"))
+        undo();
+    fprintf(stderr, "stopped after %s\n", call);
+    _exit(77);
+}
+
+/* Counts a call that is to be made. Whether it fails. */
+static int fails(const char *call)
+{
+    calls++;
+    if (!is_now() || !is_mode("full"))
+        return 0;
+    fprintf(stderr, "no space for %s\n", call);
+    errno = ENOSPC;
+    return 1;
+}
+
+int __wrap_open(const char *path, int flags, ...)
+{
+    mode_t mode = 0;
+    int descriptor, at;
+    if (flags & O_CREAT) {
+        va_list rest;
+        va_start(rest, flags);
+        mode = va_arg(rest, mode_t);
+        va_end(rest);
+    }
+    if (fails("open"))
+        return -1;
+    descriptor = __real_open(path, flags, mode);
+    for (at = 0; at < file_count; at++)
+        if (files[at].descriptor == descriptor)
+            files[at].descriptor = -1; /* it was closed */
+    if (descriptor >= 0 && (flags & O_WRONLY) && file_count < MOST) {
+        snprintf(files[file_count].path, ROOM, "%s", path);
+        files[file_count++].descriptor = descriptor;
+    }
+    stop("open");
+    return descriptor;
+}
+
+ssize_t __wrap_read(int descriptor, void *bytes, size_t n)
+{
+    if (is_mode("broken")) {
+        errno = EIO;
+        return -1;
+    }
+    if (is_mode("cut") && lseek(descriptor, 0, SEEK_CUR) >= 20)
+        return 0;
+    if (is_mode("cut") && n > 20)
+        n = 20;
+    return __real_read(descriptor, bytes, is_mode("slow") && n > 1 ? 1 : n);
+}
+
+ssize_t __wrap_write(int descriptor, const void *bytes, size_t n)
+{
+    ssize_t done;
+    int at;
+    if (fails("write"))
+        return -1;
+    done = __real_write(descriptor, bytes, is_now() && is_mode("half") ? n / 2 : n);
+    for (at = 0; at < file_count; at++)
+        if (files[at].descriptor == descriptor)
+            files[at].unsynced = 1;
+    stop("write");
+    return done;
+}
+
+int __wrap_fsync(int descriptor)
+{
+    struct stat about;
+    int done, at;
+    if (fails("fsync"))
+        return -1;
+    done = getenv("COLLECTOR_UNSYNCED") ? 0 : __real_fsync(descriptor);
+    for (at = 0; at < file_count; at++)
+        if (files[at].descriptor == descriptor && !getenv("COLLECTOR_UNSYNCED"))
+            files[at].unsynced = 0;
+    if (fstat(descriptor, &about) == 0 && S_ISDIR(about.st_mode) && !getenv("COLLECTOR_UNSYNCED"))
+        while (renaming_count > 0)
+            unlink(renamings[--renaming_count].before);
+    stop("fsync");
+    return done;
+}
+
+int __wrap_rename(const char *from, const char *to)
+{
+    int done, at;
+    if (fails("rename"))
+        return -1;
+    if (is_mode("undo") && renaming_count < MOST) {
+        snprintf(renamings[renaming_count].path, ROOM, "%s", to);
+        snprintf(renamings[renaming_count].before, ROOM, "%s.before", to);
+        if (link(to, renamings[renaming_count].before) != 0 && errno != ENOENT)
+            abort();
+        renaming_count++;
+    }
+    done = __real_rename(from, to);
+    for (at = 0; at < file_count; at++)
+        if (strcmp(files[at].path, from) == 0)
+            snprintf(files[at].path, ROOM, "%s", to);
+    stop("rename");
+    return done;
+}
+
+int __wrap_mkdir(const char *path, mode_t mode)
+{
+    int done;
+    if (fails("mkdir"))
+        return -1;
+    done = __real_mkdir(path, mode);
+    stop("mkdir");
+    return done;
+}
+
+int __wrap_flock(int descriptor, int operation)
+{
+    if (is_mode("busy")) {
+        errno = EWOULDBLOCK;
+        return -1;
+    }
+    return __real_flock(descriptor, operation);
+}
+
+int __wrap_nanosleep(const struct timespec *time, struct timespec *left)
+{
+    return is_mode("busy") ? 0 : __real_nanosleep(time, left);
+}

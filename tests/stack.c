@@ -1,0 +1,161 @@
+/*
+ * How much stack each call of the engine takes: it runs on a stack of its own that is filled with a pattern, and what the pattern has lost
+ * is counted. The inputs are as large as they can be. Fails where a call takes more than the header says; prints the most of all of them.
+ */
+
+#define _XOPEN_SOURCE 700
+
+#include <inttypes.h>
+#include <stdio.h>
+#include <string.h>
+#include <ucontext.h>
+
+#include "sync.h"
+
+enum { PROMISED = SYNC_STACK, ROOM = 8 * PROMISED, PATTERN = 0xa5 };
+enum { REPLICAS = 16, RANGES = 64, RECORDS = 256 };
+
+static uint8_t stack[ROOM];
+static uint8_t knowledge[SYNC_LARGEST_KNOWLEDGE], other[SYNC_LARGEST_KNOWLEDGE];
+static uint8_t store[SYNC_LARGEST_STORE], batch[SYNC_LARGEST_BATCH], out[SYNC_LARGEST_BATCH];
+static uint64_t knowledge_n, other_n, store_n, batch_n;
+static uint8_t first[24], last[24], item[24], replica[16], tag[16];
+
+static uint8_t *put(uint8_t *to, uint64_t number, int width)
+{
+    int at;
+    for (at = 0; at < width; at++)
+        to[at] = (uint8_t)(number >> 8 * (width - 1 - at));
+    return to + width;
+}
+
+static uint8_t *put_id(uint8_t *to, uint64_t number, int width)
+{
+    memset(to, 0, (size_t)width);
+    put(to + width - 8, number, 8);
+    return to + width;
+}
+
+/* A knowledge of all replicas and ranges. The first replica has the same tick everywhere, the others one that grows with the range. */
+static uint64_t put_knowledge(uint8_t *bytes, uint64_t base)
+{
+    uint8_t *to = bytes;
+    uint64_t range, key;
+    to = put(put(put(put(to, 5, 4), 0, 4), 1, 4), 0, 4);
+    to = put(put(put(put(to, 5, 4), 0, 1), 16, 2), REPLICAS, 4);
+    for (key = 0; key < REPLICAS; key++)
+        to = put_id(to, 1 + key, 16);
+    to = put(put(put(put(put(put(put(to, 24, 4), 0, 1), 16, 2), 0, 1), 24, 2), 0, 1), 1, 2);
+    to = put(put(to, 21, 4), 1 + RANGES, 4);
+    to = put(put(to, 1, 4), 0, 4);
+    for (range = 0; range < RANGES; range++) {
+        to = put(put(to, 1, 4), REPLICAS, 4);
+        for (key = 0; key < REPLICAS; key++)
+            to = put(put(to, key, 4), key == 0 ? 9000 : base + 16 * range + key, 8);
+    }
+    to = put(put(put(put(to, 23, 4), 1, 4), 22, 4), RANGES, 4);
+    for (range = 0; range < RANGES; range++)
+        to = put(put_id(to, 4 * range, 24), 1 + range, 4);
+    to = put(put(put(put(to, 0, 4), 25, 4), 1, 1), 0, 4);
+    return (uint64_t)(to - bytes);
+}
+
+static uint8_t *put_records(uint8_t *to)
+{
+    uint64_t at;
+    for (at = 0; at < RECORDS; at++) {
+        *to++ = 1;
+        to = put(put_id(put_id(to, at, 24), 2, 16), 1 + at / 4, 8);
+        to = put(put_id(to, 2, 16), 1, 8);
+        to = put_id(to, at, 16);
+    }
+    return to;
+}
+
+/* The largest inputs: two knowledges of which each knows something that the other does not, a store, and a batch that it can take. */
+static void put_all(void)
+{
+    uint8_t *to;
+    knowledge_n = put_knowledge(knowledge, 1000);
+    other_n = put_knowledge(other, 1500);
+    memset(last, 255, sizeof last);
+    put_id(item, 255, 24);
+    put_id(replica, REPLICAS, 16);
+    to = put(put_id(put(store, 3, 1), 1, 16), knowledge_n, 4);
+    to = put(to, RECORDS, 4);
+    memcpy(to, knowledge, knowledge_n);
+    store_n = (uint64_t)(put_records(to + knowledge_n) - store);
+    to = put(put_id(put(batch, 4, 1), 0, 24), 0, 0);
+    memcpy(to, last, 24);
+    to = put(put(put(to + 24, knowledge_n, 4), other_n, 4), 0, 4);
+    memcpy(to, knowledge, knowledge_n);
+    memcpy(to + knowledge_n, other, other_n);
+    batch_n = (uint64_t)(to - batch) + knowledge_n + other_n;
+}
+
+/* Each call by its number; 0 where it did what it should. */
+static uint32_t call(int number)
+{
+    static const uint8_t *k = knowledge, *o = other;
+    uint64_t sizes[4], written, at, length;
+    uint32_t word;
+    int64_t lead;
+    switch (number) {
+    case 0: return sync_check(k, knowledge_n, sizes);
+    case 1: return sync_contain(k, knowledge_n, item, 24, replica, 16, 1, &word);
+    case 2: return sync_lead(k, knowledge_n, o, other_n, item, 24, replica, 16, &lead);
+    case 3: return sync_cover(k, knowledge_n, o, other_n, first, 24, last, 24, &word);
+    case 4: return sync_normalise(k, knowledge_n, out, sizeof out, &written);
+    case 5: return sync_merge(k, knowledge_n, o, other_n, out, sizeof out, &written);
+    case 6: return sync_project(k, knowledge_n, first, 24, last, 24, out, sizeof out, &written);
+    case 7: return sync_new(replica, 16, out, sizeof out, &written);
+    case 8: return sync_edit(store, store_n, item, 24, tag, 16, out, sizeof out, &written);
+    case 9: return sync_delete(store, store_n, item, 24, out, sizeof out, &written);
+    case 10: return sync_make(store, store_n, o, other_n, first, 24, last, 24, out, sizeof out, &written);
+    case 11: return sync_apply(store, store_n, batch, batch_n, out, sizeof out, &written);
+    case 12: return sync_winner(store, store_n, batch, batch_n, item, 24, &word, &at, &length);
+    case 13: return sync_learned(batch, batch_n, &at, &length);
+    case 14: return sync_coverage(store, store_n, k, knowledge_n, &at, &length, &written);
+    case 15: return sync_knowledge(store, store_n, &at, &length);
+    case 16: return sync_walk(store + 25 + knowledge_n, store_n - 25 - knowledge_n, 0, &length);
+    default: return 99;
+    }
+}
+
+static ucontext_t here, there;
+static int present;
+static uint32_t answer;
+
+static void run(void)
+{
+    answer = call(present);
+}
+
+int main(void)
+{
+    static size_t most;
+    put_all();
+    for (present = 0; present < 17; present++) {
+        static size_t untouched;
+        untouched = 0;
+        memset(stack, PATTERN, sizeof stack);
+        if (getcontext(&there) != 0)
+            return 1;
+        there.uc_stack.ss_sp = stack;
+        there.uc_stack.ss_size = sizeof stack;
+        there.uc_link = &here;
+        makecontext(&there, run, 0);
+        if (swapcontext(&here, &there) != 0)
+            return 1;
+        while (untouched < ROOM && stack[untouched] == PATTERN)
+            untouched++;
+        if (answer != 0) {
+            fprintf(stderr, "stack: call %d was refused with %" PRIu32 "\n", present, answer);
+            return 1;
+        }
+        if (ROOM - untouched > most)
+            most = ROOM - untouched;
+    }
+    printf("stack: the most of all calls is %zu bytes of the %d that the header says\n", most, PROMISED);
+    return most > PROMISED;
+}
