@@ -39,13 +39,9 @@ impl Plan {
     /// As many inputs as `SYNC_INPUTS` says, from the seed that `SYNC_SEED` says; where one is not set, as in the
     /// usual run.
     pub fn from_environment() -> Self {
-        let number = |name| {
-            let value = env::var(name).ok()?;
-            Some(value.parse::<u64>().unwrap_or_else(|_| panic!("{name} must be a number, not {value:?}")))
-        };
         Self {
-            seed: number("SYNC_SEED").unwrap_or(Self::USUAL.seed),
-            inputs: number("SYNC_INPUTS").map_or(Self::USUAL.inputs, |inputs| inputs as usize),
+            seed: number_from_environment("SYNC_SEED").unwrap_or(Self::USUAL.seed),
+            inputs: number_from_environment("SYNC_INPUTS").map_or(Self::USUAL.inputs, |inputs| inputs as usize),
         }
     }
 
@@ -81,6 +77,12 @@ impl Plan {
         })?;
         R::random(self.seed, places.left(), &mut |family, call| visit(CallInput { place: places.next(), family, call }))
     }
+}
+
+/// The number that an environment variable says, if it is set.
+pub fn number_from_environment(name: &str) -> Option<u64> {
+    let value = env::var(name).ok()?;
+    Some(value.parse().unwrap_or_else(|_| panic!("{name} must be a number, not {value:?}")))
 }
 
 /// Gives the inputs of a run their places, and chooses among the fixed ones.

@@ -1,13 +1,9 @@
 //! The C interface of the engine, as `include/sync.h` states it, and safe functions over it.
 
-#[cfg(feature = "changing")]
 mod changing;
-#[cfg(feature = "reading")]
 mod reading;
 
-#[cfg(feature = "changing")]
 pub use changing::{apply, delete, edit, make, new};
-#[cfg(feature = "reading")]
 pub use reading::{coverage, knowledge, learned, walk, winner};
 
 unsafe extern "C" {

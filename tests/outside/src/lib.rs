@@ -11,7 +11,6 @@ pub mod engine;
 pub mod laws;
 #[cfg(test)]
 mod lenient;
-pub mod linked;
 pub mod lists;
 mod one;
 pub mod reading;

@@ -8,10 +8,9 @@ mod machine;
 mod play;
 mod shrink;
 
-use std::env;
 use std::fmt;
 
-use inputs::SplitMix64;
+use inputs::{SplitMix64, number_from_environment};
 
 use crate::changing::Engine;
 use crate::tally::{Ends, Tally};
@@ -31,13 +30,9 @@ impl Plan {
 
     /// As many lists as `SYNC_LISTS` says, from the seed that `SYNC_SEED` says; where one is not set, as in the usual run.
     pub fn from_environment() -> Self {
-        let number = |name| {
-            let value = env::var(name).ok()?;
-            Some(value.parse::<u64>().unwrap_or_else(|_| panic!("{name} must be a number, not {value:?}")))
-        };
         Self {
-            seed: number("SYNC_SEED").unwrap_or(Self::USUAL.seed),
-            lists: number("SYNC_LISTS").map_or(Self::USUAL.lists, |lists| lists as usize),
+            seed: number_from_environment("SYNC_SEED").unwrap_or(Self::USUAL.seed),
+            lists: number_from_environment("SYNC_LISTS").map_or(Self::USUAL.lists, |lists| lists as usize),
         }
     }
 }

@@ -1,4 +1,4 @@
-//! The reference in the engine's place.
+//! The reference in the place of an engine.
 
 use crate::changing;
 use crate::reading::{self, Found, found, part};

@@ -4,7 +4,7 @@
 //! `SYNC_INPUTS` sets the number of inputs, and of calls; `SYNC_SEED` sets the seed.
 
 use inputs::Plan;
-use outside::{compare, engine, linked};
+use outside::{compare, engine};
 
 #[test]
 fn engine_and_reference_agree_on_the_check() {
@@ -49,7 +49,7 @@ fn the_engine_keeps_the_laws_of_the_calls_that_write() {
 fn engine_and_reference_agree_on_the_calls_that_read_stores() {
     let plan = Plan::from_environment().on_stores();
     println!("{} calls that read stores from seed {}", plan.inputs, plan.seed);
-    match outside::reading::run(&plan, &linked::READING) {
+    match outside::reading::run(&plan, &engine::Linked) {
         Ok(tally) => println!("{tally}"),
         Err(error) => panic!("{error}"),
     }
@@ -59,7 +59,7 @@ fn engine_and_reference_agree_on_the_calls_that_read_stores() {
 fn engine_and_reference_agree_on_the_calls_that_write_stores() {
     let plan = Plan::from_environment().on_stores();
     println!("{} calls that write stores and batches from seed {}", plan.inputs, plan.seed);
-    match outside::changing::run(&plan, &linked::CHANGING) {
+    match outside::changing::run(&plan, &engine::Linked) {
         Ok(tally) => println!("{tally}"),
         Err(error) => panic!("{error}"),
     }

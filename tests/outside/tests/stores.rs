@@ -2,7 +2,7 @@
 
 use inputs::{ALL, Batch, Knowledge, LIVE, Record, Store, item_id, replica_id};
 use outside::changing::Engine as _;
-use outside::linked::{CHANGING, READING};
+use outside::engine::Linked;
 use outside::reading::{Engine as _, Found};
 
 const TAG: [u8; 16] = [9; 16];
@@ -26,19 +26,19 @@ fn written(call: impl Fn(&mut [u8], &mut u64) -> u32) -> Result<Vec<u8>, u32> {
 }
 
 fn new(replica: u128) -> Vec<u8> {
-    written(|out, length| CHANGING.new_store(&replica_id(replica), out, length)).unwrap()
+    written(|out, length| Linked.new_store(&replica_id(replica), out, length)).unwrap()
 }
 
 fn edited(store: &[u8], item: u128) -> Vec<u8> {
-    written(|out, length| CHANGING.edit(store, &item_id(item), &TAG, out, length)).unwrap()
+    written(|out, length| Linked.edit(store, &item_id(item), &TAG, out, length)).unwrap()
 }
 
 fn made(store: &[u8], knowledge: &[u8]) -> Vec<u8> {
-    written(|out, length| CHANGING.make(store, knowledge, [&ALL[0], &ALL[1]], out, length)).unwrap()
+    written(|out, length| Linked.make(store, knowledge, [&ALL[0], &ALL[1]], out, length)).unwrap()
 }
 
 fn applied(store: &[u8], batch: &[u8]) -> Result<Vec<u8>, u32> {
-    written(|out, length| CHANGING.apply(store, batch, out, length))
+    written(|out, length| Linked.apply(store, batch, out, length))
 }
 
 /// The bytes of a store that knows one tick of each replica everywhere and has an edit of each item, by replica and tick.
@@ -72,7 +72,7 @@ fn k9_a_new_store_and_one_edit() {
 fn k10_two_first_edits_of_one_item() {
     let (p, batch) = (edited(&new(P), 1), made(&edited(&new(Q), 1), &nothing()));
     let mut found = Found { side: 7, at: 7, length: 7 };
-    assert_eq!(READING.winner(&p, &batch, &item_id(1), &mut found), 0);
+    assert_eq!(Linked.winner(&p, &batch, &item_id(1), &mut found), 0);
     assert_eq!(found, Found { side: 2, at: 323, length: 89 });
     let after = applied(&p, &batch).unwrap();
     assert_eq!(after, store(P, &[(P, 1), (Q, 1)], &[(1, Q, 1)]));
@@ -92,7 +92,7 @@ fn k12_the_second_batch_needs_the_first() {
     let first_edit = edited(&new(P), 1);
     let one = made(&first_edit, &nothing());
     let mut part = [7; 2];
-    assert_eq!(READING.learned(&one, &mut part), 0);
+    assert_eq!(Linked.learned(&one, &mut part), 0);
     assert_eq!(part, [174, 149]);
     let two = made(&edited(&first_edit, 2), &one[174..323]);
     assert_eq!(applied(&new(Q), &two), Err(18));

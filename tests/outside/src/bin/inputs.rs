@@ -8,7 +8,7 @@ use std::process::ExitCode;
 
 use inputs::Plan;
 use outside::stand_in::Reference;
-use outside::{compare, engine, linked, lists};
+use outside::{compare, engine, lists};
 
 fn main() -> ExitCode {
     let plan = Plan::from_environment();
@@ -17,11 +17,11 @@ fn main() -> ExitCode {
     let passed = said(outside::calls::run(&plan, &engine::Linked)) && passed;
     let passed = said(outside::writing::run(&plan, &engine::Linked)) && passed;
     let passed = said(outside::laws::run(&plan, &engine::Linked)) && passed;
-    let passed = said(outside::reading::run(&plan.on_stores(), &linked::READING)) && passed;
-    let passed = said(outside::changing::run(&plan.on_stores(), &linked::CHANGING)) && passed;
+    let passed = said(outside::reading::run(&plan.on_stores(), &engine::Linked)) && passed;
+    let passed = said(outside::changing::run(&plan.on_stores(), &engine::Linked)) && passed;
     let lists = lists::Plan::from_environment();
     println!("lists of calls: {} from seed {}", lists.lists, lists.seed);
-    let passed = said(lists::run(&lists, &linked::CHANGING, &Reference)) && passed;
+    let passed = said(lists::run(&lists, &engine::Linked, &Reference)) && passed;
     if passed { ExitCode::SUCCESS } else { ExitCode::FAILURE }
 }
 

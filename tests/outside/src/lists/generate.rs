@@ -34,6 +34,7 @@ pub fn style(random: &mut SplitMix64) -> Style {
 /// A random list of a style.
 pub fn list(random: &mut SplitMix64, style: Style) -> List {
     let replicas = match style {
+        Style::Usual if random.once_in(12) => random.between(7, 14),
         Style::Usual | Style::Ticks => random.between(2, 6),
         Style::Replicas => random.between(15, 24),
         Style::Ranges => random.between(2, 4),
@@ -128,10 +129,13 @@ struct Making<'a> {
 impl Making<'_> {
     /// Every sort of call in any order, about some of the ids.
     fn usual(&mut self) {
-        let calls = if self.random.once_in(40) { self.random.between(61, 120) } else { self.random.between(8, 52) };
+        let calls = if self.random.once_in(40) { self.random.between(61, 120) } else { self.random.between(8, 42) };
         let edits = *self.random.choose(&[20, 35, 50]);
         for _ in 0..calls {
             let replica = self.replica();
+            if self.random.once_in(25) {
+                self.in_parts(replica);
+            }
             match self.random.below(100) {
                 choice if choice < edits => self.edit(replica),
                 choice if choice < edits + 10 => self.delete(replica),
@@ -139,6 +143,18 @@ impl Making<'_> {
                 _ => self.apply(replica),
             }
         }
+    }
+
+    /// One replica is sent a part of what another knows, and then a longer part that is made for one that knows all of it.
+    fn in_parts(&mut self, from: usize) {
+        let (to, last) = (self.replica(), self.item());
+        let mut ends = [self.item(), self.item()];
+        ends.sort();
+        self.edit_item(from, last.max(ends[1]));
+        self.make_with(from, Given::Nothing, ends);
+        self.apply_to(to, self.batches - 1);
+        self.make_with(from, Given::Of(from, 0), [ends[0], last.max(ends[1])]);
+        self.apply_to(to, self.batches - 1);
     }
 
     /// All replicas edit, and some take in what all others have.

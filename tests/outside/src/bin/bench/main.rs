@@ -6,18 +6,13 @@
 //!
 //! Arguments choose among the tables by the names of the calls.
 
-#[cfg(feature = "changing")]
 mod changing;
-#[cfg(feature = "changing")]
 mod changing_call;
 mod measure;
-#[cfg(feature = "reading")]
 mod reading;
-#[cfg(feature = "reading")]
 mod reading_call;
 mod row;
 mod sample;
-#[cfg(any(feature = "reading", feature = "changing"))]
 mod stores;
 mod writing;
 
@@ -37,7 +32,6 @@ const fn on_knowledge(call: &'static str, sizes: fn() -> Vec<(&'static str, Vec<
     Table { call, of: "Knowledge", sizes }
 }
 
-#[cfg(any(feature = "reading", feature = "changing"))]
 const fn on_store(call: &'static str, sizes: fn() -> Vec<(&'static str, Vec<Row>)>) -> Table {
     Table { call, of: "Store", sizes }
 }
@@ -50,25 +44,15 @@ const TABLES: &[Table] = &[
     on_knowledge("normalise", || sample::each(writing::normalise)),
     on_knowledge("merge", || sample::each(writing::merge)),
     on_knowledge("project", || sample::each(writing::project)),
-    #[cfg(feature = "reading")]
     on_store("winner", || stores::each(reading::winner)),
-    #[cfg(feature = "reading")]
     on_store("learned", || stores::each(reading::learned)),
-    #[cfg(feature = "reading")]
     on_store("coverage", || stores::each(reading::coverage)),
-    #[cfg(feature = "reading")]
     on_store("knowledge", || stores::each(reading::knowledge)),
-    #[cfg(feature = "reading")]
     on_store("walk", || stores::each(reading::walk)),
-    #[cfg(feature = "changing")]
     on_store("new", || stores::each(changing::new)),
-    #[cfg(feature = "changing")]
     on_store("edit", || stores::each(changing::edit)),
-    #[cfg(feature = "changing")]
     on_store("delete", || stores::each(changing::delete)),
-    #[cfg(feature = "changing")]
     on_store("make", || stores::each(changing::make)),
-    #[cfg(feature = "changing")]
     on_store("apply", || stores::each(changing::apply)),
 ];
 

@@ -4,51 +4,22 @@ use std::hint::black_box;
 
 use outside::engine;
 
+use crate::changing_call::ChangingCall;
 use crate::measure::Times;
+use crate::reading_call::ReadingCall;
 
 #[derive(Clone, PartialEq)]
 pub enum Asked {
-    Check {
-        knowledge: Vec<u8>,
-    },
-    Contain {
-        knowledge: Vec<u8>,
-        item: Vec<u8>,
-        replica: Vec<u8>,
-        tick: u64,
-    },
-    Lead {
-        first: Vec<u8>,
-        second: Vec<u8>,
-        item: Vec<u8>,
-        replica: Vec<u8>,
-    },
-    Cover {
-        first: Vec<u8>,
-        second: Vec<u8>,
-        first_item: Vec<u8>,
-        last_item: Vec<u8>,
-    },
+    Check { knowledge: Vec<u8> },
+    Contain { knowledge: Vec<u8>, item: Vec<u8>, replica: Vec<u8>, tick: u64 },
+    Lead { first: Vec<u8>, second: Vec<u8>, item: Vec<u8>, replica: Vec<u8> },
+    Cover { first: Vec<u8>, second: Vec<u8>, first_item: Vec<u8>, last_item: Vec<u8> },
     // The calls that write have a buffer of so many bytes.
-    Normalise {
-        knowledge: Vec<u8>,
-        room: usize,
-    },
-    Merge {
-        first: Vec<u8>,
-        second: Vec<u8>,
-        room: usize,
-    },
-    Project {
-        knowledge: Vec<u8>,
-        first_item: Vec<u8>,
-        last_item: Vec<u8>,
-        room: usize,
-    },
-    #[cfg(feature = "reading")]
-    Reading(crate::reading_call::ReadingCall),
-    #[cfg(feature = "changing")]
-    Changing(crate::changing_call::ChangingCall),
+    Normalise { knowledge: Vec<u8>, room: usize },
+    Merge { first: Vec<u8>, second: Vec<u8>, room: usize },
+    Project { knowledge: Vec<u8>, first_item: Vec<u8>, last_item: Vec<u8>, room: usize },
+    Reading(ReadingCall),
+    Changing(ChangingCall),
 }
 
 pub struct Row {
@@ -162,9 +133,7 @@ impl Row {
                     reference::project(black_box(knowledge), black_box(first_item), black_box(last_item), out)
                 });
             }
-            #[cfg(feature = "reading")]
             Asked::Reading(call) => call.measure(self.name, number, times),
-            #[cfg(feature = "changing")]
             Asked::Changing(call) => call.measure(self.name, number, times),
         }
     }
@@ -190,9 +159,7 @@ impl Row {
             Asked::Lead { first, second, .. }
             | Asked::Cover { first, second, .. }
             | Asked::Merge { first, second, .. } => first.len() + second.len(),
-            #[cfg(feature = "reading")]
             Asked::Reading(call) => call.bytes(),
-            #[cfg(feature = "changing")]
             Asked::Changing(call) => call.bytes(),
         }
     }
