@@ -7,15 +7,17 @@
 -- vector are the item's (`stands-elements`). Up to the next bound it need not be moved (`stands-vector`).
 use Prim.Native.Nat.{ℕ, zero, suc, _+_, _-_, _*_, _≤_, _<_}
 use mathlib.Core.Path.{_≡_, refl, sym, ap, _∙_, subst}
+use mathlib.Core.Logic.{inl, inr}
+use mathlib.Core.Bool.{Bool, true, false}
 use mathlib.Core.List.{List, []}
 use native.Mathlib.Omega.{arith}
 use lib.Dec.{eqb}
 use lib.ListN.{length}
-use borrow.Author.Tests.{lt-ltb, le-ltb, le-leb}
+use borrow.Author.Tests.{lt-ltb, le-ltb, le-leb, eqb-true, eqb-false}
 use Rattle.codec.specs.Number.{beAt}
 use Rattle.layout.specs.declared.ReplicaKey.{ReplicaKey}
 use Rattle.layout.specs.declared.VectorIndex.{VectorIndex}
-use Rattle.layout.specs.Knowledge.{Rules, Range, All, Lawful, largestTick}
+use Rattle.layout.specs.Knowledge.{Rules, Range, All, Distinct, keys, Lawful, largestTick}
 use Rattle.layout.specs.Decode.{idsAt, elementsAt, afterVectors, rangesAt, decode}
 use Rattle.layout.specs.MethodPlaces.{idsPlace, vectorsPlace, rangesPlace, vectorPlace, countAt, valueAt}
 use Rattle.layout.proofs.Places.{Reading, places, ids-length, after-zero, after-suc, after-add, after-later}
@@ -23,13 +25,16 @@ use Rattle.layout.proofs.Places.{vector-ends, vector-place, vectors-length}
 use Rattle.ticks.specs.Meaning.{known, place, tickAt, vectorOf, vectorAt}
 use Rattle.ticks.specs.MethodLookup.{keyOf, indexAt, firstIndex}
 use Rattle.ticks.proofs.Lists.{less, same, more, order}
+use Rattle.ticks.proofs.Meaning.{In, tick-element}
+use Rattle.ticks.proofs.Unique.{all-get}
 use Rattle.ticks.proofs.Equality.{eqb-exact, place-le}
 use Rattle.ticks.proofs.LawfulResults.{lawful-ticks}
-use Rattle.ticks.proofs.ForCode.{indexAt-nil, indexAt-lt, indexAt-ge, vector-indexed, known-place}
+use Rattle.ticks.proofs.ForCode.{indexAt-nil, indexAt-lt, indexAt-ge, vector-indexed, known-place, keys-once}
 use Rattle.lookup.specs.declared.Cursor.{Cursor}
 use Rattle.lookup.specs.Method.{keyAt, stepped, vectorFrom, startAt, past, passed, settled, advanced}
-use Rattle.lookup.specs.Method.{elementsHere, tickOf, tickFrom, Opens}
+use Rattle.lookup.specs.Method.{elementsThere, elementAt, elementsHere, tickHere, tickOf, tickFrom, Opens}
 use Rattle.lookup.proofs.Loops.{key-short, key-there, stepped-zero, stepped-on, from-here, from-first, cursor, there-all}
+use Rattle.lookup.proofs.Loops.{tick-beyond, tick-guessed, tick-other}
 
 -- Vectors
 
@@ -85,6 +90,44 @@ key-most s r p =
           ids-length s r idsPlace,
         )
 
+-- Ticks
+
+-- the element with an index is one of them
+element-in : (s : List ℕ) (n at k : ℕ) → k < n → In (elementAt s (at + 12 * k)) (elementsAt s n at)
+unfolding elementsAt
+element-in s zero at k h = absurd (omega arith)
+element-in s (suc n) at zero h = let e : at + 12 * 0 ≡ at = omega arith in inl (ap (elementAt s) e)
+element-in s (suc n) at (suc k) h =
+    let e : at + 12 * suc k ≡ at + 12 + 12 * k = omega arith in
+    inr (subst (λ p. In (elementAt s p) (elementsAt s n (at + 12))) (sym e) (element-in s n (at + 12) k (omega arith)))
+
+-- where no key is there twice, it does not matter that the element with the key's index is looked at first
+module _ (s : List ℕ) (at : ℕ) (key : ReplicaKey) (once : Distinct (keys (elementsHere s at))) where
+  looked : key .0 < elementsThere s at → (x : Bool) → eqb (beAt s 4 (at + 8 + 12 * key .0)) (key .0) ≡ x
+      → tickOf s at key ≡ tickHere s at key
+  unfolding tickHere elementsHere
+  looked h true e =
+      let n = elementsThere s at in
+      let place = at + 8 + 12 * key .0 in
+      let same-key : beAt s 4 place ≡ key .0 = eqb-true (beAt s 4 place) (key .0) e in
+      sym (tick-guessed s at n key refl (beAt s 4 place) h refl (beAt s 8 (place + 4)) same-key refl)
+      ∙ sym (tick-element (elementsAt s n (at + 8)) (elementAt s place) once (element-in s n (at + 8) (key .0) h))
+      ∙ ap (tickAt (elementsAt s n (at + 8))) same-key
+  looked h false e =
+      let x = beAt s 4 (at + 8 + 12 * key .0) in
+      sym (tick-other s at (elementsThere s at) key refl x h refl (tickHere s at key) (eqb-false x (key .0) e) refl)
+
+  beyond : elementsThere s at ≤ key .0 → tickOf s at key ≡ tickHere s at key
+  beyond h = sym (tick-beyond s at (elementsThere s at) key refl (tickHere s at key) h refl)
+
+  pub tick-once : tickOf s at key ≡ tickHere s at key
+  tick-once =
+      elim (order (key .0) (elementsThere s at)) [
+        | less h ↦ looked h (eqb (beAt s 4 (at + 8 + 12 * key .0)) (key .0)) refl
+        | same h ↦ beyond (omega arith)
+        | more h ↦ beyond (omega arith)
+      ]
+
 -- Accepted bytes
 
 module _ (R : Rules) (s : List ℕ) (r v e g : ℕ) (h : Reading R s r v e g) where
@@ -130,6 +173,15 @@ module _ (R : Rules) (s : List ℕ) (r v e g : ℕ) (h : Reading R s r v e g) wh
       omega (arith, vector-ends s v y (vectorsPlace r) l, p .afterVectors, p .whole) in
       ap (λ n. elementsAt s n (at + 8)) (sym (there-all s at (countAt s at) refl end .is))
       ∙ sym (vector-place R s r v e g h y l) ∙ ap (λ k. vectorOf k y) (sym (p .value))
+
+  -- and so are the ticks there
+  pub vector-ticks : (y : ℕ) → y < v → (key : ReplicaKey)
+      → tickOf s (vectorPlace s r y) key ≡ tickAt (vectorOf (decode s) y) (key .0)
+  unfolding tickHere keys
+  vector-ticks y l key =
+      let es = vector-elements y l in
+      let once : Distinct (keys (vectorOf (decode s) y)) = all-get (λ x. Distinct (keys x)) [] (decode s .vectors) y (read-lawful .keysOnce) tt in
+      tick-once s (vectorPlace s r y) key (subst (λ x. Distinct (keys x)) (sym es) once) ∙ ap (λ x. tickAt x (key .0)) es
 
   -- every range has a vector
   pub indices-below : All (λ x. x .index .0 < v) (rangesAt s g (rangesPlace r v e))
@@ -315,13 +367,18 @@ module _ (R : Rules) (s : List ℕ) (r : ℕ) (c : Cursor) (n : ℕ) (st : Stand
           ∙ vector-indexed (decode s) j (stands-lawful .first)
 
       -- and so are the ticks there
-      pub stands-known : (p : ℕ) → tickOf s (c .vector) (keyAt s r p) ≡ known (decode s) j p
-      unfolding tickOf keyOf
-      stands-known p =
+      pub stands-here : (p : ℕ) → tickHere s (c .vector) (keyAt s r p) ≡ known (decode s) j p
+      unfolding tickHere keyOf
+      stands-here p =
           ap (λ (k : ReplicaKey). tickAt (elementsHere s (c .vector)) (k .0))
           (read-key R s r (st .v) (st .e) (st .g) (st .reading) p)
           ∙ ap (λ es. tickAt es (keyOf (decode s .replicas) p .0)) stands-vector
           ∙ sym (known-place R (decode s) stands-lawful j p)
+
+      pub stands-known : (p : ℕ) → tickOf s (c .vector) (keyAt s r p) ≡ known (decode s) j p
+      stands-known p =
+          tick-once s (c .vector) (keyAt s r p)
+          (subst (λ es. Distinct (keys es)) (sym stands-vector) (keys-once R (decode s) stands-lawful j)) ∙ stands-here p
 
 -- at an item
 module _ (R : Rules) (s : List ℕ) (r : ℕ) (c : Cursor) (i : ℕ) (st : Stands R s r c (suc i)) where

@@ -8,7 +8,7 @@ use mathlib.Core.List.{List, [], _∷_}
 use native.Mathlib.Omega.{arith}
 use lib.Dec.{eqb, ltb}
 use lib.ListN.{length}
-use borrow.Author.Tests.{le-leb, lt-leb, eq-eqb, ne-eqb}
+use borrow.Author.Tests.{le-leb, lt-leb, lt-ltb, le-ltb, eq-eqb, ne-eqb}
 use Rattle.codec.specs.Number.{Bytes, beAt}
 use Rattle.codec.specs.Words.{words2, words3}
 use Rattle.codec.proofs.Order.{words2-be, words3-be}
@@ -22,7 +22,7 @@ use Rattle.ticks.specs.Meaning.{place, placeBy, tickAt}
 use Rattle.ticks.specs.MethodLookup.{keyOf}
 use Rattle.lookup.specs.declared.Cursor.{Cursor}
 use Rattle.lookup.specs.Method.{keyAt, stepped, vectorFrom, past, passed, settled, advanced}
-use Rattle.lookup.specs.Method.{elementsThere, There, elementAt, elementsHere, tickOf, tickFrom}
+use Rattle.lookup.specs.Method.{elementsThere, There, elementAt, elementsHere, tickHere, tickOf, tickFrom}
 
 -- Words
 
@@ -268,13 +268,43 @@ module _ (s : List ℕ) (whole n i at key : ℕ) (inv : whole ≡ tickAt (elemen
 
 -- where the elements that are there were searched, the tick is found
 pub tick-is : (s : List ℕ) (at n : ℕ) (key : ReplicaKey) (t : ℕ) → There s at n
-    → t ≡ tickAt (elementsAt s n (at + 8)) (key .0) → t ≡ tickOf s at key
-unfolding tickOf elementsHere
+    → t ≡ tickAt (elementsAt s n (at + 8)) (key .0) → t ≡ tickHere s at key
+unfolding tickHere elementsHere
 tick-is s at n key t h e = e ∙ ap (λ m. tickAt (elementsAt s m (at + 8)) (key .0)) (h .is)
 
-pub tick-nothing : (s : List ℕ) (at n : ℕ) (key : ReplicaKey) → There s at n → n ≡ 0 → 0 ≡ tickOf s at key
+pub tick-nothing : (s : List ℕ) (at n : ℕ) (key : ReplicaKey) → There s at n → n ≡ 0 → 0 ≡ tickHere s at key
 unfolding tickAt elementsAt
 tick-nothing s at n key h e = tick-is s at n key 0 h (rw e refl)
+
+-- with the element whose index is the key looked at first
+module _ (s : List ℕ) (at n : ℕ) (key : ReplicaKey) (h : n ≡ elementsThere s at) where
+  pub tick-beyond : (t : ℕ) → n ≤ key .0 → t ≡ tickHere s at key → t ≡ tickOf s at key
+  unfolding tickOf
+  tick-beyond t l e =
+      let m : elementsThere s at ≤ key .0 = omega arith in
+      e ∙ sym (rw (le-ltb (key .0) (elementsThere s at) m, tickOf) refl)
+
+  module _ (k : ℕ) (l : key .0 < n) (is : k ≡ beAt s 4 (at + 8 + 12 * key .0)) where
+    inside : key .0 < elementsThere s at
+    inside = omega arith
+
+    pub tick-guessed : (t : ℕ) → k ≡ key .0 → t ≡ beAt s 8 (at + 8 + 12 * key .0 + 4) → t ≡ tickOf s at key
+    unfolding tickOf
+    tick-guessed t d e =
+        e ∙ sym (rw (
+          lt-ltb (key .0) (elementsThere s at) inside,
+          tickOf,
+          eq-eqb (beAt s 4 (at + 8 + 12 * key .0)) (key .0) (sym is ∙ d),
+        ) refl)
+
+    pub tick-other : (t : ℕ) → (k ≡ key .0 → ⊥) → t ≡ tickHere s at key → t ≡ tickOf s at key
+    unfolding tickOf
+    tick-other t d e =
+        e ∙ sym (rw (
+          lt-ltb (key .0) (elementsThere s at) inside,
+          tickOf,
+          ne-eqb (beAt s 4 (at + 8 + 12 * key .0)) (key .0) (λ x. d (is ∙ x)),
+        ) refl)
 
 pub tick-from : (s : List ℕ) (r : ℕ) (c d : Cursor) (i p : ℕ) (key : ReplicaKey) (t : ℕ) → d ≡ advanced s r c i
     → key ≡ keyAt s r p → t ≡ tickOf s (d .vector) key → t ≡ tickFrom s r c i p

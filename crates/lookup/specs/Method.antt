@@ -1,7 +1,7 @@
 -- The method of lookup, by places, for any bytes: nothing here is to be believed. The laws show that for bytes that the check
 -- accepts it gives the known tick. What is not all there is not read: the id has no key, stepping over vectors ends, a vector has
 -- no elements, and no range is passed.
-use Rattle.codec.specs.Prelude.{ℕ, zero, suc, _+_, _-_, _*_, _%_, _^_, _≤_, _<_, _≡_, true, false, List, ltb, leb, length}
+use Rattle.codec.specs.Prelude.{ℕ, zero, suc, _+_, _-_, _*_, _%_, _^_, _≤_, _<_, _≡_, true, false, List, eqb, ltb, leb, length}
 use Rattle.codec.specs.Number.{Bytes, beAt}
 use Rattle.layout.specs.declared.ReplicaKey.{ReplicaKey}
 use Rattle.layout.specs.declared.VectorIndex.{VectorIndex}
@@ -86,8 +86,21 @@ elementAt s at = record { key = record { 0 = beAt s 4 at }; tick = beAt s 8 (at 
 unfoldable pub elementsHere : List ℕ → ℕ → List Element
 elementsHere s at = elementsAt s (elementsThere s at) (at + 8)
 
+-- the tick of the first of them that has the key
+unfoldable pub tickHere : List ℕ → ℕ → ReplicaKey → ℕ
+tickHere s at key = tickAt (elementsHere s at) (key .0)
+
+-- the tick of the one whose index is the key, where that one has the key, and else of the first that has it: where no key is there
+-- twice, these are the same
 unfoldable pub tickOf : List ℕ → ℕ → ReplicaKey → ℕ
-tickOf s at key = tickAt (elementsHere s at) (key .0)
+tickOf s at key =
+    elim (ltb (key .0) (elementsThere s at)) [
+      | true ↦ elim (eqb (beAt s 4 (at + 8 + 12 * key .0)) (key .0)) [
+        | true ↦ beAt s 8 (at + 8 + 12 * key .0 + 4)
+        | false ↦ tickHere s at key
+      ]
+      | false ↦ tickHere s at key
+    ]
 
 -- the tick of item i and replica p, from a cursor on
 unfoldable pub tickFrom : List ℕ → ℕ → Cursor → ℕ → ℕ → ℕ

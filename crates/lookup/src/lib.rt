@@ -19,7 +19,8 @@ ghost use Rattle.layout.specs.Knowledge.{Rules, basic};
 ghost use Rattle.layout.specs.Permitted.{rulesWithin};
 ghost use Rattle.layout.specs.Parse.{checkedBy};
 ghost use Rattle.ticks.specs.Calls.{containAnswer, leadAnswer};
-ghost use Rattle.lookup.specs.Method.{keyAt, stepped, vectorFrom, passed, advanced, There, tickOf, tickFrom, startAt, openOf, Opens, Open, Known};
+ghost use Rattle.lookup.specs.Method.{keyAt, stepped, vectorFrom, passed, advanced, There, tickHere, tickOf, tickFrom};
+ghost use Rattle.lookup.specs.Method.{startAt, openOf, Opens, Open, Known};
 
 // the places of the replica ids, of the vectors where there is no replica, and of the ranges where there is nothing else
 const IDS: usize = 27;
@@ -227,11 +228,11 @@ pub fn elements_at(s: &[u8], at: usize) -> usize
     n
 }
 
-// The tick of a key in the vector at a place, 0 where it has no such element.
-pub fn tick_at(s: &[u8], vector: usize, key: ReplicaKey) -> u64
-    ensures { λ t. ⌜ t ≡ tickOf (now (s .entry)) vector key ⌝ }
+// The tick of a key in the vector at a place with n elements, the first one that has the key; 0 where none has.
+fn tick_scan(s: &[u8], vector: usize, n: usize, key: ReplicaKey) -> u64
+    requires { ⌜ There (now s) vector n ⌝ }
+    ensures { λ t. ⌜ t ≡ tickHere (now (s .entry)) vector key ⌝ }
 {
-    let n = elements_at(s, vector);
     if n == 0 {
         return 0;
     }
@@ -245,6 +246,24 @@ pub fn tick_at(s: &[u8], vector: usize, key: ReplicaKey) -> u64
         i += 1;
     }
     0
+}
+
+// The tick of a key in the vector at a place, 0 where it has no such element. A vector that has every replica by rising key has the
+// element of a key at the key's index: that one is looked at first. The search takes the slice anew, so that the caller's own need not
+// lie in memory.
+pub fn tick_at(s: &[u8], vector: usize, key: ReplicaKey) -> u64
+    ensures { λ t. ⌜ t ≡ tickOf (now (s .entry)) vector key ⌝ }
+{
+    let n = elements_at(s, vector);
+    let guess = key.0 as usize;
+    if n <= guess {
+        return tick_scan(&s[..], vector, n, key);
+    }
+    let at = vector + 8 + 12 * guess;
+    if four(s, at) == key.0 as u64 {
+        return eight(s, at + 4);
+    }
+    tick_scan(&s[..], vector, n, key)
 }
 
 // The known tick of an item and a replica, from a cursor that is not past the item.

@@ -30,7 +30,7 @@ use Rattle.lookup.specs.declared.Cursor.{Cursor}
 use Rattle.lookup.specs.Method.{keyAt, vectorFrom, startAt, tickOf, Opens}
 use Rattle.lookup.proofs.Leaf.{read-lawful, read-ranges, read-key, first-place, indices-below, opens-reading}
 use Rattle.ranges.specs.Method.{indexThere, topKeyBy, topKeyOf}
-use Rattle.ranges.proofs.Ranges.{keys-there, next-elements}
+use Rattle.ranges.proofs.Ranges.{keys-there, next-elements, next-tick}
 
 -- Ranges as values
 
@@ -87,7 +87,7 @@ module _ (R : Rules) (s : List ℕ) (r v e g : ℕ) (h : Reading R s r v e g) (p
   top-own : (n next : ℕ) (index : VectorIndex) (vector top : ℕ) → vector ≡ vectorPlace s r (index .0)
       → All (λ x. x .index .0 < v) (rangesAt s n next) → ((x : Range) → In x (rangesAt s n next) → In x (decode s .ranges))
       → topKeyBy s r (keyAt s r p) n next index vector top ≡ topOwn (decode s) p top (rangesAt s n next)
-  unfolding topKeyBy topOwn rangesAt indexThere tickOf
+  unfolding topKeyBy topOwn rangesAt indexThere
   top-own zero next index vector top q all f = refl
   top-own (suc n) next index vector top q all f =
       let to : VectorIndex = record { 0 = beAt s 4 (next + 24) } in
@@ -95,7 +95,7 @@ module _ (R : Rules) (s : List ℕ) (r v e g : ℕ) (h : Reading R s r v e g) (p
       let w = next-elements R s r v e g h index vector to (all .0) q in
       let x : Range = record { bound = beAt s 24 next; index = to } in
       let tick : tickOf s at (keyAt s r p) ≡ known (decode s) (beAt s 24 next) p =
-      ap (λ es. tickAt es (keyAt s r p .0)) (w .1) ∙ range-tick x (f x (inl refl)) in
+      next-tick R s r v e g h index vector to (all .0) q (keyAt s r p) ∙ range-tick x (f x (inl refl)) in
       top-own n (next + 28) to at (max top (tickOf s at (keyAt s r p))) (w .0) (all .1) (λ y m. f y (inr m))
       ∙ ap (λ t. topOwn (decode s) p (max top t) (rangesAt s n (next + 28))) tick
 

@@ -26,7 +26,7 @@ use Rattle.ticks.proofs.ForRows.{largest-rows, alike-rows}
 use Rattle.lookup.specs.declared.Cursor.{Cursor}
 use Rattle.lookup.specs.Method.{keyAt, vectorFrom, startAt, advanced, There, elementAt, elementsHere, tickOf, tickFrom, Opens}
 use Rattle.lookup.proofs.Loops.{elements-cons, elements-zero, here-is}
-use Rattle.lookup.proofs.Leaf.{read-lawful, read-ranges, read-key, first-place, next-place, vector-elements}
+use Rattle.lookup.proofs.Leaf.{read-lawful, read-ranges, read-key, first-place, next-place, vector-elements, vector-ticks}
 use Rattle.lookup.proofs.Leaf.{indices-below, opens-reading, leaf-known}
 use Rattle.ranges.specs.Method.{indexThere, topBy, topOf, topKeyBy, topKeyOf, alikeBy, alikeOf, alikeIn}
 
@@ -163,13 +163,18 @@ alike-is s r p c d key own b k l m n = n ∙ rw (m, l, k) refl
 -- Accepted bytes
 
 module _ (R : Rules) (s : List ℕ) (r v e g : ℕ) (h : Reading R s r v e g) where
-  -- the elements of the next range are its vector's
+  -- the elements of the next range are its vector's, and the ticks too
   pub next-elements : (index : VectorIndex) (vector : ℕ) (to : VectorIndex) → to .0 < v → vector ≡ vectorPlace s r (index .0)
       → (vectorFrom s r index vector to ≡ vectorPlace s r (to .0))
       × (elementsHere s (vectorFrom s r index vector to) ≡ vectorOf (decode s) (to .0))
   next-elements index vector to b p =
       let w = next-place R s r v e g h index to vector b p in
       (w, ap (elementsHere s) w ∙ vector-elements R s r v e g h (to .0) b)
+
+  pub next-tick : (index : VectorIndex) (vector : ℕ) (to : VectorIndex) → to .0 < v → vector ≡ vectorPlace s r (index .0)
+      → (key : ReplicaKey) → tickOf s (vectorFrom s r index vector to) key ≡ tickAt (vectorOf (decode s) (to .0)) (key .0)
+  next-tick index vector to b p key =
+      ap (λ a. tickOf s a key) (next-place R s r v e g h index to vector b p) ∙ vector-ticks R s r v e g h (to .0) b key
 
   top-by : (n next : ℕ) (index : VectorIndex) (vector top : ℕ) → vector ≡ vectorPlace s r (index .0)
       → All (λ x. x .index .0 < v) (rangesAt s n next)
@@ -186,12 +191,12 @@ module _ (R : Rules) (s : List ℕ) (r v e g : ℕ) (h : Reading R s r v e g) wh
   alike-by : (key : ReplicaKey) (own n next : ℕ) (index : VectorIndex) (vector : ℕ) → vector ≡ vectorPlace s r (index .0)
       → All (λ x. x .index .0 < v) (rangesAt s n next)
       → alikeBy s r key own n next index vector ≡ alikeRows (λ y. vectorOf (decode s) (y .0)) key own (rangesAt s n next)
-  unfolding alikeBy alikeRows rangesAt indexThere tickOf
+  unfolding alikeBy alikeRows rangesAt indexThere
   alike-by key own zero next index vector p all = refl
   alike-by key own (suc n) next index vector p all =
       let to : VectorIndex = record { 0 = beAt s 4 (next + 24) } in
       let w = next-elements index vector to (all .0) p in
-      ap₂ (λ (es : List Element) (z : Bool). elim (eqb (tickAt es (key .0)) own) [ true ↦ z | false ↦ false ]) (w .1)
+      ap₂ (λ (t : ℕ) (z : Bool). elim (eqb t own) [ true ↦ z | false ↦ false ]) (next-tick index vector to (all .0) p key)
       (alike-by key own n (next + 28) to (vectorFrom s r index vector to) (w .0) (all .1))
 
 module _ (R : Rules) (s : List ℕ) (r : ℕ) (c : Cursor) (o : Opens R s r c) where

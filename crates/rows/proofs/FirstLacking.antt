@@ -22,9 +22,9 @@ use Rattle.ticks.specs.MethodRows.{leastOf}
 use Rattle.ticks.specs.Operations.{lacking, isNowhere, covers}
 use Rattle.ticks.proofs.ForRows.{Fine, Still, LeastLacking, idIn, least-none, least-some, lacking-on, lacking-past, lacking-here}
 use Rattle.lookup.specs.declared.Cursor.{Cursor}
-use Rattle.lookup.specs.Method.{keyAt, advanced, tickOf, Open}
+use Rattle.lookup.specs.Method.{keyAt, advanced, tickHere, Open}
 use Rattle.lookup.proofs.Leaf.{read-lawful, read-ids, ids-room, opens-reading}
-use Rattle.lookup.proofs.Leaf.{Stands, stands-start, stands-advanced, stands-elements, stands-known, stands-still}
+use Rattle.lookup.proofs.Leaf.{Stands, stands-start, stands-advanced, stands-elements, stands-here, stands-still}
 use Rattle.rows.specs.declared.Place.{Place}
 use Rattle.rows.specs.declared.Place.the-variants as O
 use Rattle.rows.specs.Method.{boundOf, nearerOf, idFrom, levelAt, leastAt, walkBy, walkFrom, LaidOut, lackingBy, lackOf}
@@ -49,8 +49,8 @@ module _ (R Q : Rules) (s : List ℕ) (r : ℕ) (x : Cursor) (t : List ℕ) (m :
   levels key h =
       let k : key < m = omega (arith, second-size) in
       let id = beAt t 16 (idsPlace + 16 * key) in
-      let is : levelAt s r t m (x .vector) key ≡ tickOf s (x .vector) (keyAt s r id) = rw (lt-ltb key m k, levelAt) refl in
-      is ∙ stands-known R s r x (suc i) sx i (omega arith) (sx .ahead) id ∙ ap (known (decode s) i) (sym (own-id key k))
+      let is : levelAt s r t m (x .vector) key ≡ tickHere s (x .vector) (keyAt s r id) = rw (lt-ltb key m k, levelAt) refl in
+      is ∙ stands-here R s r x (suc i) sx i (omega arith) (sx .ahead) id ∙ ap (known (decode s) i) (sym (own-id key k))
 
   ids : (key : ℕ) → key < length (decode t .replicas) → idFrom t key ≡ idIn (decode t) key
   unfolding idFrom

@@ -22,7 +22,7 @@ use Rattle.ticks.specs.Operations.{Lack, nowhere, here}
 use Rattle.ticks.proofs.Lists.{less, same, more, order}
 use Rattle.ticks.proofs.Equality.{clash}
 use Rattle.lookup.specs.declared.Cursor.{Cursor}
-use Rattle.lookup.specs.Method.{keyAt, advanced, elementsHere, tickOf}
+use Rattle.lookup.specs.Method.{keyAt, advanced, elementsHere, tickHere}
 use Rattle.lookup.proofs.Leaf.{key-most, advanced-room, advanced-fewer, advanced-passes}
 use Rattle.rows.specs.declared.Least.{Least}
 use Rattle.rows.specs.declared.Least.the-variants as M
@@ -48,7 +48,7 @@ least-same f g id e best (x ∷ xs) =
 module _ (s : List ℕ) (r : ℕ) (t : List ℕ) (m : ℕ) (keys row : List ℕ) (vector : ℕ) (cells : RowOf (elementsHere s vector) row)
     (size : r < length row) (keyed : Keyed s r t m keys) (exact : m ≡ length keys) where
   level-inside : (key : ℕ) → key < m → levelOf keys row key ≡ levelAt s r t m vector key
-  unfolding levelAt tickOf
+  unfolding levelAt tickHere
   level-inside key h =
       let id = beAt t 16 (idsPlace + 16 * key) in
       sym (level-is keys row key (omega (arith, exact))) ∙ ap (λ c. getD row c 0) (keyed .is key h)

@@ -11,7 +11,7 @@ use Rattle.ticks.specs.Meaning.{tickAt}
 use Rattle.ticks.specs.MethodRows.{leastOf}
 use Rattle.ticks.specs.Operations.{Lack, nowhere, here}
 use Rattle.lookup.specs.declared.Cursor.{Cursor}
-use Rattle.lookup.specs.Method.{keyAt, advanced, elementsHere, tickOf}
+use Rattle.lookup.specs.Method.{keyAt, advanced, elementsHere, tickHere}
 use Rattle.rows.specs.declared.Least.{Least}
 use Rattle.rows.specs.declared.Least.the-variants as M
 use Rattle.rows.specs.declared.Stop.{Stop}
@@ -87,7 +87,7 @@ leastId (M.Id x y) = some (words2 x y)
 -- the tick in s, in the vector at a place, for a key of t: the ids of both are compared
 unfoldable pub levelAt : List ℕ → ℕ → List ℕ → ℕ → ℕ → ℕ → ℕ
 levelAt s r t m vector key =
-    elim (ltb key m) [ true ↦ tickOf s vector (keyAt s r (beAt t 16 (idsPlace + 16 * key))) | false ↦ 0 ]
+    elim (ltb key m) [ true ↦ tickHere s vector (keyAt s r (beAt t 16 (idsPlace + 16 * key))) | false ↦ 0 ]
 
 -- the least id of an element of t's vector at a place whose tick is above the one in s's vector at another
 unfoldable pub leastAt : List ℕ → ℕ → List ℕ → ℕ → ℕ → ℕ → Option ℕ

@@ -1,93 +1,77 @@
--- `lookup::tick_at` meets its contract. The loop's invariant: the tick of the key in the vector is its tick among the
--- elements that are left.
-use Prim.Native.Nat.{_+_, _-_, _*_, _≤_}
+-- `lookup::tick_at` meets its contract. The elements that were counted are all there, so the one whose index is the key is there too
+-- where the key is below their number; it has the key, or the search finds what the definition says.
+use Prim.Native.Nat.{_+_, _*_, _≤_}
 use mathlib.Core.Path.{_≡_}
 use native.Mathlib.Omega.{arith}
-use lib.ListN.{length}
-use Rattle.layout.specs.Decode.{elementsAt}
-use Rattle.ticks.specs.Meaning.{tickAt}
-use Rattle.lookup.proofs.Loops.{elements-all, elements-found, elements-next, elements-none, tick-is, tick-nothing}
+use borrow.Author.Needs.{needs}
+use Rattle.lookup.proofs.Loops.{tick-beyond, tick-guessed, tick-other}
 use Rattle.lookup.proofs.tick_at.Statement.{statement}
 use Rattle.lookup.proofs.tick_at.Tie as tie
 
-abbrev Inv-loop : tie.InvT-loop
-Inv-loop s vector key n i₀ at₀ i at =
-    (tickAt (elementsAt s n (vector + 8)) (key .0) ≡ tickAt (elementsAt s (n - i) at) (key .0)) × (i ≤ n)
-    × (at + 12 * (n - i) ≤ length s)
-
-abbrev μ-loop : tie.MeasureT-loop
-μ-loop s vector key n i₀ at₀ i at = n - i
-
-elements-at-requires : tie.Need-elements-at-requires Inv-loop μ-loop
+elements-at-requires : tie.Need-elements-at-requires
 elements-at-requires c κs = tt
 
-returns : tie.Need-returns Inv-loop μ-loop
-returns c = tick-nothing _ _ _ _ (c .before .elements-at .ensures) (c .if1 .taken)
+cast-guess : tie.Need-cast-guess
+cast-guess c = search needs
 
-add-at : tie.Need-add-at Inv-loop μ-loop
-add-at c = omega (arith, c .before .elements-at .ensures .room (omega arith))
+tick-scan-requires : tie.Need-tick-scan-requires
+tick-scan-requires c κs = search needs
 
-loop-holds : tie.Need-loop-holds Inv-loop μ-loop
-loop-holds c = (elements-all _ _ _ _, omega arith, omega (arith, c .before .elements-at .ensures .room (omega arith)))
+returns : tie.Need-returns
+returns c =
+    tick-beyond _ _ _ _ (c .before .before .before .elements-at .ensures .is) _ (c .before .if1 .taken) (c .tick-scan .ensures)
 
-four-requires : tie.Need-four-requires Inv-loop μ-loop
-four-requires c κs = omega arith
+add-at : tie.Need-add-at
+add-at c = omega (arith, c .before .before .elements-at .ensures .room (omega arith))
 
-cast-if2 : tie.Need-cast-if2 Inv-loop μ-loop
-cast-if2 c = omega arith
+mul-at : tie.Need-mul-at
+mul-at c = search needs
 
-add-eight : tie.Need-add-eight Inv-loop μ-loop
-add-eight c = omega arith
+add-at-2 : tie.Need-add-at-2
+add-at-2 c = omega (arith, c .before .before .elements-at .ensures .room (omega arith))
 
-eight-requires : tie.Need-eight-requires Inv-loop μ-loop
-eight-requires c κs = omega arith
+four-requires : tie.Need-four-requires
+four-requires c κs = omega (arith, c .before .before .elements-at .ensures .room (omega arith))
 
-returns-2 : tie.Need-returns-2 Inv-loop μ-loop
+cast-if2 : tie.Need-cast-if2
+cast-if2 c = search needs
+
+add-eight : tie.Need-add-eight
+add-eight c = omega (arith, c .before .before .before .before .before .elements-at .ensures .room (omega arith))
+
+eight-requires : tie.Need-eight-requires
+eight-requires c κs = omega (arith, c .before .before .before .before .before .elements-at .ensures .room (omega arith))
+
+returns-2 : tie.Need-returns-2
 returns-2 c =
-    tick-is _ _ _ _ _ (c .before .before .before .before .before .before .before .elements-at .ensures)
-    (elements-found _ _ _ _ _ _ (c .before .before .before .before .before .loop .inv .0) _ _
-    (c .before .before .before .four .ensures .0) (c .eight .ensures .0)
-    (c .before .before .before .before .loop-test .taken) (c .before .if2 .taken))
+    tick-guessed _ _ _ _ (c .before .before .before .before .before .before .elements-at .ensures .is) _
+    (c .before .before .before .before .if1 .left) (c .before .before .before .four .ensures .0) _ (c .before .if2 .taken)
+    (c .eight .ensures .0)
 
-add-at-2 : tie.Need-add-at-2 Inv-loop μ-loop
-add-at-2 c = omega arith
+tick-scan-requires-2 : tie.Need-tick-scan-requires-2
+tick-scan-requires-2 c κs = search needs
 
-add-i : tie.Need-add-i Inv-loop μ-loop
-add-i c = omega arith
-
-loop-less : tie.Need-loop-less Inv-loop μ-loop
-loop-less c = omega arith
-
-loop-again : tie.Need-loop-again Inv-loop μ-loop
-loop-again c = (
-  elements-next _ _ _ _ _ _ (c .before .before .before .before .loop .inv .0) _ (c .before .before .four .ensures .0)
-      (c .before .before .before .loop-test .taken) (c .if2 .left),
-  omega arith,
-  omega arith,
-)
-
-returns-3 : tie.Need-returns-3 Inv-loop μ-loop
+returns-3 : tie.Need-returns-3
 returns-3 c =
-    tick-is _ _ _ _ _ (c .before .before .before .elements-at .ensures)
-    (elements-none _ _ _ _ _ _ (c .before .loop .inv .0) (c .loop-test .left))
+    tick-other _ _ _ _ (c .before .before .before .before .before .before .elements-at .ensures .is) _
+    (c .before .before .before .before .if1 .left) (c .before .before .before .four .ensures .0) _ (c .before .if2 .left)
+    (c .tick-scan2 .ensures)
 
 pub tick-at-spec : {M : Type 1} → statement M
 tick-at-spec =
     tie.close
     (tie.spec
-    Inv-loop
-    μ-loop
     elements-at-requires
+    cast-guess
+    tick-scan-requires
     returns
     add-at
-    loop-holds
+    mul-at
+    add-at-2
     four-requires
     cast-if2
     add-eight
     eight-requires
     returns-2
-    add-at-2
-    add-i
-    loop-less
-    loop-again
+    tick-scan-requires-2
     returns-3)
