@@ -3,15 +3,17 @@ use mathlib.Core.Path.{refl}
 use native.Mathlib.Omega.{arith}
 use Rattle.layout.specs.Permitted.{base, rulesWithin}
 use Rattle.ticks.specs.Calls.{mergeReply}
-use Rattle.operations.proofs.Ready.{merge-prepares, merge-says}
+use Rattle.preparing.proofs.Ready.{merge-prepares}
+use Rattle.preparing.proofs.Ends.{finished-ended}
+use Rattle.operations.proofs.Replies.{merge-says}
 use borrow.Author.Needs.{needs}
 use Rattle.operations.proofs.merge_in.Statement.{statement}
 use Rattle.operations.proofs.merge_in.Tie as tie
 use Rattle.operations.proofs.merge_in.Reads as reads
 use Rattle.operations.proofs.merge_in.Lts as lts
 use Rattle.filling.proofs.fill_two.Reads as fill-two-reads
-use Rattle.operations.proofs.finish.Reads as finish-reads
-use Rattle.operations.proofs.prepare.Reads as prepare-reads
+use Rattle.preparing.proofs.finish.Reads as finish-reads
+use Rattle.preparing.proofs.prepare.Reads as prepare-reads
 
 fill-two-requires : tie.Need-fill-two-requires
 fill-two-requires c κs = tt
@@ -48,7 +50,7 @@ returns c =
     let a = c .before .before .before .before .before .before .before .before .before .before .before .before .before .before .before .before .before .before .before .before .before .before .before .before .before .before .before .before .before .before .before .before .before .before .before .before .before .before .before .before .before .args in
     let h = c .before .before .before .before .before .before .before .before .before .before .before .before .before .before .before .before .before .before .before .before .before .before .before .before .before .before .before .before .before .before .before .before .before .before .before .before .before .before .before .before .before .pre in
     let R = rulesWithin (a .replicas) (a .ranges) in
-    c .before .before .finish .ensures (mergeReply R (a .s .now) (a .other .now))
+    finished-ended (mergeReply R (a .s .now) (a .other .now)) _ _ _ _ _ _ _ _ _ _ (c .before .before .finish .ensures)
     (merge-says R _ _ _ (h .0) _ _ _ _ _ _ _ _ _ _ (h .1)
     (merge-prepares (a .replicas) (a .ranges) (base .records) R refl _ _ _ _ _ _ _ _ _ _ _ (c .before .before .before .before .before .before .before .before .before .before .before .before .before .before .before .before .prepare .ensures)
     (record { below = λ i. omega (arith, c .before .before .before .before .before .before .before .before .before .before .before .before .before .before .before .before .before .before .before .before .before .before .before .before .before .before .slice-known8 .given i) })

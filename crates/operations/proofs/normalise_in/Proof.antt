@@ -3,15 +3,17 @@ use mathlib.Core.Path.{refl}
 use native.Mathlib.Omega.{arith}
 use Rattle.layout.specs.Permitted.{base, rulesWithin}
 use Rattle.ticks.specs.Calls.{normaliseReply}
-use Rattle.operations.proofs.Ready.{normalise-prepares, normalise-says}
+use Rattle.preparing.proofs.Ready.{normalise-prepares}
+use Rattle.preparing.proofs.Ends.{finished-ended}
+use Rattle.operations.proofs.Replies.{normalise-says}
 use borrow.Author.Needs.{needs}
 use Rattle.operations.proofs.normalise_in.Statement.{statement}
 use Rattle.operations.proofs.normalise_in.Tie as tie
 use Rattle.operations.proofs.normalise_in.Reads as reads
 use Rattle.operations.proofs.normalise_in.Lts as lts
 use Rattle.filling.proofs.fill_one.Reads as fill-one-reads
-use Rattle.operations.proofs.finish.Reads as finish-reads
-use Rattle.operations.proofs.prepare.Reads as prepare-reads
+use Rattle.preparing.proofs.finish.Reads as finish-reads
+use Rattle.preparing.proofs.prepare.Reads as prepare-reads
 
 fill-one-requires : tie.Need-fill-one-requires
 fill-one-requires c κs = tt
@@ -48,7 +50,7 @@ returns c =
     let a = c .before .before .before .before .before .before .before .before .before .before .before .before .before .before .before .before .before .before .before .before .before .before .before .before .before .before .before .before .before .before .before .before .before .before .before .before .before .before .before .before .args in
     let h = c .before .before .before .before .before .before .before .before .before .before .before .before .before .before .before .before .before .before .before .before .before .before .before .before .before .before .before .before .before .before .before .before .before .before .before .before .before .before .before .before .pre in
     let R = rulesWithin (a .replicas) (a .ranges) in
-    c .before .before .finish .ensures (normaliseReply R (a .s .now))
+    finished-ended (normaliseReply R (a .s .now)) _ _ _ _ _ _ _ _ _ _ (c .before .before .finish .ensures)
     (normalise-says R _ _ _ (h .0) _ _ _ _ _ _ _
     (normalise-prepares (a .replicas) (a .ranges) (base .records) R refl _ _ _ _ _ _ _ _ _ _ _ (c .before .before .before .before .before .before .before .before .before .before .before .before .before .before .before .before .prepare .ensures)
     (record { below = λ i. omega (arith, c .before .before .before .before .before .before .before .before .before .before .before .before .before .before .before .before .before .before .before .before .before .before .before .before .before .before .slice-known8 .given i) })

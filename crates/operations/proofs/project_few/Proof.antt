@@ -3,9 +3,10 @@ use mathlib.Core.Path.{refl}
 use Prim.Native.Nat.{_*_, _+_}
 use native.Mathlib.Omega.{arith}
 use Rattle.tables.specs.MethodWords.{stride}
-use Rattle.operations.specs.MethodCalls.{few}
+use Rattle.preparing.specs.MethodPrepared.{few}
 use Rattle.filling.proofs.Scratch.{table-room}
-use Rattle.operations.proofs.Scratch.{opened-few-replicas, plan-room}
+use Rattle.operations.proofs.Scratch.{opened-few-replicas}
+use Rattle.preparing.proofs.Scratch.{plan-room}
 use Rattle.operations.proofs.project_few.Statement.{statement}
 use Rattle.operations.proofs.project_few.Tie as tie
 

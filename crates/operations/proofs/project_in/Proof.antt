@@ -3,7 +3,9 @@ use mathlib.Core.Path.{refl}
 use native.Mathlib.Omega.{arith}
 use Rattle.layout.specs.Permitted.{base, rulesWithin}
 use Rattle.ticks.specs.Calls.{projectReply}
-use Rattle.operations.proofs.Ready.{project-prepares, span-rises, project-says}
+use Rattle.preparing.proofs.Ready.{project-prepares, span-rises}
+use Rattle.preparing.proofs.Ends.{finished-ended}
+use Rattle.operations.proofs.Replies.{project-says}
 use borrow.Author.Needs.{needs}
 use Rattle.operations.proofs.project_in.Statement.{statement}
 use Rattle.operations.proofs.project_in.Tie as tie
@@ -11,8 +13,8 @@ use Rattle.operations.proofs.project_in.Reads as reads
 use Rattle.operations.proofs.project_in.Lts as lts
 use Rattle.filling.proofs.fill_span.Reads as fill-span-reads
 use Rattle.filling.proofs.bound_of.Reads as bound-of-reads
-use Rattle.operations.proofs.finish.Reads as finish-reads
-use Rattle.operations.proofs.prepare.Reads as prepare-reads
+use Rattle.preparing.proofs.finish.Reads as finish-reads
+use Rattle.preparing.proofs.prepare.Reads as prepare-reads
 
 bound-of-requires : tie.Need-bound-of-requires
 bound-of-requires c κs = tt
@@ -57,7 +59,7 @@ returns c =
     let R = rulesWithin (a .replicas) (a .ranges) in
     let f = c .before .before .before .before .before .before .before .before .before .before .before .before .before .before .before .before .before .before .before .before .before .before .before .before .before .before .before .before .before .before .before .before .before .bound-of .ensures .0 in
     let l = c .before .before .before .before .before .before .before .before .before .before .before .before .before .before .before .before .before .before .before .before .before .before .before .before .before .before .before .before .before .before .before .before .bound-of2 .ensures .0 in
-    c .before .before .finish .ensures (projectReply R (a .s .now) (a .first .now) (a .last .now))
+    finished-ended (projectReply R (a .s .now) (a .first .now) (a .last .now)) _ _ _ _ _ _ _ _ _ _ (c .before .before .finish .ensures)
     (project-says R _ _ _ (h .0) _ _ _ _ _ _ _ (a .first .now) (a .last .now) (h .1) _ _ f l
     (project-prepares (a .replicas) (a .ranges) (base .records) R refl _ _ _ _ _ _ _ _ _ _ _ (c .before .before .before .before .before .before .before .before .before .before .before .before .before .before .before .before .prepare .ensures)
     (record { below = λ i. omega (arith, c .before .before .before .before .before .before .before .before .before .before .before .before .before .before .before .before .before .before .before .before .before .before .before .before .before .before .slice-known8 .given i) })

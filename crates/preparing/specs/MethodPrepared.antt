@@ -4,17 +4,17 @@ use Rattle.codec.specs.Prelude.{ℕ, _+_, _≤_, _<_, _≡_, true, false, List,
 use Rattle.codec.specs.Part.{placed}
 use Rattle.codec.specs.Reply.{Reply, gives, refuses, answer, after}
 use Rattle.codec.specs.declared.Answer.{Answer}
+use Rattle.codec.specs.declared.Answer.the-variants as A
 use Rattle.layout.specs.Knowledge.{Limits}
-use Rattle.layout.specs.Permitted.{largestRanges, rulesWithin}
-use Rattle.ticks.specs.Calls.{mergeReply}
+use Rattle.layout.specs.Permitted.{largestRanges}
 use Rattle.tables.specs.declared.Sizes.{Sizes}
 use Rattle.tables.specs.MethodWords.{cell, idAt}
 use Rattle.tables.specs.MethodPlan.{firstsOf, numbersOf, columnsOf, sizesOf, lengthOf}
 use Rattle.tables.specs.MethodPieces.{laid, pagePieces}
 use Rattle.plan.specs.Method.{fits, noSizes}
 use Rattle.filling.specs.declared.Filled.{Filled}
-use Rattle.operations.specs.declared.Prepared.{Prepared}
-use Rattle.operations.specs.declared.Prepared.the-variants as P
+use Rattle.preparing.specs.declared.Prepared.{Prepared}
+use Rattle.preparing.specs.declared.Prepared.the-variants as P
 
 -- up to so many rows a call takes less room
 abbrev pub few : ℕ
@@ -23,10 +23,6 @@ few = 12
 -- rows for one knowledge: row 0, one at the first item, one for each range, and two at the ends of a span
 abbrev pub oneRows : ℕ
 oneRows = largestRanges + 4
-
--- the reply of a merge with limits given as numbers
-abbrev pub mergeWithin : ℕ → ℕ → List ℕ → List ℕ → Reply
-mergeWithin replicas ranges s other = mergeReply (rulesWithin replicas ranges) s other
 
 -- 11 over the most replicas, 12 over the most ranges, or n rows that are ready
 unfoldable pub judged : Limits → Sizes → ℕ → Prepared
@@ -62,6 +58,28 @@ planned L q ids t c f x =
       | true ↦ planOf (over cs c) (over fs f) (over xs x) (judged L (sizesOf (cell t) cs fs xs) (q .rows))
       | false ↦ planOf c f x (judged L noSizes (q .rows))
     ]
+
+-- How a call ends that writes a knowledge
+
+pub record End : Type 0 where
+  pub out : List ℕ
+  pub answer : Answer
+
+abbrev pub endOf : List ℕ → Answer → End
+endOf out a = record { out = out; answer = a }
+
+-- with n rows of a table that was planned so: 14 and the buffer as it was where it is too short, or the table written from its front
+unfoldable pub writtenEnd : List ℕ → List ℕ → List ℕ → List ℕ → List ℕ → List ℕ → List ℕ → Sizes → ℕ → End
+writtenEnd out ids bounds t cols firsts numbers z n =
+    elim (ltb (length out) (lengthOf z)) [
+      | true ↦ endOf out (A.Refused 14)
+      | false ↦ endOf (laid out 0 (pagePieces z ids bounds t n cols firsts numbers)) (A.Written (lengthOf z))
+    ]
+
+-- with what was prepared: its refusal and the buffer as it was, or that
+unfoldable pub finished : List ℕ → List ℕ → List ℕ → List ℕ → List ℕ → List ℕ → List ℕ → Prepared → End
+finished out ids bounds t cols firsts numbers (P.Ready z n) = writtenEnd out ids bounds t cols firsts numbers z n
+finished out ids bounds t cols firsts numbers (P.Refused n) = endOf out (A.Refused n)
 
 -- What was made ready
 

@@ -9,14 +9,13 @@ use native.Mathlib.Omega.{arith}
 use lib.ListN.{length}
 use Rattle.codec.specs.Part.{placed}
 use Rattle.codec.specs.Words.{words2}
-use Rattle.codec.specs.Reply.{gives, refuses, firstFault}
 use Rattle.codec.proofs.Replies.{None, First, fault-gives, fault-first}
 use Rattle.layout.specs.Knowledge.{Limits, Rules, Knowledge, encode}
 use Rattle.layout.specs.Permitted.{base, within, rulesWithin}
 use Rattle.layout.specs.Decode.{decode}
 use Rattle.ticks.specs.Meaning.{known}
 use Rattle.ticks.specs.Operations.{larger, knownInside, knownRaised, normalise, merge, project, raise, tooManyReplicas, tooManyRanges}
-use Rattle.ticks.specs.Calls.{idOf, wrongSpan, resultLines, normaliseReply, mergeReply, projectReply}
+use Rattle.ticks.specs.Calls.{idOf, wrongSpan, resultLines}
 use Rattle.ticks.proofs.ForCalls.{span-right}
 use Rattle.tables.specs.declared.Sizes.{Sizes}
 use Rattle.tables.specs.MethodWords.{stride, mostRows, cell, idAt, boundAt, Words}
@@ -24,20 +23,20 @@ use Rattle.tables.specs.MethodPlan.{page, lengthOf}
 use Rattle.tables.specs.MethodPieces.{laid, pagePieces}
 use Rattle.tables.proofs.Link.{page-normalise, page-merge, page-project, page-raise}
 use Rattle.loading.specs.MethodReply.{resultReply}
-use Rattle.loading.proofs.Closing.{normalise-accepted, merge-accepted, project-accepted}
 use Rattle.lookup.specs.declared.Cursor.{Cursor}
 use Rattle.lookup.specs.Method.{Opens}
 use Rattle.filling.specs.declared.Bound.{Bound}
 use Rattle.filling.specs.declared.Filled.{Filled}
 use Rattle.filling.specs.MethodRows.{itemOf, InWords, boundRead}
 use Rattle.filling.specs.MethodTables.{tableOf, oneTable, twoTable, spanTable, raisedTable, TableRoom, Samples}
-use Rattle.filling.proofs.Opening.{opened-read, scratch-open}
+use Rattle.filling.proofs.Opening.{scratch-open}
 use Rattle.filling.proofs.Span.{bound-item}
 use Rattle.filling.proofs.Tables.{one-samples, two-samples, span-samples, raised-samples}
-use Rattle.operations.specs.declared.Prepared.{Prepared}
-use Rattle.operations.specs.declared.Prepared.the-variants as P
-use Rattle.operations.specs.MethodCalls.{planOf, planned, Holds, Prepares, PlanRoom}
-use Rattle.operations.proofs.Judged.{planned-prepares, prepared-ready, prepared-refused}
+use Rattle.preparing.specs.declared.Prepared.{Prepared}
+use Rattle.preparing.specs.declared.Prepared.the-variants as P
+use Rattle.preparing.specs.MethodPrepared.{planOf, planned, Holds, Prepares, PlanRoom}
+use Rattle.preparing.proofs.Judged.{planned-prepares}
+use Rattle.preparing.proofs.Ends.{prepared-ready, prepared-refused}
 
 -- how many records there may be is nothing that the result of a knowledge goes by
 result-within : (replicas ranges records others : ℕ) (k : Knowledge)
@@ -131,36 +130,13 @@ module _ (L : Limits) (k : Knowledge) (ids bounds t cols firsts numbers : List �
     unfolding resultReply
     result-refused n e = fault-first (resultLines L k) (encode k) n (prepared-refused (resultReply L k) ids bounds t cols firsts numbers p h n e)
 
--- The replies of the calls
-
 -- ids of a span, as words
 module _ (first last : List ℕ) (right : wrongSpan first last ≡ false) where
-  first-item : (f : Bound) → f ≡ boundRead first → itemOf f ≡ idOf 24 first
+  pub first-item : (f : Bound) → f ≡ boundRead first → itemOf f ≡ idOf 24 first
   first-item f e = ap itemOf e ∙ bound-item first (span-right first last right .0)
 
-  last-item : (l : Bound) → l ≡ boundRead last → itemOf l ≡ idOf 24 last
+  pub last-item : (l : Bound) → l ≡ boundRead last → itemOf l ≡ idOf 24 last
   last-item l e = ap itemOf e ∙ bound-item last (span-right first last right .1 .0)
 
   pub span-rises : (f l : Bound) → f ≡ boundRead first → l ≡ boundRead last → itemOf f ≤ itemOf l
   span-rises f l e g = omega (arith, first-item f e, last-item l g, span-right first last right .1 .1)
-
-module _ (R : Rules) (s : List ℕ) (r : ℕ) (c : Cursor) (o : Opens R s r c) (ids bounds t cols firsts numbers : List ℕ) (p : Prepared) where
-  abbrev Says : Knowledge → Type 0
-  Says k = Prepares (resultReply (R .limits) k) ids bounds t cols firsts numbers p
-
-  pub normalise-says : Says (normalise (decode s)) → Prepares (normaliseReply R s) ids bounds t cols firsts numbers p
-  normalise-says h =
-      subst (λ reply. Prepares reply ids bounds t cols firsts numbers p) (sym (normalise-accepted R s (decode s) (opened-read R s r c o))) h
-
-  pub merge-says : (other : List ℕ) (m : ℕ) (d : Cursor) → Opens R other m d → Says (merge (decode s) (decode other))
-      → Prepares (mergeReply R s other) ids bounds t cols firsts numbers p
-  merge-says other m d u h =
-      subst (λ reply. Prepares reply ids bounds t cols firsts numbers p)
-      (sym (merge-accepted R s other (decode s) (opened-read R s r c o) (decode other) (opened-read R other m d u))) h
-
-  pub project-says : (first last : List ℕ) → wrongSpan first last ≡ false → (f l : Bound) → f ≡ boundRead first → l ≡ boundRead last
-      → Says (project (itemOf f) (itemOf l) (decode s)) → Prepares (projectReply R s first last) ids bounds t cols firsts numbers p
-  project-says first last right f l e g h =
-      subst (λ reply. Prepares reply ids bounds t cols firsts numbers p)
-      (sym (project-accepted R s first last (decode s) (opened-read R s r c o) right))
-      (rw (← first-item first last right f e, ← last-item first last right l g) h)
