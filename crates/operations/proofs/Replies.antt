@@ -1,5 +1,5 @@
--- What was prepared for the result of an operation is what the call's reply says: the bytes were accepted, and the span is one, so no
--- line of the call's table before those of the result holds. Document 01's limits are those of its two numbers.
+-- A call that has ended as the reply of its result says has ended as its own reply says: the bytes were accepted, and the span is one,
+-- so no line of the call's table before those of the result holds. Document 01's limits are those of its two numbers.
 use Prim.Native.Nat.{ℕ}
 use mathlib.Core.Path.{_≡_, sym, ap, _∙_, subst}
 use mathlib.Core.Bool.{false}
@@ -20,29 +20,26 @@ use Rattle.lookup.specs.Method.{Opens}
 use Rattle.filling.specs.declared.Bound.{Bound}
 use Rattle.filling.specs.MethodRows.{itemOf, boundRead}
 use Rattle.filling.proofs.Opening.{opened-read}
-use Rattle.preparing.specs.declared.Prepared.{Prepared}
-use Rattle.preparing.specs.MethodPrepared.{Prepares, Ended}
+use Rattle.preparing.specs.MethodPrepared.{Ended}
 use Rattle.preparing.proofs.Ready.{first-item, last-item}
 
-module _ (R : Rules) (s : List ℕ) (r : ℕ) (c : Cursor) (o : Opens R s r c) (ids bounds t cols firsts numbers : List ℕ) (p : Prepared) where
+module _ (R : Rules) (s : List ℕ) (r : ℕ) (c : Cursor) (o : Opens R s r c) (out u : List ℕ) (a : Answer) where
   abbrev Says : Knowledge → Type 0
-  Says k = Prepares (resultReply (R .limits) k) ids bounds t cols firsts numbers p
+  Says k = Ended (resultReply (R .limits) k) out u a
 
-  pub normalise-says : Says (normalise (decode s)) → Prepares (normaliseReply R s) ids bounds t cols firsts numbers p
-  normalise-says h =
-      subst (λ reply. Prepares reply ids bounds t cols firsts numbers p) (sym (normalise-accepted R s (decode s) (opened-read R s r c o))) h
+  pub normalise-says : Says (normalise (decode s)) → Ended (normaliseReply R s) out u a
+  normalise-says h = subst (λ reply. Ended reply out u a) (sym (normalise-accepted R s (decode s) (opened-read R s r c o))) h
 
   pub merge-says : (other : List ℕ) (m : ℕ) (d : Cursor) → Opens R other m d → Says (merge (decode s) (decode other))
-      → Prepares (mergeReply R s other) ids bounds t cols firsts numbers p
-  merge-says other m d u h =
-      subst (λ reply. Prepares reply ids bounds t cols firsts numbers p)
-      (sym (merge-accepted R s other (decode s) (opened-read R s r c o) (decode other) (opened-read R other m d u))) h
+      → Ended (mergeReply R s other) out u a
+  merge-says other m d w h =
+      subst (λ reply. Ended reply out u a)
+      (sym (merge-accepted R s other (decode s) (opened-read R s r c o) (decode other) (opened-read R other m d w))) h
 
   pub project-says : (first last : List ℕ) → wrongSpan first last ≡ false → (f l : Bound) → f ≡ boundRead first → l ≡ boundRead last
-      → Says (project (itemOf f) (itemOf l) (decode s)) → Prepares (projectReply R s first last) ids bounds t cols firsts numbers p
+      → Says (project (itemOf f) (itemOf l) (decode s)) → Ended (projectReply R s first last) out u a
   project-says first last right f l e g h =
-      subst (λ reply. Prepares reply ids bounds t cols firsts numbers p)
-      (sym (project-accepted R s first last (decode s) (opened-read R s r c o) right))
+      subst (λ reply. Ended reply out u a) (sym (project-accepted R s first last (decode s) (opened-read R s r c o) right))
       (rw (← first-item first last right f e, ← last-item first last right l g) h)
 
 -- Document 01's limits

@@ -13,7 +13,7 @@ ghost use Rattle.layout.specs.Permitted.{rulesWithin};
 ghost use Rattle.ticks.specs.Calls.{wrongSpan, normaliseReply, mergeReply, projectReply};
 ghost use Rattle.lookup.specs.Method.{Opens};
 ghost use Rattle.filling.specs.MethodTables.{TableRoom};
-ghost use Rattle.preparing.specs.MethodPrepared.{few, Ended, PlanRoom};
+ghost use Rattle.preparing.specs.MethodPrepared.{few, Ended};
 
 // ---- normalise
 
@@ -28,17 +28,12 @@ fn normalise_in(
     ids: &mut [u64],
     bounds: &mut [u64],
     t: &mut [u64],
-    cols: &mut [u32],
-    firsts: &mut [u32],
-    numbers: &mut [u32],
 ) -> Answer
-    requires { ⌜ (Opens (rulesWithin replicas ranges) (now s) r start) × (TableRoom r (start .left + 1) (now ids) (now bounds) (now t))
-        × (PlanRoom r (start .left + 1) (now cols) (now firsts) (now numbers)) ⌝ }
+    requires { ⌜ (Opens (rulesWithin replicas ranges) (now s) r start) × (TableRoom r (start .left + 1) (now ids) (now bounds) (now t)) ⌝ }
     ensures { λ a. ⌜ Ended (normaliseReply (rulesWithin replicas ranges) (now (s .entry))) (now (out .entry)) (now (out .exit)) a ⌝ }
 {
     let q = filling::fill_one(s, r, start, ids, bounds, t);
-    let p = preparing::prepare(q, replicas, ranges, ids, t, cols, firsts, numbers);
-    preparing::finish(out, p, ids, bounds, t, cols, firsts, numbers)
+    preparing::conclude(q, replicas, ranges, out, ids, bounds, t)
 }
 
 fn normalise_few(
@@ -55,9 +50,6 @@ fn normalise_few(
     let mut ids = [0u64; 2 * tables::STRIDE];
     let mut bounds = [0u64; 3 * preparing::FEW];
     let mut t = [0u64; tables::STRIDE * preparing::FEW];
-    let mut cols = [0u32; tables::STRIDE];
-    let mut firsts = [0u32; preparing::FEW];
-    let mut numbers = [0u32; preparing::FEW];
     normalise_in(
         s,
         r,
@@ -68,9 +60,6 @@ fn normalise_few(
         &mut ids,
         &mut bounds,
         &mut t,
-        &mut cols,
-        &mut firsts,
-        &mut numbers,
     )
 }
 
@@ -88,9 +77,6 @@ fn normalise_many(
     let mut ids = [0u64; 2 * tables::STRIDE];
     let mut bounds = [0u64; 3 * preparing::ONE];
     let mut t = [0u64; tables::STRIDE * preparing::ONE];
-    let mut cols = [0u32; tables::STRIDE];
-    let mut firsts = [0u32; preparing::ONE];
-    let mut numbers = [0u32; preparing::ONE];
     normalise_in(
         s,
         r,
@@ -101,9 +87,6 @@ fn normalise_many(
         &mut ids,
         &mut bounds,
         &mut t,
-        &mut cols,
-        &mut firsts,
-        &mut numbers,
     )
 }
 
@@ -146,18 +129,13 @@ fn merge_in(
     ids: &mut [u64],
     bounds: &mut [u64],
     t: &mut [u64],
-    cols: &mut [u32],
-    firsts: &mut [u32],
-    numbers: &mut [u32],
 ) -> Answer
     requires { ⌜ (Opens (rulesWithin replicas ranges) (now s) r start) × (Opens (rulesWithin replicas ranges) (now other) m begin)
-        × (TableRoom (r + m) (start .left + begin .left + 1) (now ids) (now bounds) (now t))
-        × (PlanRoom (r + m) (start .left + begin .left + 1) (now cols) (now firsts) (now numbers)) ⌝ }
+        × (TableRoom (r + m) (start .left + begin .left + 1) (now ids) (now bounds) (now t)) ⌝ }
     ensures { λ a. ⌜ Ended (mergeReply (rulesWithin replicas ranges) (now (s .entry)) (now (other .entry))) (now (out .entry)) (now (out .exit)) a ⌝ }
 {
     let q = filling::fill_two(s, r, start, other, m, begin, ids, bounds, t);
-    let p = preparing::prepare(q, replicas, ranges, ids, t, cols, firsts, numbers);
-    preparing::finish(out, p, ids, bounds, t, cols, firsts, numbers)
+    preparing::conclude(q, replicas, ranges, out, ids, bounds, t)
 }
 
 fn merge_few(
@@ -178,9 +156,6 @@ fn merge_few(
     let mut ids = [0u64; 2 * tables::STRIDE];
     let mut bounds = [0u64; 3 * preparing::FEW];
     let mut t = [0u64; tables::STRIDE * preparing::FEW];
-    let mut cols = [0u32; tables::STRIDE];
-    let mut firsts = [0u32; preparing::FEW];
-    let mut numbers = [0u32; preparing::FEW];
     merge_in(
         s,
         r,
@@ -194,9 +169,6 @@ fn merge_few(
         &mut ids,
         &mut bounds,
         &mut t,
-        &mut cols,
-        &mut firsts,
-        &mut numbers,
     )
 }
 
@@ -217,9 +189,6 @@ fn merge_many(
     let mut ids = [0u64; 2 * tables::STRIDE];
     let mut bounds = [0u64; 3 * tables::ROWS];
     let mut t = [0u64; tables::STRIDE * tables::ROWS];
-    let mut cols = [0u32; tables::STRIDE];
-    let mut firsts = [0u32; tables::ROWS];
-    let mut numbers = [0u32; tables::ROWS];
     merge_in(
         s,
         r,
@@ -233,9 +202,6 @@ fn merge_many(
         &mut ids,
         &mut bounds,
         &mut t,
-        &mut cols,
-        &mut firsts,
-        &mut numbers,
     )
 }
 
@@ -297,21 +263,16 @@ fn project_in(
     ids: &mut [u64],
     bounds: &mut [u64],
     t: &mut [u64],
-    cols: &mut [u32],
-    firsts: &mut [u32],
-    numbers: &mut [u32],
 ) -> Answer
     requires { ⌜ (Opens (rulesWithin replicas ranges) (now s) r start) × (wrongSpan (now first) (now last) ≡ false)
-        × (TableRoom r (start .left + 3) (now ids) (now bounds) (now t))
-        × (PlanRoom r (start .left + 3) (now cols) (now firsts) (now numbers)) ⌝ }
+        × (TableRoom r (start .left + 3) (now ids) (now bounds) (now t)) ⌝ }
     ensures { λ a. ⌜ Ended (projectReply (rulesWithin replicas ranges) (now (s .entry)) (now (first .entry)) (now (last .entry)))
         (now (out .entry)) (now (out .exit)) a ⌝ }
 {
     let f = filling::bound_of(first);
     let l = filling::bound_of(last);
     let q = filling::fill_span(s, r, start, f, l, ids, bounds, t);
-    let p = preparing::prepare(q, replicas, ranges, ids, t, cols, firsts, numbers);
-    preparing::finish(out, p, ids, bounds, t, cols, firsts, numbers)
+    preparing::conclude(q, replicas, ranges, out, ids, bounds, t)
 }
 
 fn project_few(
@@ -332,9 +293,6 @@ fn project_few(
     let mut ids = [0u64; 2 * tables::STRIDE];
     let mut bounds = [0u64; 3 * preparing::FEW];
     let mut t = [0u64; tables::STRIDE * preparing::FEW];
-    let mut cols = [0u32; tables::STRIDE];
-    let mut firsts = [0u32; preparing::FEW];
-    let mut numbers = [0u32; preparing::FEW];
     project_in(
         s,
         r,
@@ -347,9 +305,6 @@ fn project_few(
         &mut ids,
         &mut bounds,
         &mut t,
-        &mut cols,
-        &mut firsts,
-        &mut numbers,
     )
 }
 
@@ -370,9 +325,6 @@ fn project_many(
     let mut ids = [0u64; 2 * tables::STRIDE];
     let mut bounds = [0u64; 3 * preparing::ONE];
     let mut t = [0u64; tables::STRIDE * preparing::ONE];
-    let mut cols = [0u32; tables::STRIDE];
-    let mut firsts = [0u32; preparing::ONE];
-    let mut numbers = [0u32; preparing::ONE];
     project_in(
         s,
         r,
@@ -385,9 +337,6 @@ fn project_many(
         &mut ids,
         &mut bounds,
         &mut t,
-        &mut cols,
-        &mut firsts,
-        &mut numbers,
     )
 }
 

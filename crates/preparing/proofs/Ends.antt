@@ -4,19 +4,23 @@ use Prim.Native.Nat.{ℕ, _≤_, _<_}
 use mathlib.Core.Path.{_≡_, refl, sym, ap, ap₂, _∙_, subst}
 use mathlib.Core.List.{List}
 use native.Mathlib.Omega.{arith}
-use lib.ListN.{length}
+use lib.ListN.{length, replicate}
 use borrow.Author.Tests.{lt-ltb, le-ltb}
 use Rattle.codec.specs.Reply.{Reply, refuses}
 use Rattle.codec.specs.declared.Answer.{Answer}
 use Rattle.codec.specs.declared.Answer.the-variants as A
 use Rattle.codec.proofs.Calls.{refused-answer, refused-after, short-answer, short-after, written-answer, written-after}
+use Rattle.layout.specs.Knowledge.{Limits}
 use Rattle.ticks.proofs.Lists.{order, less, same, more}
 use Rattle.tables.specs.declared.Sizes.{Sizes}
+use Rattle.tables.specs.MethodWords.{stride, mostRows}
 use Rattle.tables.specs.MethodPlan.{lengthOf}
 use Rattle.tables.specs.MethodPieces.{laid, pagePieces}
+use Rattle.filling.specs.declared.Filled.{Filled}
 use Rattle.preparing.specs.declared.Prepared.{Prepared}
 use Rattle.preparing.specs.declared.Prepared.the-variants as P
-use Rattle.preparing.specs.MethodPrepared.{End, endOf, writtenEnd, finished, Holds, Prepares, Ended}
+use Rattle.preparing.specs.MethodPrepared.{few, Plan, planOf, planned, End, endOf, writtenEnd, finished}
+use Rattle.preparing.specs.MethodPrepared.{plannedEnd, blankEnd, concluded, Holds, Prepares, Ended}
 
 module _ (reply : Reply) (out : List ℕ) where
   pub ended-refused : (n : ℕ) → reply ≡ refuses n → Ended reply out out (A.Refused n)
@@ -93,3 +97,44 @@ module _ (reply : Reply) (out ids bounds t cols firsts numbers : List ℕ) where
   pub finished-ended : (p : Prepared) (u : List ℕ) (a : Answer) → endOf u a ≡ finished out ids bounds t cols firsts numbers p
       → Prepares reply ids bounds t cols firsts numbers p → Ended reply out u a
   finished-ended p u a e h = subst Fine (sym e) (fine-finished p h)
+
+-- the end after a plan
+module _ (L : Limits) (q : Filled) (out ids bounds t : List ℕ) where
+  pub end-planned : (c f x c' f' x' : List ℕ) (p : Prepared) (w : End) → planOf c' f' x' p ≡ planned L q ids t c f x
+      → w ≡ finished out ids bounds t c' f' x' p → w ≡ plannedEnd (planned L q ids t c f x) out ids bounds t
+  unfolding plannedEnd
+  end-planned c f x c' f' x' p w e g = g ∙ ap (λ y. plannedEnd y out ids bounds t) e
+
+  pub end-few : (w : End) → q .rows < few → w ≡ blankEnd few L q out ids bounds t → w ≡ concluded L q out ids bounds t
+  unfolding concluded
+  end-few w l e = e ∙ rw (lt-ltb (q .rows) few l, concluded)
+
+  pub end-many : (w : End) → few ≤ q .rows → w ≡ blankEnd mostRows L q out ids bounds t → w ≡ concluded L q out ids bounds t
+  unfolding concluded
+  end-many w l e = e ∙ rw (le-ltb (q .rows) few l, concluded)
+
+  module _ (reply : Reply) where
+    abbrev Good : End → Type 0
+    Good w = Ended reply out (w .out) (w .answer)
+
+    planned-good : (w : Plan) → Prepares reply ids bounds t (w .cols) (w .firsts) (w .numbers) (w .prepared) → Good (plannedEnd w out ids bounds t)
+    unfolding plannedEnd
+    planned-good w h = fine-finished reply out ids bounds t (w .cols) (w .firsts) (w .numbers) (w .prepared) h
+
+    -- what planning leaves is what the reply says, whichever lists of zeros were lent for it
+    pub concluded-ended : (u : List ℕ) (a : Answer) → endOf u a ≡ concluded L q out ids bounds t
+        → ((n : ℕ) → q .rows < n → let w = planned L q ids t (replicate stride 0) (replicate n 0) (replicate n 0) in
+        Prepares reply ids bounds t (w .cols) (w .firsts) (w .numbers) (w .prepared)) → q .rows < mostRows → Ended reply out u a
+    concluded-ended u a e h l =
+        elim (order (q .rows) few) [
+          | less k ↦ subst Good (sym (e ∙ sym (end-few (blankEnd few L q out ids bounds t) k refl))) (planned-good (plan few) (h few k))
+          | same k ↦ many (omega arith)
+          | more k ↦ many (omega arith)
+        ]
+      where
+        plan : ℕ → Plan
+        plan n = planned L q ids t (replicate stride 0) (replicate n 0) (replicate n 0)
+
+        many : few ≤ q .rows → Ended reply out u a
+        many k =
+            subst Good (sym (e ∙ sym (end-many (blankEnd mostRows L q out ids bounds t) k refl))) (planned-good (plan mostRows) (h mostRows l))

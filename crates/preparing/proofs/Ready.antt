@@ -1,25 +1,26 @@
 -- What is made ready for an operation is what its reply says. A table was filled from accepted bytes, so it samples the ticks of the
 -- operation; the plan of such a table is the operation's result; and the plan was judged by the limits. These are the laws for a caller
--- that fills, prepares and writes by itself: its facts are just the contracts of the three.
+-- that fills, prepares and writes by itself: its facts are just the contracts of the three. A caller that fills and concludes has ended as
+-- the reply of its result says.
 use Prim.Native.Nat.{ℕ, _+_, _≤_, _<_}
 use mathlib.Core.Path.{_≡_, refl, sym, ap, _∙_, subst}
 use mathlib.Core.Bool.{false}
 use mathlib.Core.List.{List}
 use native.Mathlib.Omega.{arith}
-use lib.ListN.{length}
+use lib.ListN.{length, replicate}
 use Rattle.codec.specs.Part.{placed}
 use Rattle.codec.specs.Words.{words2}
+use Rattle.codec.specs.declared.Answer.{Answer}
 use Rattle.codec.proofs.Replies.{None, First, fault-gives, fault-first}
 use Rattle.layout.specs.Knowledge.{Limits, Rules, Knowledge, encode}
 use Rattle.layout.specs.Permitted.{base, within, rulesWithin}
 use Rattle.layout.specs.Decode.{decode}
-use Rattle.ticks.specs.Meaning.{known}
-use Rattle.ticks.specs.Operations.{larger, knownInside, knownRaised, normalise, merge, project, raise, tooManyReplicas, tooManyRanges}
+use Rattle.ticks.specs.Operations.{normalise, merge, project, raise, tooManyReplicas, tooManyRanges}
 use Rattle.ticks.specs.Calls.{idOf, wrongSpan, resultLines}
 use Rattle.ticks.proofs.ForCalls.{span-right}
 use Rattle.tables.specs.declared.Sizes.{Sizes}
-use Rattle.tables.specs.MethodWords.{stride, mostRows, cell, idAt, boundAt, Words}
-use Rattle.tables.specs.MethodPlan.{page, lengthOf}
+use Rattle.tables.specs.MethodWords.{stride, cell, idAt, boundAt, Words}
+use Rattle.tables.specs.MethodPlan.{lengthOf}
 use Rattle.tables.specs.MethodPieces.{laid, pagePieces}
 use Rattle.tables.proofs.Link.{page-normalise, page-merge, page-project, page-raise}
 use Rattle.loading.specs.MethodReply.{resultReply}
@@ -28,15 +29,16 @@ use Rattle.lookup.specs.Method.{Opens}
 use Rattle.filling.specs.declared.Bound.{Bound}
 use Rattle.filling.specs.declared.Filled.{Filled}
 use Rattle.filling.specs.MethodRows.{itemOf, InWords, boundRead}
-use Rattle.filling.specs.MethodTables.{tableOf, oneTable, twoTable, spanTable, raisedTable, TableRoom, Samples}
+use Rattle.filling.specs.MethodTables.{tableOf, oneTable, twoTable, spanTable, raisedTable, TableRoom}
 use Rattle.filling.proofs.Opening.{scratch-open}
 use Rattle.filling.proofs.Span.{bound-item}
 use Rattle.filling.proofs.Tables.{one-samples, two-samples, span-samples, raised-samples}
 use Rattle.preparing.specs.declared.Prepared.{Prepared}
 use Rattle.preparing.specs.declared.Prepared.the-variants as P
-use Rattle.preparing.specs.MethodPrepared.{planOf, planned, Holds, Prepares, PlanRoom}
+use Rattle.preparing.specs.MethodPrepared.{Plan, planOf, planned, endOf, concluded, Holds, Prepares, Ended, PlanRoom, Sheet}
 use Rattle.preparing.proofs.Judged.{planned-prepares}
-use Rattle.preparing.proofs.Ends.{prepared-ready, prepared-refused}
+use Rattle.preparing.proofs.Ends.{prepared-ready, prepared-refused, concluded-ended}
+use Rattle.preparing.proofs.Scratch.{plan-room}
 
 -- how many records there may be is nothing that the result of a knowledge goes by
 result-within : (replicas ranges records others : ℕ) (k : Knowledge)
@@ -44,24 +46,103 @@ result-within : (replicas ranges records others : ℕ) (k : Knowledge)
 unfolding resultReply resultLines tooManyReplicas tooManyRanges
 result-within replicas ranges records others k = refl
 
--- the limits of a caller's rules, and what was planned by them
+-- The table of an operation: it samples the operation's ticks, so its plan is the operation's result
+
+module _ (replicas ranges records : ℕ) (R : Rules) (limits : R .limits ≡ within replicas ranges records) (ids bounds t : List ℕ) (q : Filled)
+    (ids₀ bounds₀ t₀ : List ℕ) (s : List ℕ) (r : ℕ) (c : Cursor) (o : Opens R s r c) where
+  pub normalise-sheet : tableOf ids bounds t q ≡ oneTable s r c ids₀ bounds₀ t₀ → TableRoom r (c .left + 1) ids₀ bounds₀ t₀
+      → Sheet ids bounds t r (c .left + 1) q (normalise (decode s))
+  normalise-sheet e room =
+      let f = one-samples s r c ids₀ bounds₀ t₀ ids bounds t q e (scratch-open R replicas ranges records limits s r c o) room in record {
+        columns = f .columns;
+        rows = f .rows;
+        inStride = room .columns;
+        inRows = room .rows;
+        is = page-normalise (idAt ids) (boundAt bounds) (cell t) (q .columns) (q .rows) (decode s) (f .is);
+      }
+
+  pub raise-sheet : (p0 p1 tick : ℕ) → tableOf ids bounds t q ≡ raisedTable s r c p0 p1 tick ids₀ bounds₀ t₀
+      → TableRoom (r + 1) (c .left + 1) ids₀ bounds₀ t₀ → Sheet ids bounds t (r + 1) (c .left + 1) q (raise (words2 p0 p1) tick (decode s))
+  raise-sheet p0 p1 tick e room =
+      let f = raised-samples s r c p0 p1 tick ids₀ bounds₀ t₀ ids bounds t q e (scratch-open R replicas ranges records limits s r c o) room in record {
+        columns = f .columns;
+        rows = f .rows;
+        inStride = room .columns;
+        inRows = room .rows;
+        is = page-raise (idAt ids) (boundAt bounds) (cell t) (q .columns) (q .rows) (words2 p0 p1) tick (decode s) (f .is);
+      }
+
+  pub project-sheet : (first last : Bound) → tableOf ids bounds t q ≡ spanTable s r c first last ids₀ bounds₀ t₀
+      → TableRoom r (c .left + 3) ids₀ bounds₀ t₀ → InWords last → itemOf first ≤ itemOf last
+      → Sheet ids bounds t r (c .left + 3) q (project (itemOf first) (itemOf last) (decode s))
+  project-sheet first last e room words span =
+      let f = span-samples s r c first last ids₀ bounds₀ t₀ ids bounds t q e (scratch-open R replicas ranges records limits s r c o) room words span in record {
+        columns = f .columns;
+        rows = f .rows;
+        inStride = room .columns;
+        inRows = room .rows;
+        is = page-project (idAt ids) (boundAt bounds) (cell t) (q .columns) (q .rows) (itemOf first) (itemOf last) (decode s) (f .is);
+      }
+
+  pub merge-sheet : (S : Rules) → S .limits ≡ within replicas ranges records → (other : List ℕ) (m : ℕ) (d : Cursor) → Opens S other m d
+      → tableOf ids bounds t q ≡ twoTable s r c other m d ids₀ bounds₀ t₀ → TableRoom (r + m) (c .left + d .left + 1) ids₀ bounds₀ t₀
+      → Sheet ids bounds t (r + m) (c .left + d .left + 1) q (merge (decode s) (decode other))
+  merge-sheet S same-limits other m d u e room =
+      let f = two-samples s r c other m d ids₀ bounds₀ t₀ ids bounds t q e (scratch-open R replicas ranges records limits s r c o)
+      (scratch-open S replicas ranges records same-limits other m d u) room in record {
+        columns = f .columns;
+        rows = f .rows;
+        inStride = room .columns;
+        inRows = room .rows;
+        is = page-merge (idAt ids) (boundAt bounds) (cell t) (q .columns) (q .rows) (decode s) (decode other) (f .is);
+      }
+
+-- the limits of a caller's rules, and what is planned by them
+module _ (replicas ranges records : ℕ) (R : Rules) (limits : R .limits ≡ within replicas ranges records) where
+  abbrev own : Limits
+  own = rulesWithin replicas ranges .limits
+
+  same-result : (k : Knowledge) → resultReply own k ≡ resultReply (R .limits) k
+  same-result k = result-within replicas ranges (base .records) records k ∙ ap (λ L. resultReply L k) (sym limits)
+
+  module _ (ids bounds t : List ℕ) (wi : Words ids) (wb : Words bounds) (q : Filled) where
+    module _ (cols firsts numbers cols' firsts' numbers' : List ℕ) (p : Prepared)
+        (plan : planOf cols' firsts' numbers' p ≡ planned own q ids t cols firsts numbers) where
+      sheet-prepares : (m n : ℕ) (k : Knowledge) → Sheet ids bounds t m n q k → PlanRoom m n cols firsts numbers
+          → Prepares (resultReply (R .limits) k) ids bounds t cols' firsts' numbers' p
+      sheet-prepares m n k s room =
+          subst (λ reply. Prepares reply ids bounds t cols' firsts' numbers' p) (same-result k)
+          (planned-prepares own q ids t cols firsts numbers bounds cols' firsts' numbers' p plan
+          (omega (arith, s .columns, s .inStride)) (omega (arith, s .rows, s .inRows))
+          (record {
+            columns = omega (arith, s .columns, room .columns);
+            distinct = omega (arith, s .rows, room .distinct);
+            rows = omega (arith, s .rows, room .rows);
+          }) wi wb k (s .is))
+
+    -- a call that concludes with the table has ended as its result says
+    pub sheet-ended : (m n : ℕ) (k : Knowledge) → Sheet ids bounds t m n q k → (out u : List ℕ) (a : Answer)
+        → endOf u a ≡ concluded own q out ids bounds t → Ended (resultReply (R .limits) k) out u a
+    sheet-ended m n k s out u a e =
+        subst (λ reply. Ended reply out u a) (same-result k)
+        (concluded-ended own q out ids bounds t (resultReply own k) u a e
+        (λ x l. planned-prepares own q ids t (replicate stride 0) (replicate x 0) (replicate x 0) bounds
+        (w x .cols) (w x .firsts) (w x .numbers) (w x .prepared) refl (omega (arith, s .columns, s .inStride)) (omega (arith, s .rows, s .inRows))
+        (plan-room (q .columns) (q .rows) stride x x (omega (arith, s .columns, s .inStride)) l (omega arith)) wi wb k (s .is))
+        (omega (arith, s .rows, s .inRows)))
+      where
+        w : ℕ → Plan
+        w x = planned own q ids t (replicate stride 0) (replicate x 0) (replicate x 0)
+
+-- the table of an operation, and its plan in lists that are lent
 module _ (replicas ranges records : ℕ) (R : Rules) (limits : R .limits ≡ within replicas ranges records)
     (ids bounds t cols firsts numbers cols' firsts' numbers' : List ℕ) (q : Filled) (p : Prepared)
     (plan : planOf cols' firsts' numbers' p ≡ planned (rulesWithin replicas ranges .limits) q ids t cols firsts numbers)
     (wi : Words ids) (wb : Words bounds) where
-  sampled-prepares : (m n : ℕ) (f : ℕ → ℕ → ℕ) (k : Knowledge) → Samples ids bounds t m n f q → m ≤ stride → n < mostRows
-      → PlanRoom m n cols firsts numbers → page (idAt ids) (boundAt bounds) (cell t) (q .columns) (q .rows) ≡ k
+  sampled-prepares : (m n : ℕ) (k : Knowledge) → Sheet ids bounds t m n q k → PlanRoom m n cols firsts numbers
       → Prepares (resultReply (R .limits) k) ids bounds t cols' firsts' numbers' p
-  sampled-prepares m n f k s a b room e =
-      subst (λ reply. Prepares reply ids bounds t cols' firsts' numbers' p)
-      (result-within replicas ranges (base .records) records k ∙ ap (λ L. resultReply L k) (sym limits))
-      (planned-prepares (rulesWithin replicas ranges .limits) q ids t cols firsts numbers bounds cols' firsts' numbers' p plan
-      (omega (arith, s .columns)) (omega (arith, s .rows))
-      (record {
-        columns = omega (arith, s .columns, room .columns);
-        distinct = omega (arith, s .rows, room .distinct);
-        rows = omega (arith, s .rows, room .rows);
-      }) wi wb k e)
+  sampled-prepares m n k s room =
+      sheet-prepares replicas ranges records R limits ids bounds t wi wb q cols firsts numbers cols' firsts' numbers' p plan m n k s room
 
   -- the lists before the filling
   module _ (ids₀ bounds₀ t₀ : List ℕ) (s : List ℕ) (r : ℕ) (c : Cursor) (o : Opens R s r c) where
@@ -69,38 +150,30 @@ module _ (replicas ranges records : ℕ) (R : Rules) (limits : R .limits ≡ wit
         → PlanRoom r (c .left + 1) cols firsts numbers
         → Prepares (resultReply (R .limits) (normalise (decode s))) ids bounds t cols' firsts' numbers' p
     normalise-prepares e room make =
-        let f = one-samples s r c ids₀ bounds₀ t₀ ids bounds t q e (scratch-open R replicas ranges records limits s r c o) room in
-        sampled-prepares r (c .left + 1) (known (decode s)) (normalise (decode s)) f (room .columns) (room .rows) make
-        (page-normalise (idAt ids) (boundAt bounds) (cell t) (q .columns) (q .rows) (decode s) (f .is))
+        sampled-prepares r (c .left + 1) (normalise (decode s))
+        (normalise-sheet replicas ranges records R limits ids bounds t q ids₀ bounds₀ t₀ s r c o e room) make
 
     pub raise-prepares : (p0 p1 tick : ℕ) → tableOf ids bounds t q ≡ raisedTable s r c p0 p1 tick ids₀ bounds₀ t₀
         → TableRoom (r + 1) (c .left + 1) ids₀ bounds₀ t₀ → PlanRoom (r + 1) (c .left + 1) cols firsts numbers
         → Prepares (resultReply (R .limits) (raise (words2 p0 p1) tick (decode s))) ids bounds t cols' firsts' numbers' p
     raise-prepares p0 p1 tick e room make =
-        let f = raised-samples s r c p0 p1 tick ids₀ bounds₀ t₀ ids bounds t q e (scratch-open R replicas ranges records limits s r c o) room in
-        let own = words2 p0 p1 in
-        sampled-prepares (r + 1) (c .left + 1) (knownRaised own tick (decode s)) (raise own tick (decode s)) f (room .columns) (room .rows) make
-        (page-raise (idAt ids) (boundAt bounds) (cell t) (q .columns) (q .rows) own tick (decode s) (f .is))
+        sampled-prepares (r + 1) (c .left + 1) (raise (words2 p0 p1) tick (decode s))
+        (raise-sheet replicas ranges records R limits ids bounds t q ids₀ bounds₀ t₀ s r c o p0 p1 tick e room) make
 
     pub project-prepares : (first last : Bound) → tableOf ids bounds t q ≡ spanTable s r c first last ids₀ bounds₀ t₀
         → TableRoom r (c .left + 3) ids₀ bounds₀ t₀ → PlanRoom r (c .left + 3) cols firsts numbers → InWords last → itemOf first ≤ itemOf last
         → Prepares (resultReply (R .limits) (project (itemOf first) (itemOf last) (decode s))) ids bounds t cols' firsts' numbers' p
     project-prepares first last e room make words span =
-        let f = span-samples s r c first last ids₀ bounds₀ t₀ ids bounds t q e (scratch-open R replicas ranges records limits s r c o) room words span in
-        sampled-prepares r (c .left + 3) (knownInside (itemOf first) (itemOf last) (decode s)) (project (itemOf first) (itemOf last) (decode s)) f
-        (room .columns) (room .rows) make
-        (page-project (idAt ids) (boundAt bounds) (cell t) (q .columns) (q .rows) (itemOf first) (itemOf last) (decode s) (f .is))
+        sampled-prepares r (c .left + 3) (project (itemOf first) (itemOf last) (decode s))
+        (project-sheet replicas ranges records R limits ids bounds t q ids₀ bounds₀ t₀ s r c o first last e room words span) make
 
     pub merge-prepares : (S : Rules) → S .limits ≡ within replicas ranges records → (other : List ℕ) (m : ℕ) (d : Cursor) → Opens S other m d
         → tableOf ids bounds t q ≡ twoTable s r c other m d ids₀ bounds₀ t₀ → TableRoom (r + m) (c .left + d .left + 1) ids₀ bounds₀ t₀
         → PlanRoom (r + m) (c .left + d .left + 1) cols firsts numbers
         → Prepares (resultReply (R .limits) (merge (decode s) (decode other))) ids bounds t cols' firsts' numbers' p
     merge-prepares S same-limits other m d u e room make =
-        let f = two-samples s r c other m d ids₀ bounds₀ t₀ ids bounds t q e (scratch-open R replicas ranges records limits s r c o)
-        (scratch-open S replicas ranges records same-limits other m d u) room in
-        sampled-prepares (r + m) (c .left + d .left + 1) (larger (decode s) (decode other)) (merge (decode s) (decode other)) f
-        (room .columns) (room .rows) make
-        (page-merge (idAt ids) (boundAt bounds) (cell t) (q .columns) (q .rows) (decode s) (decode other) (f .is))
+        sampled-prepares (r + m) (c .left + d .left + 1) (merge (decode s) (decode other))
+        (merge-sheet replicas ranges records R limits ids bounds t q ids₀ bounds₀ t₀ s r c o S same-limits other m d u e room) make
 
 -- What was made ready, for a result
 

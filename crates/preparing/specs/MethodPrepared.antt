@@ -1,15 +1,16 @@
 -- What an operation has made ready before its buffer is looked at, and the scratch that it works in. There is nothing to believe here:
 -- the calls' contracts cite the replies of `ticks`.
 use Rattle.codec.specs.Prelude.{ℕ, _+_, _≤_, _<_, _≡_, true, false, List, _++_, ltb, length, drop}
+use lib.ListN.{replicate}
 use Rattle.codec.specs.Part.{placed}
 use Rattle.codec.specs.Reply.{Reply, gives, refuses, answer, after}
 use Rattle.codec.specs.declared.Answer.{Answer}
 use Rattle.codec.specs.declared.Answer.the-variants as A
-use Rattle.layout.specs.Knowledge.{Limits}
+use Rattle.layout.specs.Knowledge.{Limits, Knowledge}
 use Rattle.layout.specs.Permitted.{largestRanges}
 use Rattle.tables.specs.declared.Sizes.{Sizes}
-use Rattle.tables.specs.MethodWords.{cell, idAt}
-use Rattle.tables.specs.MethodPlan.{firstsOf, numbersOf, columnsOf, sizesOf, lengthOf}
+use Rattle.tables.specs.MethodWords.{stride, mostRows, cell, idAt, boundAt}
+use Rattle.tables.specs.MethodPlan.{firstsOf, numbersOf, columnsOf, sizesOf, page, lengthOf}
 use Rattle.tables.specs.MethodPieces.{laid, pagePieces}
 use Rattle.plan.specs.Method.{fits, noSizes}
 use Rattle.filling.specs.declared.Filled.{Filled}
@@ -81,6 +82,19 @@ unfoldable pub finished : List ℕ → List ℕ → List ℕ → List ℕ → Li
 finished out ids bounds t cols firsts numbers (P.Ready z n) = writtenEnd out ids bounds t cols firsts numbers z n
 finished out ids bounds t cols firsts numbers (P.Refused n) = endOf out (A.Refused n)
 
+-- with what planning has left
+unfoldable pub plannedEnd : Plan → List ℕ → List ℕ → List ℕ → List ℕ → End
+plannedEnd w out ids bounds t = finished out ids bounds t (w .cols) (w .firsts) (w .numbers) (w .prepared)
+
+-- with a plan in lists of zeros, for n rows
+abbrev pub blankEnd : ℕ → Limits → Filled → List ℕ → List ℕ → List ℕ → List ℕ → End
+blankEnd n L q out ids bounds t = plannedEnd (planned L q ids t (replicate stride 0) (replicate n 0) (replicate n 0)) out ids bounds t
+
+-- with a filled table: its plan has less room where the rows are few
+unfoldable pub concluded : Limits → Filled → List ℕ → List ℕ → List ℕ → List ℕ → End
+concluded L q out ids bounds t =
+    elim (ltb (q .rows) few) [ true ↦ blankEnd few L q out ids bounds t | false ↦ blankEnd mostRows L q out ids bounds t ]
+
 -- What was made ready
 
 -- the reply gives bytes, and what is written for the table are these
@@ -109,3 +123,11 @@ pub record PlanRoom (m n : ℕ) (cols firsts numbers : List ℕ) : Type 0 where
   pub columns : m ≤ length cols
   pub distinct : n < length firsts
   pub rows : n ≤ length numbers
+
+-- a table is filled up to m columns and up to row n, which the most rows have room for, and its plan is the knowledge k
+pub record Sheet (ids bounds t : List ℕ) (m n : ℕ) (q : Filled) (k : Knowledge) : Type 0 where
+  pub columns : q .columns ≤ m
+  pub rows : q .rows ≤ n
+  pub inStride : m ≤ stride
+  pub inRows : n < mostRows
+  pub is : page (idAt ids) (boundAt bounds) (cell t) (q .columns) (q .rows) ≡ k

@@ -1,14 +1,16 @@
 // What a call does with a table of known ticks once it is filled: it plans what is written, judges that by the limits, and writes it.
 //
 // Every public function is total. A caller that writes more than a knowledge takes `prepare`, and then `writer::length` and
-// `writer::write`; one that writes just a knowledge ends with `finish`.
+// `writer::write`; one that writes just a knowledge ends with `conclude`, which has lists of its own for the plan.
 use codec::Answer;
 use filling::Filled;
 use tables::Sizes;
 ghost use mathlib.Core.Path.{_≡_};
 ghost use Rattle.layout.specs.Permitted.{rulesWithin};
 ghost use Rattle.ticks.specs.Calls.{wrongSpan};
-ghost use Rattle.preparing.specs.MethodPrepared.{judged, planOf, planned, endOf, writtenEnd, finished};
+ghost use Rattle.tables.specs.MethodWords.{mostRows};
+ghost use Rattle.preparing.specs.MethodPrepared.{few, judged, planOf, planned, endOf, writtenEnd, finished};
+ghost use Rattle.preparing.specs.MethodPrepared.{plannedEnd, blankEnd, concluded};
 
 // Rows of scratch: so many for a call whose rows are few, and so many for one knowledge at the largest limits: row 0, one at the first
 // item, one for each range, and two at the ends of a span. Two knowledges at the largest limits take `tables::ROWS`. A table of `n` rows
@@ -109,6 +111,106 @@ pub fn finish(
         ),
         Prepared::Refused(n) => Answer::Refused(n),
     }
+}
+
+// ---- planned and written
+
+// In lists that are lent for the plan.
+fn conclude_in(
+    q: Filled,
+    replicas: u32,
+    ranges: u32,
+    out: &mut [u8],
+    ids: &[u64],
+    bounds: &[u64],
+    t: &[u64],
+    cols: &mut [u32],
+    firsts: &mut [u32],
+    numbers: &mut [u32],
+) -> Answer
+    ensures { λ a. ⌜ endOf (now (out .exit)) a ≡ plannedEnd (planned (rulesWithin replicas ranges .limits) q (now (ids .entry)) (now (t .entry))
+        (now (cols .entry)) (now (firsts .entry)) (now (numbers .entry))) (now (out .entry)) (now (ids .entry)) (now (bounds .entry))
+        (now (t .entry)) ⌝ }
+{
+    let p = prepare(q, replicas, ranges, ids, t, cols, firsts, numbers);
+    finish(out, p, ids, bounds, t, cols, firsts, numbers)
+}
+
+fn conclude_few(
+    q: Filled,
+    replicas: u32,
+    ranges: u32,
+    out: &mut [u8],
+    ids: &[u64],
+    bounds: &[u64],
+    t: &[u64],
+) -> Answer
+    ensures { λ a. ⌜ endOf (now (out .exit)) a ≡ blankEnd few (rulesWithin replicas ranges .limits) q (now (out .entry))
+        (now (ids .entry)) (now (bounds .entry)) (now (t .entry)) ⌝ }
+{
+    let mut cols = [0u32; tables::STRIDE];
+    let mut firsts = [0u32; FEW];
+    let mut numbers = [0u32; FEW];
+    conclude_in(
+        q,
+        replicas,
+        ranges,
+        out,
+        ids,
+        bounds,
+        t,
+        &mut cols,
+        &mut firsts,
+        &mut numbers,
+    )
+}
+
+fn conclude_many(
+    q: Filled,
+    replicas: u32,
+    ranges: u32,
+    out: &mut [u8],
+    ids: &[u64],
+    bounds: &[u64],
+    t: &[u64],
+) -> Answer
+    ensures { λ a. ⌜ endOf (now (out .exit)) a ≡ blankEnd mostRows (rulesWithin replicas ranges .limits) q (now (out .entry))
+        (now (ids .entry)) (now (bounds .entry)) (now (t .entry)) ⌝ }
+{
+    let mut cols = [0u32; tables::STRIDE];
+    let mut firsts = [0u32; tables::ROWS];
+    let mut numbers = [0u32; tables::ROWS];
+    conclude_in(
+        q,
+        replicas,
+        ranges,
+        out,
+        ids,
+        bounds,
+        t,
+        &mut cols,
+        &mut firsts,
+        &mut numbers,
+    )
+}
+
+// Plans what is written for a table, judges it by the limits, and writes it where the buffer has room.
+pub fn conclude(
+    q: Filled,
+    replicas: u32,
+    ranges: u32,
+    out: &mut [u8],
+    ids: &[u64],
+    bounds: &[u64],
+    t: &[u64],
+) -> Answer
+    ensures { λ a. ⌜ endOf (now (out .exit)) a ≡ concluded (rulesWithin replicas ranges .limits) q (now (out .entry))
+        (now (ids .entry)) (now (bounds .entry)) (now (t .entry)) ⌝ }
+{
+    if q.rows < FEW as u32 {
+        return conclude_few(q, replicas, ranges, out, ids, bounds, t);
+    }
+    conclude_many(q, replicas, ranges, out, ids, bounds, t)
 }
 
 // ---- a span
