@@ -48,10 +48,10 @@ use Rattle.filling.specs.declared.Filled.{Filled}
 use Rattle.filling.specs.MethodTables.{tableOf, twoTable, TableRoom}
 use Rattle.filling.proofs.Opening.{scratch-replicas, scratch-ranges}
 use Rattle.loading.specs.MethodReply.{resultReply}
-use Rattle.operations.specs.declared.Prepared.{Prepared}
-use Rattle.operations.specs.MethodCalls.{planOf, planned, Prepares, Ended, PlanRoom}
-use Rattle.operations.proofs.Judged.{ended-refused}
-use Rattle.operations.proofs.Ready.{merge-prepares}
+use Rattle.preparing.specs.declared.Prepared.{Prepared}
+use Rattle.preparing.specs.MethodPrepared.{planOf, planned, Prepares, Ended, PlanRoom}
+use Rattle.preparing.proofs.Ends.{ended-refused}
+use Rattle.preparing.proofs.Ready.{merge-prepares}
 use Rattle.joining.specs.MethodJoin.{sizeFrom, joinAt, fronted}
 use Rattle.stores.specs.declared.KnowledgePart.{KnowledgePart}
 use Rattle.stores.specs.declared.OpenedStore.{OpenedStore}

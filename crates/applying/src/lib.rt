@@ -19,7 +19,7 @@ ghost use Rattle.replication.specs.OpenBatch.{firstId, lastId, batchNeeded};
 ghost use Rattle.replication.specs.Calls.{applyReply};
 ghost use Rattle.lookup.specs.Method.{Open};
 ghost use Rattle.filling.specs.MethodTables.{TableRoom};
-ghost use Rattle.operations.specs.MethodCalls.{few, Ended, PlanRoom};
+ghost use Rattle.preparing.specs.MethodPrepared.{few, Ended, PlanRoom};
 ghost use Rattle.applying.specs.Method.{ownCovered, appliedReply, BothValid, Merges};
 
 // the places of a store's own id, and of a batch's first and last id
@@ -138,7 +138,7 @@ fn apply_in(
         bounds,
         t,
     );
-    let p = operations::prepare(q, replicas, ranges, ids, t, cols, firsts, numbers);
+    let p = preparing::prepare(q, replicas, ranges, ids, t, cols, firsts, numbers);
     storing::finish_store(
         out,
         p,
@@ -180,11 +180,11 @@ fn apply_few(
         (now (out .entry)) (now (out .exit)) a ⌝ }
 {
     let mut ids = [0u64; 2 * tables::STRIDE];
-    let mut bounds = [0u64; 3 * operations::FEW];
-    let mut t = [0u64; tables::STRIDE * operations::FEW];
+    let mut bounds = [0u64; 3 * preparing::FEW];
+    let mut t = [0u64; tables::STRIDE * preparing::FEW];
     let mut cols = [0u32; tables::STRIDE];
-    let mut firsts = [0u32; operations::FEW];
-    let mut numbers = [0u32; operations::FEW];
+    let mut firsts = [0u32; preparing::FEW];
+    let mut numbers = [0u32; preparing::FEW];
     let mut picks = [0usize; RECORDS];
     apply_in(
         store,
@@ -292,7 +292,7 @@ fn apply_open(
     if covers_own(k, own, l, learned, p0, p1) {} else {
         return Answer::Refused(18);
     }
-    if own.start.left + learned.start.left < operations::FEW as u32 - 1 {
+    if own.start.left + learned.start.left < preparing::FEW as u32 - 1 {
         return apply_few(
             store,
             k,

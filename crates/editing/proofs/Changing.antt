@@ -38,11 +38,11 @@ use Rattle.filling.specs.declared.Filled.{Filled}
 use Rattle.filling.specs.MethodTables.{tableOf, raisedTable, TableRoom}
 use Rattle.filling.proofs.Scratch.{zeros-length, table-room}
 use Rattle.filling.proofs.Opening.{scratch-replicas, scratch-ranges}
-use Rattle.operations.specs.declared.Prepared.{Prepared}
-use Rattle.operations.specs.MethodCalls.{oneRows, planOf, planned, Prepares, Ended, PlanRoom}
-use Rattle.operations.proofs.Scratch.{plan-room}
-use Rattle.operations.proofs.Judged.{ended-refused}
-use Rattle.operations.proofs.Ready.{raise-prepares}
+use Rattle.preparing.specs.declared.Prepared.{Prepared}
+use Rattle.preparing.specs.MethodPrepared.{oneRows, planOf, planned, Prepares, Ended, PlanRoom}
+use Rattle.preparing.proofs.Scratch.{plan-room}
+use Rattle.preparing.proofs.Ends.{ended-refused}
+use Rattle.preparing.proofs.Ready.{raise-prepares}
 use Rattle.replication.specs.Record.{Content, Rec}
 use Rattle.replication.specs.Reading.{recAt, createReplicaPlace, createTickPlace}
 use Rattle.replication.specs.Formats.{putRec, find, Store}

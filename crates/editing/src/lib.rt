@@ -30,7 +30,7 @@ ghost use Rattle.replication.specs.Calls.{gone, editReply, deleteReply};
 ghost use Rattle.joining.specs.MethodWritten.{recordOf};
 ghost use Rattle.lookup.specs.Method.{Opens};
 ghost use Rattle.filling.specs.MethodTables.{TableRoom};
-ghost use Rattle.operations.specs.MethodCalls.{few, Ended, PlanRoom};
+ghost use Rattle.preparing.specs.MethodPrepared.{few, Ended, PlanRoom};
 ghost use Rattle.editing.specs.MethodEditing.{itemOf, contentOf, versionReplica, foundRead, Becomes, Asked};
 
 // the place of a store's own id
@@ -149,7 +149,7 @@ fn change_in(
     let p0 = change.replica.high;
     let p1 = change.replica.low;
     let q = filling::fill_raised(k, r, start, p0, p1, change.tick, ids, bounds, t);
-    let p = operations::prepare(q, replicas, ranges, ids, t, cols, firsts, numbers);
+    let p = preparing::prepare(q, replicas, ranges, ids, t, cols, firsts, numbers);
     storing::finish_store(
         out,
         p,
@@ -187,11 +187,11 @@ fn change_few(
         → Ended (storeReply (within replicas ranges records) st) (now (out .entry)) (now (out .exit)) a) ⌝ }
 {
     let mut ids = [0u64; 2 * tables::STRIDE];
-    let mut bounds = [0u64; 3 * operations::FEW];
-    let mut t = [0u64; tables::STRIDE * operations::FEW];
+    let mut bounds = [0u64; 3 * preparing::FEW];
+    let mut t = [0u64; tables::STRIDE * preparing::FEW];
     let mut cols = [0u32; tables::STRIDE];
-    let mut firsts = [0u32; operations::FEW];
-    let mut numbers = [0u32; operations::FEW];
+    let mut firsts = [0u32; preparing::FEW];
+    let mut numbers = [0u32; preparing::FEW];
     let mut picks = [0usize; PICKS];
     change_in(
         store,
@@ -231,11 +231,11 @@ fn change_many(
         → Ended (storeReply (within replicas ranges records) st) (now (out .entry)) (now (out .exit)) a) ⌝ }
 {
     let mut ids = [0u64; 2 * tables::STRIDE];
-    let mut bounds = [0u64; 3 * operations::ONE];
-    let mut t = [0u64; tables::STRIDE * operations::ONE];
+    let mut bounds = [0u64; 3 * preparing::ONE];
+    let mut t = [0u64; tables::STRIDE * preparing::ONE];
     let mut cols = [0u32; tables::STRIDE];
-    let mut firsts = [0u32; operations::ONE];
-    let mut numbers = [0u32; operations::ONE];
+    let mut firsts = [0u32; preparing::ONE];
+    let mut numbers = [0u32; preparing::ONE];
     let mut picks = [0usize; PICKS];
     change_in(
         store,
@@ -275,7 +275,7 @@ fn put_changed(
         (putRec (recordOf new) []) st → Ended (storeReply (within replicas ranges records) st) (now (out .entry)) (now (out .exit)) a) ⌝ }
 {
     let change = new.change;
-    let short = start.left < operations::FEW as u32 - 1;
+    let short = start.left < preparing::FEW as u32 - 1;
     let mut one = [0u8; joining::RECORD_LENGTH];
     joining::write_record(&mut one, 0, new);
     if short {

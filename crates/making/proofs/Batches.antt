@@ -18,9 +18,9 @@ use Rattle.tables.specs.declared.Sizes.{Sizes}
 use Rattle.tables.specs.MethodPlan.{lengthOf}
 use Rattle.loading.specs.MethodReply.{resultReply}
 use Rattle.loading.proofs.Closing.{result-is}
-use Rattle.operations.specs.MethodCalls.{Holds, Ended}
-use Rattle.operations.proofs.Judged.{ended-refused}
-use Rattle.operations.proofs.Ready.{ready-length, ready-writes}
+use Rattle.preparing.specs.MethodPrepared.{Holds, Ended}
+use Rattle.preparing.proofs.Ends.{ended-refused}
+use Rattle.preparing.proofs.Ready.{ready-length, ready-writes}
 use Rattle.filling.specs.MethodRows.{itemOf}
 use Rattle.replication.specs.Record.{Rec}
 use Rattle.replication.specs.BatchFormat.{Batch, encodeBatch}

@@ -36,11 +36,11 @@ use Rattle.filling.specs.MethodTables.{tableOf, oneTable, spanTable, TableRoom}
 use Rattle.filling.proofs.Opening.{opened-read, scratch-replicas, scratch-ranges}
 use Rattle.filling.proofs.Span.{bound-item}
 use Rattle.loading.specs.MethodReply.{resultReply}
-use Rattle.operations.specs.declared.Prepared.{Prepared}
-use Rattle.operations.specs.declared.Prepared.the-variants as P
-use Rattle.operations.specs.MethodCalls.{planOf, planned, Holds, Prepares, Ended, PlanRoom}
-use Rattle.operations.proofs.Judged.{ended-refused, prepared-ready, prepared-refused}
-use Rattle.operations.proofs.Ready.{normalise-prepares, project-prepares, span-rises}
+use Rattle.preparing.specs.declared.Prepared.{Prepared}
+use Rattle.preparing.specs.declared.Prepared.the-variants as P
+use Rattle.preparing.specs.MethodPrepared.{planOf, planned, Holds, Prepares, Ended, PlanRoom}
+use Rattle.preparing.proofs.Ends.{ended-refused, prepared-ready, prepared-refused}
+use Rattle.preparing.proofs.Ready.{normalise-prepares, project-prepares, span-rises}
 use Rattle.replication.specs.Formats.{Store}
 use Rattle.replication.specs.BatchFormat.{Batch}
 use Rattle.replication.specs.Operate.{selected, made}

@@ -14,7 +14,7 @@ use Rattle.lookup.specs.Method.{Opens}
 use Rattle.filling.specs.declared.Bound.{Bound}
 use Rattle.filling.specs.MethodRows.{itemOf, InWords}
 use Rattle.loading.specs.MethodReply.{resultReply}
-use Rattle.operations.specs.MethodCalls.{Holds, Ended}
+use Rattle.preparing.specs.MethodPrepared.{Holds, Ended}
 use Rattle.replication.specs.BatchFormat.{Batch}
 use Rattle.replication.specs.OpenStore.{knowledgeLength, storeCount, storeKnowledge, storeTable, openStore}
 use Rattle.replication.specs.MethodOpening.{storeAt}

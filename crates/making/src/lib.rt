@@ -7,7 +7,7 @@ use codec::Answer;
 use filling::Bound;
 use joining::Extent;
 use lookup::Opened;
-use operations::Prepared;
+use preparing::Prepared;
 use stores::KnowledgePart;
 use stores::OpenedStore;
 use tables::Sizes;
@@ -18,7 +18,7 @@ ghost use Rattle.codec.specs.Reply.{answer, after};
 ghost use Rattle.layout.specs.Knowledge.{anyId, basic};
 ghost use Rattle.layout.specs.Permitted.{within};
 ghost use Rattle.filling.specs.MethodTables.{TableRoom};
-ghost use Rattle.operations.specs.MethodCalls.{few, PlanRoom, Ended};
+ghost use Rattle.preparing.specs.MethodPrepared.{few, PlanRoom, Ended};
 ghost use Rattle.replication.specs.Calls.{makeReply};
 ghost use Rattle.joining.specs.MethodJoin.{sizeFrom, fronted};
 ghost use Rattle.making.specs.Method.{Small, Sized, Inputs, chosenPlaces, Makes, Learns, Finishes};
@@ -166,7 +166,7 @@ fn learned_in(
         bounds2,
         t2,
     );
-    let p = operations::prepare(q, w.replicas, w.ranges, ids2, t2, cols2, firsts2, numbers2);
+    let p = preparing::prepare(q, w.replicas, w.ranges, ids2, t2, cols2, firsts2, numbers2);
     match p {
         Prepared::Ready { sizes, rows: rows2 } => finish_batch(
             out,
@@ -215,11 +215,11 @@ fn learned_few(
         (now (out .entry)) (now (out .exit)) a ⌝ }
 {
     let mut ids2 = [0u64; 2 * tables::STRIDE];
-    let mut bounds2 = [0u64; 3 * operations::FEW];
-    let mut t2 = [0u64; tables::STRIDE * operations::FEW];
+    let mut bounds2 = [0u64; 3 * preparing::FEW];
+    let mut t2 = [0u64; tables::STRIDE * preparing::FEW];
     let mut cols2 = [0u32; tables::STRIDE];
-    let mut firsts2 = [0u32; operations::FEW];
-    let mut numbers2 = [0u32; operations::FEW];
+    let mut firsts2 = [0u32; preparing::FEW];
+    let mut numbers2 = [0u32; preparing::FEW];
     learned_in(
         out,
         w,
@@ -264,11 +264,11 @@ fn learned_many(
         (now (out .entry)) (now (out .exit)) a ⌝ }
 {
     let mut ids2 = [0u64; 2 * tables::STRIDE];
-    let mut bounds2 = [0u64; 3 * operations::ONE];
-    let mut t2 = [0u64; tables::STRIDE * operations::ONE];
+    let mut bounds2 = [0u64; 3 * preparing::ONE];
+    let mut t2 = [0u64; tables::STRIDE * preparing::ONE];
     let mut cols2 = [0u32; tables::STRIDE];
-    let mut firsts2 = [0u32; operations::ONE];
-    let mut numbers2 = [0u32; operations::ONE];
+    let mut firsts2 = [0u32; preparing::ONE];
+    let mut numbers2 = [0u32; preparing::ONE];
     learned_in(
         out,
         w,
@@ -313,7 +313,7 @@ fn make_learned(
         (now (ids .entry)) (now (bounds .entry)) (now (t .entry)) (now (cols .entry)) (now (firsts .entry)) (now (numbers .entry)) z rows
         (now (out .entry)) (now (out .exit)) a ⌝ }
 {
-    if w.own.start.left < operations::FEW as u32 - 3 {
+    if w.own.start.left < preparing::FEW as u32 - 3 {
         return learned_few(
             out,
             w,
@@ -368,7 +368,7 @@ fn needed_in(
     ensures { λ a. ⌜ Makes (now (store .entry)) (now (mine .entry)) (now (knowledge .entry)) w (now (out .entry)) (now (out .exit)) a ⌝ }
 {
     let q = filling::fill_one(knowledge, w.given.r, w.given.start, ids, bounds, t);
-    let p = operations::prepare(q, w.replicas, w.ranges, ids, t, cols, firsts, numbers);
+    let p = preparing::prepare(q, w.replicas, w.ranges, ids, t, cols, firsts, numbers);
     match p {
         Prepared::Ready { sizes, rows } => make_learned(
             out,
@@ -394,11 +394,11 @@ fn needed_few(out: &mut [u8], w: Task, store: &[u8], mine: &[u8], knowledge: &[u
     ensures { λ a. ⌜ Makes (now (store .entry)) (now (mine .entry)) (now (knowledge .entry)) w (now (out .entry)) (now (out .exit)) a ⌝ }
 {
     let mut ids = [0u64; 2 * tables::STRIDE];
-    let mut bounds = [0u64; 3 * operations::FEW];
-    let mut t = [0u64; tables::STRIDE * operations::FEW];
+    let mut bounds = [0u64; 3 * preparing::FEW];
+    let mut t = [0u64; tables::STRIDE * preparing::FEW];
     let mut cols = [0u32; tables::STRIDE];
-    let mut firsts = [0u32; operations::FEW];
-    let mut numbers = [0u32; operations::FEW];
+    let mut firsts = [0u32; preparing::FEW];
+    let mut numbers = [0u32; preparing::FEW];
     needed_in(
         out,
         w,
@@ -419,11 +419,11 @@ fn needed_many(out: &mut [u8], w: Task, store: &[u8], mine: &[u8], knowledge: &[
     ensures { λ a. ⌜ Makes (now (store .entry)) (now (mine .entry)) (now (knowledge .entry)) w (now (out .entry)) (now (out .exit)) a ⌝ }
 {
     let mut ids = [0u64; 2 * tables::STRIDE];
-    let mut bounds = [0u64; 3 * operations::ONE];
-    let mut t = [0u64; tables::STRIDE * operations::ONE];
+    let mut bounds = [0u64; 3 * preparing::ONE];
+    let mut t = [0u64; tables::STRIDE * preparing::ONE];
     let mut cols = [0u32; tables::STRIDE];
-    let mut firsts = [0u32; operations::ONE];
-    let mut numbers = [0u32; operations::ONE];
+    let mut firsts = [0u32; preparing::ONE];
+    let mut numbers = [0u32; preparing::ONE];
     needed_in(
         out,
         w,
@@ -444,7 +444,7 @@ fn make_needed(out: &mut [u8], w: Task, store: &[u8], mine: &[u8], knowledge: &[
     requires { ⌜ (Small (w .own)) × (Small (w .given)) ⌝ }
     ensures { λ a. ⌜ Makes (now (store .entry)) (now (mine .entry)) (now (knowledge .entry)) w (now (out .entry)) (now (out .exit)) a ⌝ }
 {
-    if w.given.start.left < operations::FEW as u32 - 1 {
+    if w.given.start.left < preparing::FEW as u32 - 1 {
         return needed_few(out, w, store, mine, knowledge);
     }
     needed_many(out, w, store, mine, knowledge)
@@ -469,7 +469,7 @@ fn make_open(
         → Ended (makeReply (anyId (within replicas ranges m)) (now (store .entry)) (now (knowledge .entry)) (now (first .entry)) (now (last .entry)))
         (now (out .entry)) (now (out .exit)) a) ⌝ }
 {
-    if operations::wrong_span(first, last) {
+    if preparing::wrong_span(first, last) {
         return Answer::Refused(17);
     }
     let f = filling::bound_of(first);

@@ -1,5 +1,3 @@
 -- The laws of the operations.
-pub mod Judged
+pub mod Replies
 pub mod Scratch
-pub mod Span
-pub mod Ready

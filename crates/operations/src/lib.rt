@@ -1,128 +1,19 @@
 // The operations on knowledge that write one: normalise, merge and project. Each fills a table of words with known ticks, plans what
 // is written for it, and then writes that.
-//
-// A caller that has checked its bytes already takes the steps one by one: a filling, `prepare`, then `writer::length` and `writer::write`.
 use codec::Answer;
-use filling::Filled;
 use lookup::Cursor;
 use lookup::Opened;
-use tables::Sizes;
 ghost use mathlib.Core.Path.{_≡_};
 ghost use mathlib.Core.Bool.{false};
 ghost use Prim.Native.Nat.{_+_, _<_};
 ghost use lib.ListN.{length};
-ghost use Rattle.codec.specs.Reply.{Reply, answer, after};
+ghost use Rattle.codec.specs.Reply.{answer, after};
 ghost use Rattle.layout.specs.Knowledge.{basic};
 ghost use Rattle.layout.specs.Permitted.{rulesWithin};
 ghost use Rattle.ticks.specs.Calls.{wrongSpan, normaliseReply, mergeReply, projectReply};
 ghost use Rattle.lookup.specs.Method.{Opens};
 ghost use Rattle.filling.specs.MethodTables.{TableRoom};
-ghost use Rattle.operations.specs.MethodCalls.{few, mergeWithin, judged, planOf, planned, Holds, Prepares, Ended, PlanRoom};
-
-// Rows of scratch: so many for a call whose rows are few, and so many for one knowledge at the largest limits: row 0, one at the first
-// item, one for each range, and two at the ends of a span. Two knowledges at the largest limits take `tables::ROWS`. A table of `n` rows
-// takes 2 * STRIDE words of ids, 3 * n words of bounds and STRIDE * n words of ticks, all 0, and its plan STRIDE, n and n numbers.
-pub const FEW: usize = 12;
-
-pub const ONE: usize = layout::LARGEST_RANGES as usize + 4;
-
-// A table that is ready to be written, with its count of rows, or the number of its refusal.
-pub enum Prepared {
-    Ready { sizes: Sizes, rows: u32 },
-    Refused(u32),
-}
-
-// ---- ready to be written
-
-// What a plan comes to under the limits: 11 over the most replicas, 12 over the most ranges.
-fn judge(z: Sizes, n: u32, replicas: u32, ranges: u32) -> Prepared
-    ensures { λ p. ⌜ p ≡ judged (rulesWithin replicas ranges .limits) z n ⌝ }
-{
-    if codec::brought(replicas, layout::LARGEST_REPLICAS) < z.replicas {
-        return Prepared::Refused(11);
-    }
-    if codec::brought(ranges, layout::LARGEST_RANGES) < z.ranges {
-        return Prepared::Refused(12);
-    }
-    Prepared::Ready { sizes: z, rows: n }
-}
-
-// Plans what is written for a table, and judges it by the limits: each is brought into 1 to its largest. A table that is not filled, or
-// lists without room for its plan, get sizes of 0.
-pub fn prepare(
-    q: Filled,
-    replicas: u32,
-    ranges: u32,
-    ids: &[u64],
-    t: &[u64],
-    cols: &mut [u32],
-    firsts: &mut [u32],
-    numbers: &mut [u32],
-) -> Prepared
-    ensures { λ p. ⌜ planOf (now (cols .exit)) (now (firsts .exit)) (now (numbers .exit)) p
-        ≡ planned (rulesWithin replicas ranges .limits) q (now (ids .entry)) (now (t .entry))
-        (now (cols .entry)) (now (firsts .entry)) (now (numbers .entry)) ⌝ }
-{
-    let z = plan::plan(ids, t, q.columns, q.rows, cols, firsts, numbers);
-    judge(z, q.rows, replicas, ranges)
-}
-
-// Writes a table that is ready, where the buffer has room.
-fn put(
-    out: &mut [u8],
-    z: Sizes,
-    rows: u32,
-    ids: &[u64],
-    bounds: &[u64],
-    t: &[u64],
-    cols: &[u32],
-    firsts: &[u32],
-    numbers: &[u32],
-) -> Answer
-    ensures { λ a. ⌜ ((reply : Reply)
-        → Holds reply (now (ids .entry)) (now (bounds .entry)) (now (t .entry))
-        (now (cols .entry)) (now (firsts .entry)) (now (numbers .entry)) z rows
-        → Ended reply (now (out .entry)) (now (out .exit)) a) ⌝ }
-{
-    let n = writer::length(z);
-    if out.len() < n {
-        return Answer::Refused(14);
-    }
-    writer::write(out, 0, z, ids, bounds, t, rows, cols, firsts, numbers);
-    Answer::Written(n)
-}
-
-// How a call ends: with the number of a refusal, or with what was made ready.
-fn finish(
-    out: &mut [u8],
-    p: Prepared,
-    ids: &[u64],
-    bounds: &[u64],
-    t: &[u64],
-    cols: &[u32],
-    firsts: &[u32],
-    numbers: &[u32],
-) -> Answer
-    ensures { λ a. ⌜ ((reply : Reply)
-        → Prepares reply (now (ids .entry)) (now (bounds .entry)) (now (t .entry))
-        (now (cols .entry)) (now (firsts .entry)) (now (numbers .entry)) p
-        → Ended reply (now (out .entry)) (now (out .exit)) a) ⌝ }
-{
-    match p {
-        Prepared::Ready { sizes, rows } => put(
-            out,
-            sizes,
-            rows,
-            ids,
-            bounds,
-            t,
-            cols,
-            firsts,
-            numbers,
-        ),
-        Prepared::Refused(n) => Answer::Refused(n),
-    }
-}
+ghost use Rattle.preparing.specs.MethodPrepared.{few, Ended};
 
 // ---- normalise
 
@@ -137,17 +28,12 @@ fn normalise_in(
     ids: &mut [u64],
     bounds: &mut [u64],
     t: &mut [u64],
-    cols: &mut [u32],
-    firsts: &mut [u32],
-    numbers: &mut [u32],
 ) -> Answer
-    requires { ⌜ (Opens (rulesWithin replicas ranges) (now s) r start) × (TableRoom r (start .left + 1) (now ids) (now bounds) (now t))
-        × (PlanRoom r (start .left + 1) (now cols) (now firsts) (now numbers)) ⌝ }
+    requires { ⌜ (Opens (rulesWithin replicas ranges) (now s) r start) × (TableRoom r (start .left + 1) (now ids) (now bounds) (now t)) ⌝ }
     ensures { λ a. ⌜ Ended (normaliseReply (rulesWithin replicas ranges) (now (s .entry))) (now (out .entry)) (now (out .exit)) a ⌝ }
 {
     let q = filling::fill_one(s, r, start, ids, bounds, t);
-    let p = prepare(q, replicas, ranges, ids, t, cols, firsts, numbers);
-    finish(out, p, ids, bounds, t, cols, firsts, numbers)
+    preparing::conclude(q, replicas, ranges, out, ids, bounds, t)
 }
 
 fn normalise_few(
@@ -162,11 +48,8 @@ fn normalise_few(
     ensures { λ a. ⌜ Ended (normaliseReply (rulesWithin replicas ranges) (now (s .entry))) (now (out .entry)) (now (out .exit)) a ⌝ }
 {
     let mut ids = [0u64; 2 * tables::STRIDE];
-    let mut bounds = [0u64; 3 * FEW];
-    let mut t = [0u64; tables::STRIDE * FEW];
-    let mut cols = [0u32; tables::STRIDE];
-    let mut firsts = [0u32; FEW];
-    let mut numbers = [0u32; FEW];
+    let mut bounds = [0u64; 3 * preparing::FEW];
+    let mut t = [0u64; tables::STRIDE * preparing::FEW];
     normalise_in(
         s,
         r,
@@ -177,9 +60,6 @@ fn normalise_few(
         &mut ids,
         &mut bounds,
         &mut t,
-        &mut cols,
-        &mut firsts,
-        &mut numbers,
     )
 }
 
@@ -195,11 +75,8 @@ fn normalise_many(
     ensures { λ a. ⌜ Ended (normaliseReply (rulesWithin replicas ranges) (now (s .entry))) (now (out .entry)) (now (out .exit)) a ⌝ }
 {
     let mut ids = [0u64; 2 * tables::STRIDE];
-    let mut bounds = [0u64; 3 * ONE];
-    let mut t = [0u64; tables::STRIDE * ONE];
-    let mut cols = [0u32; tables::STRIDE];
-    let mut firsts = [0u32; ONE];
-    let mut numbers = [0u32; ONE];
+    let mut bounds = [0u64; 3 * preparing::ONE];
+    let mut t = [0u64; tables::STRIDE * preparing::ONE];
     normalise_in(
         s,
         r,
@@ -210,9 +87,6 @@ fn normalise_many(
         &mut ids,
         &mut bounds,
         &mut t,
-        &mut cols,
-        &mut firsts,
-        &mut numbers,
     )
 }
 
@@ -222,7 +96,7 @@ fn normalise_within(knowledge: &[u8], out: &mut [u8], replicas: u32, ranges: u32
 {
     match lookup::open_within(knowledge, replicas, ranges) {
         Opened::At { r, start } => {
-            if start.left < FEW as u32 - 1 {
+            if start.left < preparing::FEW as u32 - 1 {
                 return normalise_few(knowledge, r, start, replicas, ranges, out);
             }
             normalise_many(knowledge, r, start, replicas, ranges, out)
@@ -255,18 +129,13 @@ fn merge_in(
     ids: &mut [u64],
     bounds: &mut [u64],
     t: &mut [u64],
-    cols: &mut [u32],
-    firsts: &mut [u32],
-    numbers: &mut [u32],
 ) -> Answer
     requires { ⌜ (Opens (rulesWithin replicas ranges) (now s) r start) × (Opens (rulesWithin replicas ranges) (now other) m begin)
-        × (TableRoom (r + m) (start .left + begin .left + 1) (now ids) (now bounds) (now t))
-        × (PlanRoom (r + m) (start .left + begin .left + 1) (now cols) (now firsts) (now numbers)) ⌝ }
-    ensures { λ a. ⌜ Ended (mergeWithin replicas ranges (now (s .entry)) (now (other .entry))) (now (out .entry)) (now (out .exit)) a ⌝ }
+        × (TableRoom (r + m) (start .left + begin .left + 1) (now ids) (now bounds) (now t)) ⌝ }
+    ensures { λ a. ⌜ Ended (mergeReply (rulesWithin replicas ranges) (now (s .entry)) (now (other .entry))) (now (out .entry)) (now (out .exit)) a ⌝ }
 {
     let q = filling::fill_two(s, r, start, other, m, begin, ids, bounds, t);
-    let p = prepare(q, replicas, ranges, ids, t, cols, firsts, numbers);
-    finish(out, p, ids, bounds, t, cols, firsts, numbers)
+    preparing::conclude(q, replicas, ranges, out, ids, bounds, t)
 }
 
 fn merge_few(
@@ -282,14 +151,11 @@ fn merge_few(
 ) -> Answer
     requires { ⌜ (Opens (rulesWithin replicas ranges) (now s) r start) × (Opens (rulesWithin replicas ranges) (now other) m begin)
         × (start .left + begin .left + 1 < few) ⌝ }
-    ensures { λ a. ⌜ Ended (mergeWithin replicas ranges (now (s .entry)) (now (other .entry))) (now (out .entry)) (now (out .exit)) a ⌝ }
+    ensures { λ a. ⌜ Ended (mergeReply (rulesWithin replicas ranges) (now (s .entry)) (now (other .entry))) (now (out .entry)) (now (out .exit)) a ⌝ }
 {
     let mut ids = [0u64; 2 * tables::STRIDE];
-    let mut bounds = [0u64; 3 * FEW];
-    let mut t = [0u64; tables::STRIDE * FEW];
-    let mut cols = [0u32; tables::STRIDE];
-    let mut firsts = [0u32; FEW];
-    let mut numbers = [0u32; FEW];
+    let mut bounds = [0u64; 3 * preparing::FEW];
+    let mut t = [0u64; tables::STRIDE * preparing::FEW];
     merge_in(
         s,
         r,
@@ -303,9 +169,6 @@ fn merge_few(
         &mut ids,
         &mut bounds,
         &mut t,
-        &mut cols,
-        &mut firsts,
-        &mut numbers,
     )
 }
 
@@ -321,14 +184,11 @@ fn merge_many(
     out: &mut [u8],
 ) -> Answer
     requires { ⌜ (Opens (rulesWithin replicas ranges) (now s) r start) × (Opens (rulesWithin replicas ranges) (now other) m begin) ⌝ }
-    ensures { λ a. ⌜ Ended (mergeWithin replicas ranges (now (s .entry)) (now (other .entry))) (now (out .entry)) (now (out .exit)) a ⌝ }
+    ensures { λ a. ⌜ Ended (mergeReply (rulesWithin replicas ranges) (now (s .entry)) (now (other .entry))) (now (out .entry)) (now (out .exit)) a ⌝ }
 {
     let mut ids = [0u64; 2 * tables::STRIDE];
     let mut bounds = [0u64; 3 * tables::ROWS];
     let mut t = [0u64; tables::STRIDE * tables::ROWS];
-    let mut cols = [0u32; tables::STRIDE];
-    let mut firsts = [0u32; tables::ROWS];
-    let mut numbers = [0u32; tables::ROWS];
     merge_in(
         s,
         r,
@@ -342,9 +202,6 @@ fn merge_many(
         &mut ids,
         &mut bounds,
         &mut t,
-        &mut cols,
-        &mut firsts,
-        &mut numbers,
     )
 }
 
@@ -359,11 +216,11 @@ fn merge_second(
     ranges: u32,
 ) -> Answer
     requires { ⌜ Opens (rulesWithin replicas ranges) (now s) r start ⌝ }
-    ensures { λ a. ⌜ Ended (mergeWithin replicas ranges (now (s .entry)) (now (other .entry))) (now (out .entry)) (now (out .exit)) a ⌝ }
+    ensures { λ a. ⌜ Ended (mergeReply (rulesWithin replicas ranges) (now (s .entry)) (now (other .entry))) (now (out .entry)) (now (out .exit)) a ⌝ }
 {
     match lookup::open_within(other, replicas, ranges) {
         Opened::At { r: m, start: begin } => {
-            if start.left + begin.left < FEW as u32 - 1 {
+            if start.left + begin.left < preparing::FEW as u32 - 1 {
                 return merge_few(s, r, start, other, m, begin, replicas, ranges, out);
             }
             merge_many(s, r, start, other, m, begin, replicas, ranges, out)
@@ -406,21 +263,16 @@ fn project_in(
     ids: &mut [u64],
     bounds: &mut [u64],
     t: &mut [u64],
-    cols: &mut [u32],
-    firsts: &mut [u32],
-    numbers: &mut [u32],
 ) -> Answer
     requires { ⌜ (Opens (rulesWithin replicas ranges) (now s) r start) × (wrongSpan (now first) (now last) ≡ false)
-        × (TableRoom r (start .left + 3) (now ids) (now bounds) (now t))
-        × (PlanRoom r (start .left + 3) (now cols) (now firsts) (now numbers)) ⌝ }
+        × (TableRoom r (start .left + 3) (now ids) (now bounds) (now t)) ⌝ }
     ensures { λ a. ⌜ Ended (projectReply (rulesWithin replicas ranges) (now (s .entry)) (now (first .entry)) (now (last .entry)))
         (now (out .entry)) (now (out .exit)) a ⌝ }
 {
     let f = filling::bound_of(first);
     let l = filling::bound_of(last);
     let q = filling::fill_span(s, r, start, f, l, ids, bounds, t);
-    let p = prepare(q, replicas, ranges, ids, t, cols, firsts, numbers);
-    finish(out, p, ids, bounds, t, cols, firsts, numbers)
+    preparing::conclude(q, replicas, ranges, out, ids, bounds, t)
 }
 
 fn project_few(
@@ -439,11 +291,8 @@ fn project_few(
         (now (out .entry)) (now (out .exit)) a ⌝ }
 {
     let mut ids = [0u64; 2 * tables::STRIDE];
-    let mut bounds = [0u64; 3 * FEW];
-    let mut t = [0u64; tables::STRIDE * FEW];
-    let mut cols = [0u32; tables::STRIDE];
-    let mut firsts = [0u32; FEW];
-    let mut numbers = [0u32; FEW];
+    let mut bounds = [0u64; 3 * preparing::FEW];
+    let mut t = [0u64; tables::STRIDE * preparing::FEW];
     project_in(
         s,
         r,
@@ -456,9 +305,6 @@ fn project_few(
         &mut ids,
         &mut bounds,
         &mut t,
-        &mut cols,
-        &mut firsts,
-        &mut numbers,
     )
 }
 
@@ -477,11 +323,8 @@ fn project_many(
         (now (out .entry)) (now (out .exit)) a ⌝ }
 {
     let mut ids = [0u64; 2 * tables::STRIDE];
-    let mut bounds = [0u64; 3 * ONE];
-    let mut t = [0u64; tables::STRIDE * ONE];
-    let mut cols = [0u32; tables::STRIDE];
-    let mut firsts = [0u32; ONE];
-    let mut numbers = [0u32; ONE];
+    let mut bounds = [0u64; 3 * preparing::ONE];
+    let mut t = [0u64; tables::STRIDE * preparing::ONE];
     project_in(
         s,
         r,
@@ -494,25 +337,7 @@ fn project_many(
         &mut ids,
         &mut bounds,
         &mut t,
-        &mut cols,
-        &mut firsts,
-        &mut numbers,
     )
-}
-
-// Whether two ids are no span: one is not 24 bytes long, or the first is above the last.
-pub fn wrong_span(first: &[u8], last: &[u8]) -> bool
-    ensures { λ b. ⌜ b ≡ wrongSpan (now (first .entry)) (now (last .entry)) ⌝ }
-{
-    if first.len() != 24 {
-        return true;
-    }
-    if last.len() != 24 {
-        return true;
-    }
-    let f = filling::bound_of(first);
-    let l = filling::bound_of(last);
-    codec::less3(l.high, l.middle, l.low, f.high, f.middle, f.low)
 }
 
 // Where the knowledge is accepted: 17 for the span, or the call in scratch that has room.
@@ -530,10 +355,10 @@ fn project_span(
     ensures { λ a. ⌜ Ended (projectReply (rulesWithin replicas ranges) (now (s .entry)) (now (first .entry)) (now (last .entry)))
         (now (out .entry)) (now (out .exit)) a ⌝ }
 {
-    if wrong_span(first, last) {
+    if preparing::wrong_span(first, last) {
         return Answer::Refused(17);
     }
-    if start.left < FEW as u32 - 3 {
+    if start.left < preparing::FEW as u32 - 3 {
         return project_few(s, r, start, first, last, replicas, ranges, out);
     }
     project_many(s, r, start, first, last, replicas, ranges, out)

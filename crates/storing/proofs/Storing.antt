@@ -34,9 +34,9 @@ use Rattle.joining.specs.MethodJoin.{copied, sizeFrom, joinAt, fronted}
 use Rattle.joining.proofs.Copies.{joined-count, joined-size, joined-copied}
 use Rattle.loading.specs.MethodReply.{resultReply}
 use Rattle.loading.proofs.Closing.{result-is}
-use Rattle.operations.specs.MethodCalls.{Holds, Prepares, Ended}
-use Rattle.operations.specs.declared.Prepared.{Prepared}
-use Rattle.operations.specs.declared.Prepared.the-variants as P
+use Rattle.preparing.specs.MethodPrepared.{Holds, Prepares, Ended}
+use Rattle.preparing.specs.declared.Prepared.{Prepared}
+use Rattle.preparing.specs.declared.Prepared.the-variants as P
 use Rattle.headers.specs.MethodHeaders.{storeHead, batchHead}
 use Rattle.headers.proofs.Headers.{store-placed, batch-placed}
 use Rattle.storing.specs.MethodStoring.{endsWith, leaves, pageAt, Pages, Chosen, finishedAnswer, finishedOut, storeWritten}

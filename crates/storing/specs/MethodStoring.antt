@@ -13,8 +13,8 @@ use Rattle.replication.specs.Formats.{putRecs}
 use Rattle.replication.specs.OpenStore.{storeKnowledge}
 use Rattle.replication.specs.OpenBatch.{batchNeeded}
 use Rattle.joining.specs.MethodJoin.{copied, fronted}
-use Rattle.operations.specs.declared.Prepared.{Prepared}
-use Rattle.operations.specs.declared.Prepared.the-variants as P
+use Rattle.preparing.specs.declared.Prepared.{Prepared}
+use Rattle.preparing.specs.declared.Prepared.the-variants as P
 use Rattle.headers.specs.MethodHeaders.{storeHead, batchHead}
 
 -- how a call ends that writes n bytes where it has room

@@ -4,7 +4,7 @@
 // Every public function is total.
 use codec::Answer;
 use joining::Extent;
-use operations::Prepared;
+use preparing::Prepared;
 use tables::Sizes;
 ghost use mathlib.Core.Path.{_≡_};
 ghost use Prim.Native.Nat.{_+_};

@@ -3,9 +3,9 @@ use Prim.Native.Nat.{_*_}
 use native.Mathlib.Omega.{arith}
 use Rattle.layout.specs.Permitted.{largestRecords}
 use Rattle.tables.specs.MethodWords.{stride}
-use Rattle.operations.specs.MethodCalls.{few}
+use Rattle.preparing.specs.MethodPrepared.{few}
 use Rattle.filling.proofs.Scratch.{table-room, zeros-length}
-use Rattle.operations.proofs.Scratch.{plan-room}
+use Rattle.preparing.proofs.Scratch.{plan-room}
 use Rattle.applying.proofs.Applying.{mine-replicas, theirs-replicas}
 use borrow.Author.Needs.{needs}
 use Rattle.applying.proofs.apply_few.Statement.{statement}

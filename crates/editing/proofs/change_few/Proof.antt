@@ -1,6 +1,6 @@
 -- `editing::change_few` meets its contract: scratch for few rows has room.
 use native.Mathlib.Omega.{arith}
-use Rattle.operations.specs.MethodCalls.{few}
+use Rattle.preparing.specs.MethodPrepared.{few}
 use Rattle.editing.proofs.Changing.{change-room}
 use borrow.Author.Needs.{needs}
 use Rattle.editing.proofs.change_few.Statement.{statement}

@@ -1,6 +1,6 @@
 -- `editing::change_many` meets its contract: scratch for one knowledge at the largest limits has room.
 use native.Mathlib.Omega.{arith}
-use Rattle.operations.specs.MethodCalls.{oneRows}
+use Rattle.preparing.specs.MethodPrepared.{oneRows}
 use Rattle.editing.proofs.Changing.{change-rows, change-room}
 use borrow.Author.Needs.{needs}
 use Rattle.editing.proofs.change_many.Statement.{statement}

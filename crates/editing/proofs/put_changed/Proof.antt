@@ -5,7 +5,7 @@ use lib.ListN.{replicate}
 use borrow.Author.Tests.{ltb-true}
 use Rattle.replication.proofs.RecordBytes.{recSize}
 use Rattle.filling.proofs.Scratch.{zeros-length}
-use Rattle.operations.specs.MethodCalls.{few}
+use Rattle.preparing.specs.MethodPrepared.{few}
 use Rattle.editing.proofs.Changing.{put-becomes}
 use borrow.Author.Needs.{needs}
 use Rattle.editing.proofs.put_changed.Statement.{statement}

@@ -8,7 +8,7 @@ use Rattle.making.proofs.learned_in.Reads as reads
 use Rattle.making.proofs.learned_in.Lts as lts
 use Rattle.filling.proofs.fill_span.Reads as fill-span-reads
 use Rattle.making.proofs.finish_batch.Reads as finish-batch-reads
-use Rattle.operations.proofs.prepare.Reads as prepare-reads
+use Rattle.preparing.proofs.prepare.Reads as prepare-reads
 
 fill-span-requires : tie.Need-fill-span-requires
 fill-span-requires c κs = tt

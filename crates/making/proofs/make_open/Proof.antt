@@ -8,7 +8,7 @@ use Rattle.making.proofs.make_open.Reads as reads
 use Rattle.making.proofs.make_open.Lts as lts
 use Rattle.filling.proofs.bound_of.Reads as bound-of-reads
 use Rattle.making.proofs.make_needed.Reads as make-needed-reads
-use Rattle.operations.proofs.wrong_span.Reads as wrong-span-reads
+use Rattle.preparing.proofs.wrong_span.Reads as wrong-span-reads
 
 wrong-span-requires : tie.Need-wrong-span-requires
 wrong-span-requires c κs = search needs

@@ -8,7 +8,7 @@ use Rattle.making.proofs.needed_in.Reads as reads
 use Rattle.making.proofs.needed_in.Lts as lts
 use Rattle.filling.proofs.fill_one.Reads as fill-one-reads
 use Rattle.making.proofs.make_learned.Reads as make-learned-reads
-use Rattle.operations.proofs.prepare.Reads as prepare-reads
+use Rattle.preparing.proofs.prepare.Reads as prepare-reads
 
 fill-one-requires : tie.Need-fill-one-requires
 fill-one-requires c κs = tt

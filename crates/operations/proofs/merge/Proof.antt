@@ -1,6 +1,6 @@
 -- `operations::merge` meets its contract: document 01's limits are those of its two numbers.
 use Rattle.ticks.specs.Calls.{mergeReply}
-use Rattle.operations.proofs.Judged.{ended-basic}
+use Rattle.operations.proofs.Replies.{ended-basic}
 use borrow.Author.Needs.{needs}
 use Rattle.operations.proofs.merge.Statement.{statement}
 use Rattle.operations.proofs.merge.Tie as tie

@@ -1,26 +1,22 @@
--- `operations::merge_in` meets its contract: what is made ready is what the reply says, and so the call ends.
+-- `operations::merge_in` meets its contract: the table samples the ticks of the result, so the call ends as the result's reply says.
 use mathlib.Core.Path.{refl}
 use native.Mathlib.Omega.{arith}
 use Rattle.layout.specs.Permitted.{base, rulesWithin}
-use Rattle.ticks.specs.Calls.{mergeReply}
-use Rattle.operations.proofs.Ready.{merge-prepares, merge-says}
+use Rattle.preparing.proofs.Ready.{merge-sheet, sheet-ended}
+use Rattle.operations.proofs.Replies.{merge-says}
 use borrow.Author.Needs.{needs}
 use Rattle.operations.proofs.merge_in.Statement.{statement}
 use Rattle.operations.proofs.merge_in.Tie as tie
 use Rattle.operations.proofs.merge_in.Reads as reads
 use Rattle.operations.proofs.merge_in.Lts as lts
 use Rattle.filling.proofs.fill_two.Reads as fill-two-reads
-use Rattle.operations.proofs.finish.Reads as finish-reads
-use Rattle.operations.proofs.prepare.Reads as prepare-reads
+use Rattle.preparing.proofs.conclude.Reads as conclude-reads
 
 fill-two-requires : tie.Need-fill-two-requires
 fill-two-requires c κs = tt
 
-prepare-requires : tie.Need-prepare-requires
-prepare-requires c κs = tt
-
-finish-requires : tie.Need-finish-requires
-finish-requires c κs = tt
+conclude-requires : tie.Need-conclude-requires
+conclude-requires c κs = tt
 
 same-length : tie.Need-same-length
 same-length c = search needs
@@ -34,39 +30,26 @@ same-length-3 c = search needs
 same-length-4 : tie.Need-same-length-4
 same-length-4 c = search needs
 
-same-length-5 : tie.Need-same-length-5
-same-length-5 c = search needs
-
-same-length-6 : tie.Need-same-length-6
-same-length-6 c = search needs
-
-same-length-7 : tie.Need-same-length-7
-same-length-7 c = search needs
-
 returns : tie.Need-returns
 returns c =
-    let a = c .before .before .before .before .before .before .before .before .before .before .before .before .before .before .before .before .before .before .before .before .before .before .before .before .before .before .before .before .before .before .before .before .before .before .before .before .before .before .before .before .before .args in
-    let h = c .before .before .before .before .before .before .before .before .before .before .before .before .before .before .before .before .before .before .before .before .before .before .before .before .before .before .before .before .before .before .before .before .before .before .before .before .before .before .before .before .before .pre in
+    let a = c .before .before .before .before .before .before .before .before .before .before .before .before .before .before .before .before .before .before .before .before .before .before .before .args in
+    let h = c .before .before .before .before .before .before .before .before .before .before .before .before .before .before .before .before .before .before .before .before .before .before .before .pre in
     let R = rulesWithin (a .replicas) (a .ranges) in
-    c .before .before .finish .ensures (mergeReply R (a .s .now) (a .other .now))
-    (merge-says R _ _ _ (h .0) _ _ _ _ _ _ _ _ _ _ (h .1)
-    (merge-prepares (a .replicas) (a .ranges) (base .records) R refl _ _ _ _ _ _ _ _ _ _ _ (c .before .before .before .before .before .before .before .before .before .before .before .before .before .before .before .before .prepare .ensures)
-    (record { below = λ i. omega (arith, c .before .before .before .before .before .before .before .before .before .before .before .before .before .before .before .before .before .before .before .before .before .before .before .before .before .before .slice-known8 .given i) })
-    (record { below = λ i. omega (arith, c .before .before .before .before .before .before .before .before .before .before .before .before .before .before .before .before .before .before .before .before .before .before .before .before .slice-known9 .given i) }) _ _ _ _ _ _ (h .0) R refl _ _ _
-    (h .1) (c .before .before .before .before .before .before .before .before .before .before .before .before .before .before .before .before .before .before .before .before .before .before .before .before .before .before .before .before .fill-two .ensures) (h .2) (h .3)))
+    merge-says R _ _ _ (h .0) _ _ _ _ _ _ (h .1)
+    (sheet-ended (a .replicas) (a .ranges) (base .records) R refl _ _ _
+    (record { below = λ i. omega (arith, c .before .before .before .before .before .before .before .before .before .before .before .slice-known5 .given i) })
+    (record { below = λ i. omega (arith, c .before .before .before .before .before .before .before .before .before .slice-known6 .given i) }) _ _ _ _
+    (merge-sheet (a .replicas) (a .ranges) (base .records) R refl _ _ _ _ _ _ _ _ _ _ (h .0) R refl _ _ _ (h .1) (c .before .before .before .before .before .before .before .before .before .before .before .before .before .fill-two .ensures) (h .2))
+    _ _ _ (c .before .before .conclude .ensures))
 
 pub merge-in-spec : {M : Type 1} → statement M
 merge-in-spec =
     tie.close
     (tie.spec
     fill-two-requires
-    prepare-requires
-    finish-requires
+    conclude-requires
     same-length
     same-length-2
     same-length-3
     same-length-4
-    same-length-5
-    same-length-6
-    same-length-7
     returns)

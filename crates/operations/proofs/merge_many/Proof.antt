@@ -4,7 +4,7 @@ use Prim.Native.Nat.{_*_, _+_}
 use native.Mathlib.Omega.{arith}
 use Rattle.tables.specs.MethodWords.{stride, mostRows}
 use Rattle.filling.proofs.Scratch.{table-room}
-use Rattle.operations.proofs.Scratch.{opened-few-replicas, opened-few-ranges, plan-room}
+use Rattle.operations.proofs.Scratch.{opened-few-replicas, opened-few-ranges}
 use Rattle.operations.proofs.merge_many.Statement.{statement}
 use Rattle.operations.proofs.merge_many.Tie as tie
 
@@ -17,20 +17,11 @@ slice-aggregate-merge-in-2 c = refl
 slice-aggregate-merge-in-3 : tie.Need-slice-aggregate-merge-in-3
 slice-aggregate-merge-in-3 c = refl
 
-slice-aggregate-merge-in-4 : tie.Need-slice-aggregate-merge-in-4
-slice-aggregate-merge-in-4 c = refl
-
-slice-aggregate-merge-in-5 : tie.Need-slice-aggregate-merge-in-5
-slice-aggregate-merge-in-5 c = refl
-
-slice-aggregate-merge-in-6 : tie.Need-slice-aggregate-merge-in-6
-slice-aggregate-merge-in-6 c = refl
-
 merge-in-requires : tie.Need-merge-in-requires
 merge-in-requires c κs =
-    let a = c .before .before .before .before .before .before .before .before .before .before .args in
-    let o = c .before .before .before .before .before .before .before .before .before .before .pre .0 in
-    let p = c .before .before .before .before .before .before .before .before .before .before .pre .1 in
+    let a = c .before .before .before .before .before .before .before .args in
+    let o = c .before .before .before .before .before .before .before .pre .0 in
+    let p = c .before .before .before .before .before .before .before .pre .1 in
     let r = opened-few-replicas (a .replicas) (a .ranges) _ _ _ o in
     let m = opened-few-replicas (a .replicas) (a .ranges) _ _ _ p in
     let g = opened-few-ranges (a .replicas) (a .ranges) _ _ _ o in
@@ -39,14 +30,13 @@ merge-in-requires c κs =
       p,
       table-room (a .r + a .m) (a .start .left + a .begin .left + 1) (2 * stride) (3 * mostRows) (stride * mostRows) (omega (arith, r, m)) (omega (arith, g, h)) (omega (arith, r, m))
           (omega (arith, g, h)) (omega (arith, g, h)),
-      plan-room (a .r + a .m) (a .start .left + a .begin .left + 1) stride mostRows mostRows (omega (arith, r, m)) (omega (arith, g, h)) (omega (arith, g, h)),
     )
 
 same-length : tie.Need-same-length
-same-length c = c .before .before .before .before .before .before .before .out .given
+same-length c = c .before .before .before .before .out .given
 
 returns : tie.Need-returns
-returns c = c .before .before .before .before .before .before .before .before .merge-in .ensures
+returns c = c .before .before .before .before .before .merge-in .ensures
 
 pub merge-many-spec : {M : Type 1} → statement M
 merge-many-spec =
@@ -55,9 +45,6 @@ merge-many-spec =
     slice-aggregate-merge-in
     slice-aggregate-merge-in-2
     slice-aggregate-merge-in-3
-    slice-aggregate-merge-in-4
-    slice-aggregate-merge-in-5
-    slice-aggregate-merge-in-6
     merge-in-requires
     same-length
     returns)

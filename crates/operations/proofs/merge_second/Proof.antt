@@ -8,7 +8,7 @@ use Rattle.lookup.proofs.Calls.{opens-within, refuses-within}
 use Rattle.loading.proofs.Closing.{merge-second}
 use Rattle.operations.proofs.Scratch.{opened-few-ranges}
 use Rattle.filling.proofs.Opening.{opened-read}
-use Rattle.operations.proofs.Judged.{ended-refused}
+use Rattle.preparing.proofs.Ends.{ended-refused}
 use borrow.Author.Needs.{needs}
 use Rattle.operations.proofs.merge_second.Statement.{statement}
 use Rattle.operations.proofs.merge_second.Tie as tie

@@ -6,7 +6,7 @@ use Rattle.ticks.specs.Calls.{mergeReply}
 use Rattle.ticks.proofs.ForCode.{refusing}
 use Rattle.lookup.proofs.Calls.{opens-within, refuses-within}
 use Rattle.loading.proofs.Closing.{merge-first}
-use Rattle.operations.proofs.Judged.{ended-refused}
+use Rattle.preparing.proofs.Ends.{ended-refused}
 use borrow.Author.Needs.{needs}
 use Rattle.operations.proofs.merge_within.Statement.{statement}
 use Rattle.operations.proofs.merge_within.Tie as tie

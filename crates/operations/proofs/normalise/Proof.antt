@@ -1,7 +1,7 @@
 -- `operations::normalise` meets its contract: document 01's limits are those of its two numbers.
 use borrow.Author.Needs.{needs}
 use Rattle.ticks.specs.Calls.{normaliseReply}
-use Rattle.operations.proofs.Judged.{ended-basic}
+use Rattle.operations.proofs.Replies.{ended-basic}
 use Rattle.operations.proofs.normalise.Statement.{statement}
 use Rattle.operations.proofs.normalise.Tie as tie
 use Rattle.operations.proofs.normalise.Reads as reads

@@ -3,9 +3,9 @@ use mathlib.Core.Path.{refl}
 use Prim.Native.Nat.{_*_, _+_}
 use native.Mathlib.Omega.{arith}
 use Rattle.tables.specs.MethodWords.{stride}
-use Rattle.operations.specs.MethodCalls.{few}
+use Rattle.preparing.specs.MethodPrepared.{few}
 use Rattle.filling.proofs.Scratch.{table-room}
-use Rattle.operations.proofs.Scratch.{opened-few-replicas, plan-room}
+use Rattle.operations.proofs.Scratch.{opened-few-replicas}
 use Rattle.operations.proofs.normalise_few.Statement.{statement}
 use Rattle.operations.proofs.normalise_few.Tie as tie
 
@@ -18,30 +18,20 @@ slice-aggregate-normalise-in-2 c = refl
 slice-aggregate-normalise-in-3 : tie.Need-slice-aggregate-normalise-in-3
 slice-aggregate-normalise-in-3 c = refl
 
-slice-aggregate-normalise-in-4 : tie.Need-slice-aggregate-normalise-in-4
-slice-aggregate-normalise-in-4 c = refl
-
-slice-aggregate-normalise-in-5 : tie.Need-slice-aggregate-normalise-in-5
-slice-aggregate-normalise-in-5 c = refl
-
-slice-aggregate-normalise-in-6 : tie.Need-slice-aggregate-normalise-in-6
-slice-aggregate-normalise-in-6 c = refl
-
 normalise-in-requires : tie.Need-normalise-in-requires
 normalise-in-requires c κs =
-    let a = c .before .before .before .before .before .before .before .before .before .args in
-    let o = c .before .before .before .before .before .before .before .before .before .pre .0 in
+    let a = c .before .before .before .before .before .before .args in
+    let o = c .before .before .before .before .before .before .pre .0 in
     let r = opened-few-replicas (a .replicas) (a .ranges) _ _ _ o in (
       o,
       table-room (a .r) (a .start .left + 1) (2 * stride) (3 * few) (stride * few) (omega (arith, r)) (omega arith) (omega (arith, r)) (omega arith) (omega arith),
-      plan-room (a .r) (a .start .left + 1) stride few few (omega (arith, r)) (omega arith) (omega arith),
     )
 
 same-length : tie.Need-same-length
-same-length c = c .before .before .before .before .before .before .before .out .given
+same-length c = c .before .before .before .before .out .given
 
 returns : tie.Need-returns
-returns c = c .before .before .before .before .before .before .before .before .normalise-in .ensures
+returns c = c .before .before .before .before .before .normalise-in .ensures
 
 pub normalise-few-spec : {M : Type 1} → statement M
 normalise-few-spec =
@@ -50,9 +40,6 @@ normalise-few-spec =
     slice-aggregate-normalise-in
     slice-aggregate-normalise-in-2
     slice-aggregate-normalise-in-3
-    slice-aggregate-normalise-in-4
-    slice-aggregate-normalise-in-5
-    slice-aggregate-normalise-in-6
     normalise-in-requires
     same-length
     returns)

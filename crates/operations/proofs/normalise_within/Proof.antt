@@ -7,7 +7,7 @@ use Rattle.ticks.specs.Calls.{normaliseReply}
 use Rattle.ticks.proofs.ForCode.{refusing}
 use Rattle.lookup.proofs.Calls.{opens-within, refuses-within}
 use Rattle.loading.proofs.Closing.{normalise-refused}
-use Rattle.operations.proofs.Judged.{ended-refused}
+use Rattle.preparing.proofs.Ends.{ended-refused}
 use Rattle.operations.proofs.normalise_within.Statement.{statement}
 use Rattle.operations.proofs.normalise_within.Tie as tie
 use Rattle.operations.proofs.normalise_within.Reads as reads

@@ -1,18 +1,17 @@
--- `operations::project_in` meets its contract: what is made ready is what the reply says, and so the call ends.
+-- `operations::project_in` meets its contract: the table samples the ticks of the result, so the call ends as the result's reply says.
 use mathlib.Core.Path.{refl}
 use native.Mathlib.Omega.{arith}
 use Rattle.layout.specs.Permitted.{base, rulesWithin}
-use Rattle.ticks.specs.Calls.{projectReply}
-use Rattle.operations.proofs.Ready.{project-prepares, span-rises, project-says}
+use Rattle.preparing.proofs.Ready.{project-sheet, span-rises, sheet-ended}
+use Rattle.operations.proofs.Replies.{project-says}
 use borrow.Author.Needs.{needs}
 use Rattle.operations.proofs.project_in.Statement.{statement}
 use Rattle.operations.proofs.project_in.Tie as tie
 use Rattle.operations.proofs.project_in.Reads as reads
 use Rattle.operations.proofs.project_in.Lts as lts
-use Rattle.filling.proofs.fill_span.Reads as fill-span-reads
 use Rattle.filling.proofs.bound_of.Reads as bound-of-reads
-use Rattle.operations.proofs.finish.Reads as finish-reads
-use Rattle.operations.proofs.prepare.Reads as prepare-reads
+use Rattle.filling.proofs.fill_span.Reads as fill-span-reads
+use Rattle.preparing.proofs.conclude.Reads as conclude-reads
 
 bound-of-requires : tie.Need-bound-of-requires
 bound-of-requires c κs = tt
@@ -23,11 +22,8 @@ bound-of-requires-2 c κs = tt
 fill-span-requires : tie.Need-fill-span-requires
 fill-span-requires c κs = tt
 
-prepare-requires : tie.Need-prepare-requires
-prepare-requires c κs = tt
-
-finish-requires : tie.Need-finish-requires
-finish-requires c κs = tt
+conclude-requires : tie.Need-conclude-requires
+conclude-requires c κs = tt
 
 same-length : tie.Need-same-length
 same-length c = search needs
@@ -41,29 +37,20 @@ same-length-3 c = search needs
 same-length-4 : tie.Need-same-length-4
 same-length-4 c = search needs
 
-same-length-5 : tie.Need-same-length-5
-same-length-5 c = search needs
-
-same-length-6 : tie.Need-same-length-6
-same-length-6 c = search needs
-
-same-length-7 : tie.Need-same-length-7
-same-length-7 c = search needs
-
 returns : tie.Need-returns
 returns c =
-    let a = c .before .before .before .before .before .before .before .before .before .before .before .before .before .before .before .before .before .before .before .before .before .before .before .before .before .before .before .before .before .before .before .before .before .before .before .before .before .before .before .before .before .before .before .before .args in
-    let h = c .before .before .before .before .before .before .before .before .before .before .before .before .before .before .before .before .before .before .before .before .before .before .before .before .before .before .before .before .before .before .before .before .before .before .before .before .before .before .before .before .before .before .before .before .pre in
+    let a = c .before .before .before .before .before .before .before .before .before .before .before .before .before .before .before .before .before .before .before .before .before .before .before .before .before .before .args in
+    let h = c .before .before .before .before .before .before .before .before .before .before .before .before .before .before .before .before .before .before .before .before .before .before .before .before .before .before .pre in
     let R = rulesWithin (a .replicas) (a .ranges) in
-    let f = c .before .before .before .before .before .before .before .before .before .before .before .before .before .before .before .before .before .before .before .before .before .before .before .before .before .before .before .before .before .before .before .before .before .bound-of .ensures .0 in
-    let l = c .before .before .before .before .before .before .before .before .before .before .before .before .before .before .before .before .before .before .before .before .before .before .before .before .before .before .before .before .before .before .before .before .bound-of2 .ensures .0 in
-    c .before .before .finish .ensures (projectReply R (a .s .now) (a .first .now) (a .last .now))
-    (project-says R _ _ _ (h .0) _ _ _ _ _ _ _ (a .first .now) (a .last .now) (h .1) _ _ f l
-    (project-prepares (a .replicas) (a .ranges) (base .records) R refl _ _ _ _ _ _ _ _ _ _ _ (c .before .before .before .before .before .before .before .before .before .before .before .before .before .before .before .before .prepare .ensures)
-    (record { below = λ i. omega (arith, c .before .before .before .before .before .before .before .before .before .before .before .before .before .before .before .before .before .before .before .before .before .before .before .before .before .before .slice-known8 .given i) })
-    (record { below = λ i. omega (arith, c .before .before .before .before .before .before .before .before .before .before .before .before .before .before .before .before .before .before .before .before .before .before .before .before .slice-known9 .given i) }) _ _ _ _ _ _ (h .0) _ _
-    (c .before .before .before .before .before .before .before .before .before .before .before .before .before .before .before .before .before .before .before .before .before .before .before .before .before .before .before .before .fill-span .ensures) (h .2) (h .3) (c .before .before .before .before .before .before .before .before .before .before .before .before .before .before .before .before .before .before .before .before .before .before .before .before .before .before .before .before .before .before .before .before .bound-of2 .ensures .1)
-    (span-rises (a .first .now) (a .last .now) (h .1) _ _ f l)))
+    let f = c .before .before .before .before .before .before .before .before .before .before .before .before .before .before .before .before .before .before .bound-of .ensures .0 in
+    let l = c .before .before .before .before .before .before .before .before .before .before .before .before .before .before .before .before .before .bound-of2 .ensures .0 in
+    project-says R _ _ _ (h .0) _ _ _ (a .first .now) (a .last .now) (h .1) _ _ f l
+    (sheet-ended (a .replicas) (a .ranges) (base .records) R refl _ _ _
+    (record { below = λ i. omega (arith, c .before .before .before .before .before .before .before .before .before .before .before .slice-known5 .given i) })
+    (record { below = λ i. omega (arith, c .before .before .before .before .before .before .before .before .before .slice-known6 .given i) }) _ _ _ _
+    (project-sheet (a .replicas) (a .ranges) (base .records) R refl _ _ _ _ _ _ _ _ _ _ (h .0) _ _ (c .before .before .before .before .before .before .before .before .before .before .before .before .before .fill-span .ensures) (h .2) (c .before .before .before .before .before .before .before .before .before .before .before .before .before .before .before .before .before .bound-of2 .ensures .1)
+    (span-rises (a .first .now) (a .last .now) (h .1) _ _ f l))
+    _ _ _ (c .before .before .conclude .ensures))
 
 pub project-in-spec : {M : Type 1} → statement M
 project-in-spec =
@@ -72,13 +59,9 @@ project-in-spec =
     bound-of-requires
     bound-of-requires-2
     fill-span-requires
-    prepare-requires
-    finish-requires
+    conclude-requires
     same-length
     same-length-2
     same-length-3
     same-length-4
-    same-length-5
-    same-length-6
-    same-length-7
     returns)

@@ -6,7 +6,7 @@ use Rattle.layout.specs.Decode.{decode}
 use Rattle.ticks.specs.Calls.{projectReply}
 use Rattle.loading.proofs.Closing.{project-span}
 use Rattle.filling.proofs.Opening.{opened-read}
-use Rattle.operations.proofs.Judged.{ended-refused}
+use Rattle.preparing.proofs.Ends.{ended-refused}
 use borrow.Author.Needs.{needs}
 use Rattle.operations.proofs.project_span.Statement.{statement}
 use Rattle.operations.proofs.project_span.Tie as tie
@@ -14,7 +14,7 @@ use Rattle.operations.proofs.project_span.Reads as reads
 use Rattle.operations.proofs.project_span.Lts as lts
 use Rattle.operations.proofs.project_few.Reads as project-few-reads
 use Rattle.operations.proofs.project_many.Reads as project-many-reads
-use Rattle.operations.proofs.wrong_span.Reads as wrong-span-reads
+use Rattle.preparing.proofs.wrong_span.Reads as wrong-span-reads
 
 wrong-span-requires : tie.Need-wrong-span-requires
 wrong-span-requires c κs = search needs

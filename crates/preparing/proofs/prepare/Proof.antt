@@ -1,12 +1,12 @@
--- `operations::prepare` meets its contract: the plan of a table is judged by the limits.
+-- `preparing::prepare` meets its contract: the plan of a table is judged by the limits.
 use Rattle.layout.specs.Permitted.{rulesWithin}
-use Rattle.operations.proofs.Judged.{planned-is}
+use Rattle.preparing.proofs.Judged.{planned-is}
 use borrow.Author.Needs.{needs}
-use Rattle.operations.proofs.prepare.Statement.{statement}
-use Rattle.operations.proofs.prepare.Tie as tie
-use Rattle.operations.proofs.prepare.Reads as reads
-use Rattle.operations.proofs.prepare.Lts as lts
-use Rattle.operations.proofs.judge.Reads as judge-reads
+use Rattle.preparing.proofs.prepare.Statement.{statement}
+use Rattle.preparing.proofs.prepare.Tie as tie
+use Rattle.preparing.proofs.prepare.Reads as reads
+use Rattle.preparing.proofs.prepare.Lts as lts
+use Rattle.preparing.proofs.judge.Reads as judge-reads
 use Rattle.plan.proofs.plan.Reads as plan-reads
 
 -- src/lib.rt:443:9

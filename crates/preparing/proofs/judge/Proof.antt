@@ -1,12 +1,12 @@
--- `operations::judge` meets its contract: 11, 12 or ready, by the limits brought inside the largest.
+-- `preparing::judge` meets its contract: 11, 12 or ready, by the limits brought inside the largest.
 use native.Mathlib.Omega.{arith}
 use Rattle.layout.specs.Permitted.{rulesWithin}
-use Rattle.operations.proofs.Judged.{judged-11, judged-12, judged-ready}
+use Rattle.preparing.proofs.Judged.{judged-11, judged-12, judged-ready}
 use borrow.Author.Needs.{needs}
-use Rattle.operations.proofs.judge.Statement.{statement}
-use Rattle.operations.proofs.judge.Tie as tie
-use Rattle.operations.proofs.judge.Reads as reads
-use Rattle.operations.proofs.judge.Lts as lts
+use Rattle.preparing.proofs.judge.Statement.{statement}
+use Rattle.preparing.proofs.judge.Tie as tie
+use Rattle.preparing.proofs.judge.Reads as reads
+use Rattle.preparing.proofs.judge.Lts as lts
 use Rattle.codec.proofs.brought.Reads as brought-reads
 
 -- src/lib.rt:415:8

@@ -1,11 +1,11 @@
--- `operations::wrong_span` meets its contract: test by test.
+-- `preparing::wrong_span` meets its contract: test by test.
 use native.Mathlib.Omega.{arith}
-use Rattle.operations.proofs.Span.{wrong-first, wrong-last, wrong-order}
+use Rattle.preparing.proofs.Span.{wrong-first, wrong-last, wrong-order}
 use borrow.Author.Needs.{needs}
-use Rattle.operations.proofs.wrong_span.Statement.{statement}
-use Rattle.operations.proofs.wrong_span.Tie as tie
-use Rattle.operations.proofs.wrong_span.Reads as reads
-use Rattle.operations.proofs.wrong_span.Lts as lts
+use Rattle.preparing.proofs.wrong_span.Statement.{statement}
+use Rattle.preparing.proofs.wrong_span.Tie as tie
+use Rattle.preparing.proofs.wrong_span.Reads as reads
+use Rattle.preparing.proofs.wrong_span.Lts as lts
 use Rattle.codec.proofs.less3.Reads as less3-reads
 use Rattle.filling.proofs.bound_of.Reads as bound-of-reads
 

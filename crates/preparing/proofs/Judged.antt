@@ -1,33 +1,25 @@
 -- A planned table, judged by the limits, is what the call's reply says: a plan has the sizes of the result, so 11 and 12 are found in
--- it, and else what is written for it are the result's bytes. So a call that refuses, finds its buffer short or writes has ended as
--- its reply says.
-use Prim.Native.Nat.{ℕ, suc, _≤_, _<_}
+-- it, and else what is written for it are the result's bytes.
+use Prim.Native.Nat.{ℕ, _≤_, _<_}
 use mathlib.Core.Path.{_≡_, refl, sym, ap, _∙_, subst}
 use mathlib.Core.List.{List}
 use native.Mathlib.Omega.{arith}
 use lib.ListN.{length}
 use borrow.Author.Tests.{lt-ltb, le-ltb}
 use mathlib.Core.Bool.{Bool, true, false}
-use Rattle.codec.specs.Reply.{Reply, refuses, answer, after}
-use Rattle.codec.specs.declared.Answer.{Answer}
-use Rattle.codec.specs.declared.Answer.the-variants as A
-use Rattle.codec.proofs.Calls.{refused-answer, refused-after, short-answer, short-after, written-answer, written-after}
-use Rattle.layout.specs.Knowledge.{Limits, Rules, Knowledge, encode, basic}
-use Rattle.layout.specs.Permitted.{base, rulesWithin}
-use Rattle.layout.proofs.Within.{basic-within}
+use Rattle.layout.specs.Knowledge.{Limits, Knowledge, encode}
 use Rattle.ticks.proofs.Lists.{order, less, same, more}
 use Rattle.tables.specs.declared.Sizes.{Sizes}
 use Rattle.tables.specs.MethodWords.{stride, mostRows, cell, idAt, boundAt, Words}
-use Rattle.tables.specs.MethodPlan.{firstsOf, numbersOf, columnsOf, sizesOf, page, lengthOf, Plans}
+use Rattle.tables.specs.MethodPlan.{firstsOf, numbersOf, columnsOf, sizesOf, page, Plans}
 use Rattle.plan.specs.Method.{fits, noSizes}
 use Rattle.plan.proofs.Whole.{Fits, fits-holds}
-use Rattle.tables.specs.MethodPieces.{laid, pagePieces}
 use Rattle.loading.specs.MethodReply.{resultReply, Tabled}
 use Rattle.loading.proofs.Closing.{result-replicas, result-ranges, result-gives, tabled}
 use Rattle.filling.specs.declared.Filled.{Filled}
-use Rattle.operations.specs.declared.Prepared.{Prepared}
-use Rattle.operations.specs.declared.Prepared.the-variants as P
-use Rattle.operations.specs.MethodCalls.{judged, Plan, planOf, over, planned, Holds, Prepares, Ended, PlanRoom}
+use Rattle.preparing.specs.declared.Prepared.{Prepared}
+use Rattle.preparing.specs.declared.Prepared.the-variants as P
+use Rattle.preparing.specs.MethodPrepared.{judged, Plan, planOf, over, planned, Prepares, PlanRoom}
 
 -- the cases of what is judged
 
@@ -78,34 +70,6 @@ module _ (L : Limits) (k : Knowledge) (z : Sizes) (ids bounds t : List ℕ) (n :
             | same b ↦ ready a (omega arith)
             | more b ↦ ready a (omega arith)
           ]
-
--- How a call ends
-
-module _ (reply : Reply) (out : List ℕ) where
-  pub ended-refused : (n : ℕ) → reply ≡ refuses n → Ended reply out out (A.Refused n)
-  ended-refused n e = record { answers = refused-answer reply out n e; leaves = refused-after reply out n e }
-
-  module _ (ids bounds t cols firsts numbers : List ℕ) (z : Sizes) (n : ℕ) (h : Holds reply ids bounds t cols firsts numbers z n) where
-    pub ended-short : length out < lengthOf z → Ended reply out out (A.Refused 14)
-    ended-short l = record {
-      answers = short-answer reply out (h .bs) (h .is) (omega (arith, h .size));
-      leaves = short-after reply out (h .bs) (h .is) (omega (arith, h .size));
-    }
-
-    pub ended-written : (u : List ℕ) (m : ℕ) → m ≡ lengthOf z → lengthOf z ≤ length out
-        → u ≡ laid out 0 (pagePieces z ids bounds t n cols firsts numbers) → Ended reply out u (A.Written m)
-    ended-written u m e l p = record {
-      answers = ap A.Written (e ∙ sym (h .size)) ∙ written-answer reply out (h .bs) (h .is) (omega (arith, h .size));
-      leaves = written-after reply out (h .bs) (h .is) u (omega (arith, h .size)) (p ∙ h .writes out 0 (omega arith));
-    }
-
--- what was made ready, by its case
-module _ (reply : Reply) (ids bounds t cols firsts numbers : List ℕ) (p : Prepared) (h : Prepares reply ids bounds t cols firsts numbers p) where
-  pub prepared-ready : (z : Sizes) (n : ℕ) → p ≡ P.Ready z n → Holds reply ids bounds t cols firsts numbers z n
-  prepared-ready z n e = subst (λ q. Prepares reply ids bounds t cols firsts numbers q) e h .is
-
-  pub prepared-refused : (n : ℕ) → p ≡ P.Refused n → reply ≡ refuses n
-  prepared-refused n e = subst (λ q. Prepares reply ids bounds t cols firsts numbers q) e h .is
 
 -- A plan that was made
 
@@ -160,11 +124,3 @@ module _ (L : Limits) (q : Filled) (ids t c f x : List ℕ) where
       (made (fits-holds (q .columns) (q .rows) (length c) (length f) (length x) there) ∙ sym e)
       (judged-prepares L k z ids bounds t (q .rows) (over columns c) (over rows f) (over each x)
       (tabled (q .columns) (q .rows) ids bounds t c f x (over columns c) (over rows f) (over each x) z k plan wi wb g))
-
--- Document 01's limits
-
-pub ended-basic : (call : Rules → Reply) (out u : List ℕ) (a : Answer) → Ended (call (rulesWithin (base .replicas) (base .ranges))) out u a
-    → (a ≡ answer (call basic) (length out)) × (u ≡ after (call basic) out)
-ended-basic call out u a h =
-    let e : call (rulesWithin (base .replicas) (base .ranges)) ≡ call basic = ap call basic-within in
-    (h .answers ∙ ap (λ r. answer r (length out)) e, h .leaves ∙ ap (λ r. after r out) e)

@@ -1,20 +1,21 @@
 -- What an operation has made ready before its buffer is looked at, and the scratch that it works in. There is nothing to believe here:
 -- the calls' contracts cite the replies of `ticks`.
 use Rattle.codec.specs.Prelude.{ℕ, _+_, _≤_, _<_, _≡_, true, false, List, _++_, ltb, length, drop}
+use lib.ListN.{replicate}
 use Rattle.codec.specs.Part.{placed}
 use Rattle.codec.specs.Reply.{Reply, gives, refuses, answer, after}
 use Rattle.codec.specs.declared.Answer.{Answer}
-use Rattle.layout.specs.Knowledge.{Limits}
-use Rattle.layout.specs.Permitted.{largestRanges, rulesWithin}
-use Rattle.ticks.specs.Calls.{mergeReply}
+use Rattle.codec.specs.declared.Answer.the-variants as A
+use Rattle.layout.specs.Knowledge.{Limits, Knowledge}
+use Rattle.layout.specs.Permitted.{largestRanges}
 use Rattle.tables.specs.declared.Sizes.{Sizes}
-use Rattle.tables.specs.MethodWords.{cell, idAt}
-use Rattle.tables.specs.MethodPlan.{firstsOf, numbersOf, columnsOf, sizesOf, lengthOf}
+use Rattle.tables.specs.MethodWords.{stride, mostRows, cell, idAt, boundAt}
+use Rattle.tables.specs.MethodPlan.{firstsOf, numbersOf, columnsOf, sizesOf, page, lengthOf}
 use Rattle.tables.specs.MethodPieces.{laid, pagePieces}
 use Rattle.plan.specs.Method.{fits, noSizes}
 use Rattle.filling.specs.declared.Filled.{Filled}
-use Rattle.operations.specs.declared.Prepared.{Prepared}
-use Rattle.operations.specs.declared.Prepared.the-variants as P
+use Rattle.preparing.specs.declared.Prepared.{Prepared}
+use Rattle.preparing.specs.declared.Prepared.the-variants as P
 
 -- up to so many rows a call takes less room
 abbrev pub few : ℕ
@@ -23,10 +24,6 @@ few = 12
 -- rows for one knowledge: row 0, one at the first item, one for each range, and two at the ends of a span
 abbrev pub oneRows : ℕ
 oneRows = largestRanges + 4
-
--- the reply of a merge with limits given as numbers
-abbrev pub mergeWithin : ℕ → ℕ → List ℕ → List ℕ → Reply
-mergeWithin replicas ranges s other = mergeReply (rulesWithin replicas ranges) s other
 
 -- 11 over the most replicas, 12 over the most ranges, or n rows that are ready
 unfoldable pub judged : Limits → Sizes → ℕ → Prepared
@@ -63,6 +60,41 @@ planned L q ids t c f x =
       | false ↦ planOf c f x (judged L noSizes (q .rows))
     ]
 
+-- How a call ends that writes a knowledge
+
+pub record End : Type 0 where
+  pub out : List ℕ
+  pub answer : Answer
+
+abbrev pub endOf : List ℕ → Answer → End
+endOf out a = record { out = out; answer = a }
+
+-- with n rows of a table that was planned so: 14 and the buffer as it was where it is too short, or the table written from its front
+unfoldable pub writtenEnd : List ℕ → List ℕ → List ℕ → List ℕ → List ℕ → List ℕ → List ℕ → Sizes → ℕ → End
+writtenEnd out ids bounds t cols firsts numbers z n =
+    elim (ltb (length out) (lengthOf z)) [
+      | true ↦ endOf out (A.Refused 14)
+      | false ↦ endOf (laid out 0 (pagePieces z ids bounds t n cols firsts numbers)) (A.Written (lengthOf z))
+    ]
+
+-- with what was prepared: its refusal and the buffer as it was, or that
+unfoldable pub finished : List ℕ → List ℕ → List ℕ → List ℕ → List ℕ → List ℕ → List ℕ → Prepared → End
+finished out ids bounds t cols firsts numbers (P.Ready z n) = writtenEnd out ids bounds t cols firsts numbers z n
+finished out ids bounds t cols firsts numbers (P.Refused n) = endOf out (A.Refused n)
+
+-- with what planning has left
+unfoldable pub plannedEnd : Plan → List ℕ → List ℕ → List ℕ → List ℕ → End
+plannedEnd w out ids bounds t = finished out ids bounds t (w .cols) (w .firsts) (w .numbers) (w .prepared)
+
+-- with a plan in lists of zeros, for n rows
+abbrev pub blankEnd : ℕ → Limits → Filled → List ℕ → List ℕ → List ℕ → List ℕ → End
+blankEnd n L q out ids bounds t = plannedEnd (planned L q ids t (replicate stride 0) (replicate n 0) (replicate n 0)) out ids bounds t
+
+-- with a filled table: its plan has less room where the rows are few
+unfoldable pub concluded : Limits → Filled → List ℕ → List ℕ → List ℕ → List ℕ → End
+concluded L q out ids bounds t =
+    elim (ltb (q .rows) few) [ true ↦ blankEnd few L q out ids bounds t | false ↦ blankEnd mostRows L q out ids bounds t ]
+
 -- What was made ready
 
 -- the reply gives bytes, and what is written for the table are these
@@ -91,3 +123,11 @@ pub record PlanRoom (m n : ℕ) (cols firsts numbers : List ℕ) : Type 0 where
   pub columns : m ≤ length cols
   pub distinct : n < length firsts
   pub rows : n ≤ length numbers
+
+-- a table is filled up to m columns and up to row n, which the most rows have room for, and its plan is the knowledge k
+pub record Sheet (ids bounds t : List ℕ) (m n : ℕ) (q : Filled) (k : Knowledge) : Type 0 where
+  pub columns : q .columns ≤ m
+  pub rows : q .rows ≤ n
+  pub inStride : m ≤ stride
+  pub inRows : n < mostRows
+  pub is : page (idAt ids) (boundAt bounds) (cell t) (q .columns) (q .rows) ≡ k

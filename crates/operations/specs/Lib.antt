@@ -1,2 +1,0 @@
--- The method of the operations.
-pub mod MethodCalls

@@ -1,0 +1,2 @@
+-- The method of preparing a table and of ending a call.
+pub mod MethodPrepared
