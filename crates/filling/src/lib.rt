@@ -8,6 +8,9 @@
 // the highest word first; the tick of row k and column c is word STRIDE * k + c of `t`. The order of a replica map is never used.
 use layout::ReplicaKey;
 use lookup::Cursor;
+use sampling::Bound;
+use sampling::Filled;
+use sampling::Turn;
 ghost use mathlib.Core.Path.{_≡_};
 ghost use Prim.Native.Nat.{suc, _+_, _*_, _^_, _≤_, _<_};
 ghost use lib.ListN.{length, getD};
@@ -17,11 +20,11 @@ ghost use Rattle.ticks.specs.Meaning.{highest};
 ghost use Rattle.layout.specs.MethodPlaces.{idsPlace};
 ghost use Rattle.tables.specs.MethodWords.{stride};
 ghost use Rattle.lookup.specs.Method.{elementsHere};
-ghost use Rattle.filling.specs.MethodColumns.{columnOf, joinOf, joined, columnsOf, mapped};
-ghost use Rattle.filling.specs.MethodRows.{boundOf, itemOf, InWords, boundRead, firstItem, topItem, boundIn, turn};
-ghost use Rattle.filling.specs.MethodRows.{putBound, rowsOf, grown, stopped, firstRow, after, lastRow};
-ghost use Rattle.filling.specs.MethodCells.{raisedIn, raisedBy, filled, columnSet};
-ghost use Rattle.filling.specs.MethodTables.{fits, tableOf, oneTable, twoTable, spanTable, raisedTable};
+ghost use Rattle.sampling.specs.MethodColumns.{columnOf, joinOf, joined, columnsOf, mapped};
+ghost use Rattle.sampling.specs.MethodRows.{boundOf, itemOf, InWords, boundRead, firstItem, topItem, boundIn, turn};
+ghost use Rattle.sampling.specs.MethodRows.{putBound, rowsOf, grown, stopped, firstRow, after, lastRow};
+ghost use Rattle.sampling.specs.MethodCells.{raisedIn, raisedBy, filled, columnSet};
+ghost use Rattle.sampling.specs.MethodTables.{fits, tableOf, oneTable, twoTable, spanTable, raisedTable};
 
 // the place of the replica ids
 const IDS: usize = 27;
@@ -32,30 +35,10 @@ const KEYS: usize = layout::LARGEST_REPLICAS as usize;
 // each word of the top item id
 const TOP: u64 = 18446744073709551615;
 
-// An item id, as three words, the highest first.
-pub struct Bound {
-    pub high: u64,
-    pub middle: u64,
-    pub low: u64,
-}
-
-// The next bound of two lists, and how many of the first list and of the second are passed with it.
-struct Turn {
-    bound: Bound,
-    first: u32,
-    second: u32,
-}
-
 // The column of an id, and how many columns there are then.
 struct Joined {
     column: ReplicaKey,
     count: u32,
-}
-
-// How many columns and rows of a table are filled.
-pub struct Filled {
-    pub columns: u32,
-    pub rows: u32,
 }
 
 // ---- numbers that are there

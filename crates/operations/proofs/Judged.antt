@@ -24,7 +24,7 @@ use Rattle.plan.proofs.Whole.{Fits, fits-holds}
 use Rattle.tables.specs.MethodPieces.{laid, pagePieces}
 use Rattle.loading.specs.MethodReply.{resultReply, Tabled}
 use Rattle.loading.proofs.Closing.{result-replicas, result-ranges, result-gives, tabled}
-use Rattle.filling.specs.declared.Filled.{Filled}
+use Rattle.sampling.specs.declared.Filled.{Filled}
 use Rattle.operations.specs.declared.Prepared.{Prepared}
 use Rattle.operations.specs.declared.Prepared.the-variants as P
 use Rattle.operations.specs.MethodCalls.{judged, Plan, planOf, over, planned, Holds, Prepares, Ended, PlanRoom}

@@ -27,13 +27,13 @@ use Rattle.loading.specs.MethodReply.{resultReply}
 use Rattle.loading.proofs.Closing.{normalise-accepted, merge-accepted, project-accepted}
 use Rattle.lookup.specs.declared.Cursor.{Cursor}
 use Rattle.lookup.specs.Method.{Opens}
-use Rattle.filling.specs.declared.Bound.{Bound}
-use Rattle.filling.specs.declared.Filled.{Filled}
-use Rattle.filling.specs.MethodRows.{itemOf, InWords, boundRead}
-use Rattle.filling.specs.MethodTables.{tableOf, oneTable, twoTable, spanTable, raisedTable, TableRoom, Samples}
-use Rattle.filling.proofs.Opening.{opened-read, scratch-open}
-use Rattle.filling.proofs.Span.{bound-item}
-use Rattle.filling.proofs.Tables.{one-samples, two-samples, span-samples, raised-samples}
+use Rattle.sampling.specs.declared.Bound.{Bound}
+use Rattle.sampling.specs.declared.Filled.{Filled}
+use Rattle.sampling.specs.MethodRows.{itemOf, InWords, boundRead}
+use Rattle.sampling.specs.MethodTables.{tableOf, oneTable, twoTable, spanTable, raisedTable, TableRoom, Samples}
+use Rattle.sampling.proofs.Opening.{opened-read, scratch-open}
+use Rattle.sampling.proofs.Span.{bound-item}
+use Rattle.sampling.proofs.Tables.{one-samples, two-samples, span-samples, raised-samples}
 use Rattle.operations.specs.declared.Prepared.{Prepared}
 use Rattle.operations.specs.declared.Prepared.the-variants as P
 use Rattle.operations.specs.MethodCalls.{planOf, planned, Holds, Prepares, PlanRoom}

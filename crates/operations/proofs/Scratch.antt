@@ -8,8 +8,8 @@ use mathlib.Core.List.{List}
 use Rattle.layout.specs.Permitted.{base, largestReplicas, largestRanges, rulesWithin}
 use Rattle.lookup.specs.declared.Cursor.{Cursor}
 use Rattle.lookup.specs.Method.{Opens}
-use Rattle.filling.proofs.Scratch.{zeros-length}
-use Rattle.filling.proofs.Opening.{scratch-replicas, scratch-ranges}
+use Rattle.sampling.proofs.Scratch.{zeros-length}
+use Rattle.sampling.proofs.Opening.{scratch-replicas, scratch-ranges}
 use Rattle.operations.specs.MethodCalls.{PlanRoom}
 
 pub plan-room : (m n a b c : ℕ) → m ≤ a → n < b → n ≤ c → PlanRoom m n (replicate a 0) (replicate b 0) (replicate c 0)

@@ -12,7 +12,7 @@ use Rattle.tables.specs.MethodWords.{cell, idAt}
 use Rattle.tables.specs.MethodPlan.{firstsOf, numbersOf, columnsOf, sizesOf, lengthOf}
 use Rattle.tables.specs.MethodPieces.{laid, pagePieces}
 use Rattle.plan.specs.Method.{fits, noSizes}
-use Rattle.filling.specs.declared.Filled.{Filled}
+use Rattle.sampling.specs.declared.Filled.{Filled}
 use Rattle.operations.specs.declared.Prepared.{Prepared}
 use Rattle.operations.specs.declared.Prepared.the-variants as P
 

@@ -3,9 +3,9 @@
 //
 // A caller that has checked its bytes already takes the steps one by one: a filling, `prepare`, then `writer::length` and `writer::write`.
 use codec::Answer;
-use filling::Filled;
 use lookup::Cursor;
 use lookup::Opened;
+use sampling::Filled;
 use tables::Sizes;
 ghost use mathlib.Core.Path.{_≡_};
 ghost use mathlib.Core.Bool.{false};
@@ -16,7 +16,7 @@ ghost use Rattle.layout.specs.Knowledge.{basic};
 ghost use Rattle.layout.specs.Permitted.{rulesWithin};
 ghost use Rattle.ticks.specs.Calls.{wrongSpan, normaliseReply, mergeReply, projectReply};
 ghost use Rattle.lookup.specs.Method.{Opens};
-ghost use Rattle.filling.specs.MethodTables.{TableRoom};
+ghost use Rattle.sampling.specs.MethodTables.{TableRoom};
 ghost use Rattle.operations.specs.MethodCalls.{few, mergeWithin, judged, planOf, planned, Holds, Prepares, Ended, PlanRoom};
 
 // Rows of scratch: so many for a call whose rows are few, and so many for one knowledge at the largest limits: row 0, one at the first

@@ -1,6 +1,6 @@
 -- `filling::after_item` meets its contract: the item after, by the words that are full.
 use native.Mathlib.Omega.{arith}
-use Rattle.filling.proofs.Span.{after-one-low, after-one-middle, after-one-high, high-room}
+use Rattle.sampling.proofs.Span.{after-one-low, after-one-middle, after-one-high, high-room}
 use Rattle.filling.proofs.after_item.Statement.{statement}
 use Rattle.filling.proofs.after_item.Tie as tie
 

@@ -1,6 +1,6 @@
 -- `filling::bound_at` meets its contract: the bound is three words.
 use native.Mathlib.Omega.{arith}
-use Rattle.filling.proofs.Bounds.{bound-read}
+use Rattle.sampling.proofs.Bounds.{bound-read}
 use Rattle.filling.proofs.bound_at.Statement.{statement}
 use Rattle.filling.proofs.bound_at.Tie as tie
 

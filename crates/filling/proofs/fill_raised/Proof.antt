@@ -3,8 +3,8 @@ use native.Mathlib.Omega.{arith}
 use Prim.Native.Nat.{_+_}
 use mathlib.Core.Path.{refl, sym, _∙_}
 use lib.ListN.{length}
-use Rattle.filling.proofs.Filling.{filled-length}
-use Rattle.filling.proofs.Tables.{fits-tells, none-put, raised-none, raised-some, raised-put}
+use Rattle.sampling.proofs.Filling.{filled-length}
+use Rattle.sampling.proofs.Tables.{fits-tells, none-put, raised-none, raised-some, raised-put}
 use borrow.Author.Needs.{needs}
 use Rattle.filling.proofs.fill_raised.Statement.{statement}
 use Rattle.filling.proofs.fill_raised.Tie as tie

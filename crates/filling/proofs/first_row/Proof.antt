@@ -1,6 +1,6 @@
 -- `filling::first_row` meets its contract: row 1 is at the first item of all.
 use native.Mathlib.Omega.{arith}
-use Rattle.filling.proofs.Span.{first-at-once, first-after-one}
+use Rattle.sampling.proofs.Span.{first-at-once, first-after-one}
 use Rattle.filling.proofs.first_row.Statement.{statement}
 use Rattle.filling.proofs.first_row.Tie as tie
 

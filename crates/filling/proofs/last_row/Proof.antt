@@ -1,8 +1,8 @@
 -- `filling::last_row` meets its contract: nothing follows the top item, and after any other one there is a row more.
 use native.Mathlib.Omega.{arith}
 use mathlib.Core.Path.{refl}
-use Rattle.filling.proofs.Span.{below-top, last-none, last-more}
-use Rattle.filling.specs.MethodRows.{boundOf}
+use Rattle.sampling.proofs.Span.{below-top, last-none, last-more}
+use Rattle.sampling.specs.MethodRows.{boundOf}
 use Rattle.filling.proofs.last_row.Statement.{statement}
 use Rattle.filling.proofs.last_row.Tie as tie
 

@@ -1,6 +1,6 @@
 -- `filling::next_bound` meets its contract: the smaller of the two next bounds, or the only one.
 use native.Mathlib.Omega.{arith}
-use Rattle.filling.proofs.Bounds.{turn-first, turn-second, turn-lower, turn-upper}
+use Rattle.sampling.proofs.Bounds.{turn-first, turn-second, turn-lower, turn-upper}
 use Rattle.filling.proofs.next_bound.Statement.{statement}
 use Rattle.filling.proofs.next_bound.Tie as tie
 

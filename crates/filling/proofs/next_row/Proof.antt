@@ -1,7 +1,7 @@
 -- `filling::next_row` meets its contract: a row more, where the bound is above the last one's.
 use native.Mathlib.Omega.{arith}
 use mathlib.Core.Path.{refl}
-use Rattle.filling.proofs.Bounds.{row-same, row-more}
+use Rattle.sampling.proofs.Bounds.{row-same, row-more}
 use Rattle.filling.proofs.next_row.Statement.{statement}
 use Rattle.filling.proofs.next_row.Tie as tie
 

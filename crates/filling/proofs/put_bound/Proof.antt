@@ -1,6 +1,6 @@
 -- `filling::put_bound` meets its contract: the three words of the row.
 use native.Mathlib.Omega.{arith}
-use Rattle.filling.proofs.Bounds.{put-is}
+use Rattle.sampling.proofs.Bounds.{put-is}
 use lib.ListN.{length-set}
 use Rattle.filling.proofs.put_bound.Statement.{statement}
 use Rattle.filling.proofs.put_bound.Tie as tie

@@ -3,8 +3,8 @@ use native.Mathlib.Omega.{arith}
 use Prim.Native.Nat.{_+_, _-_, _*_, _^_, _≤_, _<_}
 use mathlib.Core.Path.{_≡_, refl, _∙_}
 use lib.ListN.{length}
-use Rattle.filling.specs.MethodRows.{itemOf, rowsOf, stoppedFrom}
-use Rattle.filling.proofs.Bounds.{stop-starts, stop-ends, stop-last, stop-next, stop-whole}
+use Rattle.sampling.specs.MethodRows.{itemOf, rowsOf, stoppedFrom}
+use Rattle.sampling.proofs.Bounds.{stop-starts, stop-ends, stop-last, stop-next, stop-whole}
 use Rattle.filling.proofs.stops.Statement.{statement}
 use Rattle.filling.proofs.stops.Tie as tie
 

@@ -23,7 +23,7 @@ use Rattle.ticks.proofs.Equality.{exact?, eqb-exact}
 use Rattle.ticks.proofs.Unique.{distinct-get}
 use Rattle.tables.specs.MethodWords.{idAt}
 use Rattle.loading.specs.Method.{Unlike, Columns, Added}
-use Rattle.filling.specs.MethodColumns.{findFrom, columnOf, putId, Join, joinOf, joined, ColumnList, columnsOf, keyed, mappedFrom, mapped}
+use Rattle.sampling.specs.MethodColumns.{findFrom, columnOf, putId, Join, joinOf, joined, ColumnList, columnsOf, keyed, mappedFrom, mapped}
 
 -- P gives the id of a column before a step, Q after it
 

@@ -23,19 +23,19 @@ use Rattle.loading.specs.Method.{Unlike, Columns, Added, Stops}
 use Rattle.loading.proofs.Sampling.{sampled-normalise, sampled-merge, sampled-project, sampled-raise, columns-later}
 use Rattle.lookup.specs.declared.Cursor.{Cursor}
 use Rattle.lookup.specs.Method.{Open}
-use Rattle.filling.specs.declared.Bound.{Bound}
-use Rattle.filling.specs.declared.Filled.{Filled}
-use Rattle.filling.specs.MethodColumns.{Join, joinOf, ColumnList, columnsOf, joined, mapped}
-use Rattle.filling.specs.MethodRows.{itemOf, InWords, firstItem, topItem, RowList, rowsOf, stopped, firstRow, lastRow}
-use Rattle.filling.specs.MethodCells.{filled, columnSet}
-use Rattle.filling.specs.MethodTables.{atMost, fits, Table, tableOf, filledOf, noTable, noKeys, oneFilled, oneTable, twoFilled, twoTable}
-use Rattle.filling.specs.MethodTables.{spanFilled, spanTable, raisedFilled, raisedTable, TableRoom, Samples}
-use Rattle.filling.proofs.Columns.{Kept, mapped-added, joined-facts, added-one}
-use Rattle.filling.proofs.Bounds.{boundsAt, StopFacts, stopped-stops}
-use Rattle.filling.proofs.Filling.{Fills, fillable, filled-fills, column-set}
-use Rattle.filling.proofs.Scratch.{zeros-length}
-use Rattle.filling.proofs.Opening.{opened-ids, opened-count, opened-bounds, ids-asked, bounds-asked, nothing-asked, bounds-none}
-use Rattle.filling.proofs.Span.{top-words, zero-words, first-facts, zero-stays, last-facts}
+use Rattle.sampling.specs.declared.Bound.{Bound}
+use Rattle.sampling.specs.declared.Filled.{Filled}
+use Rattle.sampling.specs.MethodColumns.{Join, joinOf, ColumnList, columnsOf, joined, mapped}
+use Rattle.sampling.specs.MethodRows.{itemOf, InWords, firstItem, topItem, RowList, rowsOf, stopped, firstRow, lastRow}
+use Rattle.sampling.specs.MethodCells.{filled, columnSet}
+use Rattle.sampling.specs.MethodTables.{atMost, fits, Table, tableOf, filledOf, noTable, noKeys, oneFilled, oneTable, twoFilled, twoTable}
+use Rattle.sampling.specs.MethodTables.{spanFilled, spanTable, raisedFilled, raisedTable, TableRoom, Samples}
+use Rattle.sampling.proofs.Columns.{Kept, mapped-added, joined-facts, added-one}
+use Rattle.sampling.proofs.Bounds.{boundsAt, StopFacts, stopped-stops}
+use Rattle.sampling.proofs.Filling.{Fills, fillable, filled-fills, column-set}
+use Rattle.sampling.proofs.Scratch.{zeros-length}
+use Rattle.sampling.proofs.Opening.{opened-ids, opened-count, opened-bounds, ids-asked, bounds-asked, nothing-asked, bounds-none}
+use Rattle.sampling.proofs.Span.{top-words, zero-words, first-facts, zero-stays, last-facts}
 
 -- The test at the start
 

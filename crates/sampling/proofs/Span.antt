@@ -19,10 +19,10 @@ use Rattle.ticks.specs.Meaning.{highest}
 use Rattle.ticks.proofs.Lists.{order, less, same, more}
 use Rattle.ticks.proofs.Equality.{exact?, eqb-exact}
 use Rattle.loading.specs.Method.{Stops, Begins, at-once, after-one, Ends, at-top, with-one}
-use Rattle.filling.specs.declared.Bound.{Bound}
-use Rattle.filling.specs.MethodRows.{boundOf, itemOf, InWords, boundRead, topWord, firstItem, topItem, putBound, RowList, rowsOf, rowMore, firstRow, after, lastRow}
-use Rattle.filling.proofs.Columns.{Kept, Put}
-use Rattle.filling.proofs.Bounds.{bound-put, put-size}
+use Rattle.sampling.specs.declared.Bound.{Bound}
+use Rattle.sampling.specs.MethodRows.{boundOf, itemOf, InWords, boundRead, topWord, firstItem, topItem, putBound, RowList, rowsOf, rowMore, firstRow, after, lastRow}
+use Rattle.sampling.proofs.Columns.{Kept, Put}
+use Rattle.sampling.proofs.Bounds.{bound-put, put-size}
 use Rattle.tables.specs.MethodWords.{boundAt}
 
 pub top-words : itemOf topItem ≡ highest

@@ -21,7 +21,7 @@ use Rattle.tables.specs.MethodWords.{stride, cell}
 use Rattle.loading.specs.Method.{Unlike, Columns}
 use Rattle.lookup.specs.Method.{There, elementAt, elementsHere}
 use Rattle.lookup.proofs.Loops.{here-is, elements-zero, elements-cons}
-use Rattle.filling.specs.MethodCells.{raisedTo, raisedIn, raisedBy}
+use Rattle.sampling.specs.MethodCells.{raisedTo, raisedIn, raisedBy}
 
 -- a key of a clock vector has a column of a row
 abbrev pub InRow : List ℕ → Element → Type 0

@@ -18,8 +18,8 @@ use Rattle.loading.specs.Method.{Unlike, Columns, Stops, Raised, Set}
 use Rattle.lookup.specs.declared.Cursor.{Cursor}
 use Rattle.lookup.specs.Method.{advanced, elementsHere, Open}
 use Rattle.lookup.proofs.Leaf.{read-lawful, Stands, stands-start, stands-advanced, stands-elements}
-use Rattle.filling.specs.MethodCells.{raisedBy, filledFrom, filled, columnSetFrom, columnSet}
-use Rattle.filling.proofs.Cells.{InRow, by-size, by-row, row-cell, row-columns}
+use Rattle.sampling.specs.MethodCells.{raisedBy, filledFrom, filled, columnSetFrom, columnSet}
+use Rattle.sampling.proofs.Cells.{InRow, by-size, by-row, row-cell, row-columns}
 
 -- what the filling of rows from accepted bytes needs: a column for each replica, and rows whose bounds rise, all there
 pub record Fillable (s keys bounds : List ℕ) (from top : ℕ) (t : List ℕ) : Type 0 where

@@ -4,7 +4,7 @@ use mathlib.Core.Path.{_≡_, refl}
 use native.Mathlib.Omega.{arith}
 use lib.ListN.{length, getD, replicate}
 use Rattle.tables.specs.MethodWords.{stride, mostRows, cell}
-use Rattle.filling.specs.MethodTables.{TableRoom}
+use Rattle.sampling.specs.MethodTables.{TableRoom}
 
 pub zeros-length : (n : ℕ) → length (replicate {A = ℕ} n 0) ≡ n
 zeros-length zero = refl

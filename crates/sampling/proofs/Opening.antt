@@ -17,7 +17,7 @@ use Rattle.layout.proofs.Places.{Reading, Places, places, ids-length}
 use Rattle.lookup.specs.declared.Cursor.{Cursor}
 use Rattle.lookup.specs.Method.{startAt, Opens, Open}
 use Rattle.lookup.proofs.Leaf.{opens-reading, read-lawful, read-ids, read-ranges, ids-room}
-use Rattle.filling.proofs.Bounds.{boundsAt, bounds-size}
+use Rattle.sampling.proofs.Bounds.{boundsAt, bounds-size}
 
 pub bounds-none : (s : List ℕ) (at : ℕ) → boundsAt s 0 at ≡ []
 unfolding rangesAt bounds

@@ -6,8 +6,8 @@ use Rattle.codec.specs.Number.{beAt}
 use Rattle.codec.specs.Total.{readAt}
 use Rattle.codec.specs.Words.{words3}
 use Rattle.tables.specs.MethodWords.{boundAt}
-use Rattle.filling.specs.declared.Bound.{Bound}
-use Rattle.filling.specs.declared.Turn.{Turn}
+use Rattle.sampling.specs.declared.Bound.{Bound}
+use Rattle.sampling.specs.declared.Turn.{Turn}
 
 abbrev pub boundOf : ℕ → ℕ → ℕ → Bound
 boundOf x y z = record { high = x; middle = y; low = z }

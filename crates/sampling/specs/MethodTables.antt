@@ -7,11 +7,11 @@ use Rattle.layout.specs.MethodPlaces.{idsPlace}
 use Rattle.tables.specs.MethodWords.{stride, mostRows, cell, idAt, boundAt}
 use Rattle.tables.specs.MethodPlan.{Sampled}
 use Rattle.lookup.specs.declared.Cursor.{Cursor}
-use Rattle.filling.specs.declared.Bound.{Bound}
-use Rattle.filling.specs.declared.Filled.{Filled}
-use Rattle.filling.specs.MethodColumns.{joined, mapped}
-use Rattle.filling.specs.MethodRows.{firstItem, topItem, stopped, firstRow, lastRow}
-use Rattle.filling.specs.MethodCells.{filled, columnSet}
+use Rattle.sampling.specs.declared.Bound.{Bound}
+use Rattle.sampling.specs.declared.Filled.{Filled}
+use Rattle.sampling.specs.MethodColumns.{joined, mapped}
+use Rattle.sampling.specs.MethodRows.{firstItem, topItem, stopped, firstRow, lastRow}
+use Rattle.sampling.specs.MethodCells.{filled, columnSet}
 
 -- What is filled
 

@@ -23,10 +23,10 @@ use Rattle.ticks.proofs.Lists.{less, same, more, order}
 use Rattle.ticks.proofs.Counts.{bounds-length}
 use Rattle.tables.specs.MethodWords.{boundAt}
 use Rattle.loading.specs.Method.{Stops}
-use Rattle.filling.specs.declared.Bound.{Bound}
-use Rattle.filling.specs.declared.Turn.{Turn}
-use Rattle.filling.specs.MethodRows.{boundOf, itemOf, boundIn, turnOf, turn, putBound, RowList, rowsOf, rowMore, grown, stoppedFrom, stopped}
-use Rattle.filling.proofs.Columns.{Kept, Put}
+use Rattle.sampling.specs.declared.Bound.{Bound}
+use Rattle.sampling.specs.declared.Turn.{Turn}
+use Rattle.sampling.specs.MethodRows.{boundOf, itemOf, boundIn, turnOf, turn, putBound, RowList, rowsOf, rowMore, grown, stoppedFrom, stopped}
+use Rattle.sampling.proofs.Columns.{Kept, Put}
 
 -- B gives the bound of a row before a step, C after it; X and Y are lists of bounds
 
