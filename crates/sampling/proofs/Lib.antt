@@ -6,4 +6,5 @@ pub mod Filling
 pub mod Scratch
 pub mod Opening
 pub mod Span
+pub mod Stops
 pub mod Tables

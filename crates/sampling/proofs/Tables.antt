@@ -27,71 +27,25 @@ use Rattle.sampling.specs.declared.Bound.{Bound}
 use Rattle.sampling.specs.declared.Filled.{Filled}
 use Rattle.sampling.specs.MethodColumns.{Join, joinOf, ColumnList, columnsOf, joined, mapped}
 use Rattle.sampling.specs.MethodRows.{itemOf, InWords, firstItem, topItem, RowList, rowsOf, stopped, firstRow, lastRow}
+use Rattle.sampling.specs.MethodStops.{atMost, allStopped, SpanList, spanOf, spanned, spanStopped}
 use Rattle.sampling.specs.MethodCells.{filled, columnSet}
-use Rattle.sampling.specs.MethodTables.{atMost, fits, Table, tableOf, filledOf, noTable, noKeys, oneFilled, oneTable, twoFilled, twoTable}
+use Rattle.sampling.specs.MethodTables.{fits, Fits, Table, tableOf, filledOf, noTable, noKeys, oneFilled, oneTable, twoFilled, twoTable}
 use Rattle.sampling.specs.MethodTables.{spanFilled, spanTable, raisedFilled, raisedTable, TableRoom, Samples}
 use Rattle.sampling.proofs.Columns.{Kept, mapped-added, joined-facts, added-one}
 use Rattle.sampling.proofs.Bounds.{boundsAt, StopFacts, stopped-stops}
 use Rattle.sampling.proofs.Filling.{Fills, fillable, filled-fills, column-set}
+use Rattle.sampling.proofs.Stops.{most-not, most-next, last-is, all-most, most-all, stopped-is, spanned-is}
 use Rattle.sampling.proofs.Scratch.{zeros-length}
 use Rattle.sampling.proofs.Opening.{opened-ids, opened-count, opened-bounds, ids-asked, bounds-asked, nothing-asked, bounds-none}
 use Rattle.sampling.proofs.Span.{top-words, zero-words, first-facts, zero-stays, last-facts}
 
 -- The test at the start
 
-abbrev Le : ℕ × ℕ → Type 0
-Le x = x .0 ≤ x .1
-
-module _ (x : ℕ × ℕ) (xs : List (ℕ × ℕ)) where
-  most-not : x .1 < x .0 → false ≡ atMost (x ∷ xs)
-  unfolding atMost
-  most-not h = rw (lt-leb (x .0) (x .1) h, atMost)
-
-  most-next : x .0 ≤ x .1 → atMost xs ≡ atMost (x ∷ xs)
-  unfolding atMost
-  most-next h = rw (le-leb (x .0) (x .1) h, atMost)
-
-most-none : atMost [] ≡ true
-unfolding atMost
-most-none = refl
-
-last-is : (x : ℕ × ℕ) → leb (x .0) (x .1) ≡ atMost (x ∷ [])
-last-is x =
-    elim (order (x .0) (x .1)) [
-      | less h ↦ le-leb (x .0) (x .1) (omega arith) ∙ sym most-none ∙ most-next x [] (omega arith)
-      | same h ↦ le-leb (x .0) (x .1) (omega arith) ∙ sym most-none ∙ most-next x [] (omega arith)
-      | more h ↦ lt-leb (x .0) (x .1) h ∙ most-not x [] h
-    ]
-
-all-most : (xs : List (ℕ × ℕ)) → All Le xs → atMost xs ≡ true
-all-most [] a = most-none
-all-most (x ∷ xs) a = sym (most-next x xs (a .0)) ∙ all-most xs (a .1)
-
-most-all : (xs : List (ℕ × ℕ)) → atMost xs ≡ true → All Le xs
-most-all [] e = tt
-most-all (x ∷ xs) e =
-    elim (order (x .0) (x .1)) [
-      | less h ↦ (omega arith, most-all xs (most-next x xs (omega arith) ∙ e))
-      | same h ↦ (omega arith, most-all xs (most-next x xs (omega arith) ∙ e))
-      | more h ↦ clash (atMost (x ∷ xs)) e (sym (most-not x xs h))
-    ]
-
--- all of it, with names
-pub record Fits (s : List ℕ) (r : ℕ) (c : Cursor) (m n ids bounds t : ℕ) : Type 0 where
-  pub small : r ≤ largestReplicas
-  pub map : idsPlace + 16 * r ≤ length s
-  pub ranges : c .next + 28 * c .left ≤ length s
-  pub columns : m ≤ stride
-  pub rows : n < mostRows
-  pub idWords : 2 * m ≤ ids
-  pub boundWords : 3 * suc n ≤ bounds
-  pub cells : stride * suc n ≤ t
-
 module _ (s : List ℕ) (r : ℕ) (c : Cursor) (m n ids bounds' t : ℕ) where
-  pub fits-tells : fits s r c m n ids bounds' t ≡ true → Fits s r c m n ids bounds' t
+  pub fits-tells : (b : Bool) → b ≡ fits s r c m n ids bounds' t → b ≡ true → Fits s r c m n ids bounds' t
   unfolding fits
-  fits-tells e =
-      let a = most-all _ e in
+  fits-tells b is e =
+      let a = most-all _ (sym is ∙ e) in
       record {
         small = a .0;
         map = a .1 .0;
@@ -149,6 +103,21 @@ module _ (s : List ℕ) (r : ℕ) (c : Cursor) (m n ids bounds' t : ℕ) where
   unfolding fits
   fits-holds h =
       all-most _ (h .small, (h .map, (h .ranges, (h .columns, (h .rows, (h .idWords, (h .boundWords, (h .cells, tt))))))))
+
+-- with fewer columns
+pub fits-fewer : (s : List ℕ) (r : ℕ) (c : Cursor) (m n ids bounds' t : ℕ) → Fits s r c m n ids bounds' t → (k : ℕ) → k ≤ m
+    → Fits s r c k n ids bounds' t
+fits-fewer s r c m n ids bounds' t h k l =
+    record {
+      small = h .small;
+      map = h .map;
+      ranges = h .ranges;
+      columns = omega (arith, h .columns);
+      rows = h .rows;
+      idWords = omega (arith, h .idWords);
+      boundWords = h .boundWords;
+      cells = h .cells;
+    }
 
 -- accepted bytes and room
 fits-open : (s : List ℕ) (r : ℕ) (c : Cursor) (m n : ℕ) (ids bounds' t : List ℕ) → Open s r c → TableRoom m n ids bounds' t
@@ -217,62 +186,71 @@ module _ (s : List ℕ) (r : ℕ) (c : Cursor) (ids bounds' t : List ℕ) where
 
 -- as code puts them together
 
-module _ (s : List ℕ) (r : ℕ) (c : Cursor) (ids bounds' t ids' keys' : List ℕ) (m : ℕ)
-    (add : columnsOf ids' m keys' ≡ mapped s r ids 0 noKeys) where
-  module _ (u : List ℕ) (top : ℕ)
-      (stops : rowsOf u top ≡ stopped s (c .left) (c .next) s 0 (c .next) firstItem topItem bounds' 1) where
-    pub one-put : (t' : List ℕ) → t' ≡ filled s r c keys' u 1 top t → tableOf ids' u t' (filledOf m top) ≡ oneFilled s r c ids bounds' t
+module _ (s : List ℕ) (r : ℕ) (c : Cursor) (ids bounds' t ids' : List ℕ) (m : ℕ) where
+  module _ (keys' : List ℕ) (add : columnsOf ids' m keys' ≡ mapped s r ids 0 noKeys) where
+    pub one-put : (u : List ℕ) (top : ℕ) → rowsOf u top ≡ allStopped s c s 0 (c .next) bounds'
+        → Fits s r c r (c .left + 1) (length ids) (length bounds') (length t) → (t' : List ℕ) → t' ≡ filled s r c keys' u 1 top t
+        → tableOf ids' u t' (filledOf m top) ≡ oneFilled s r c ids bounds' t
     unfolding oneFilled
-    one-put t' fill =
+    one-put u top stops h t' fill =
         ap (λ (v : List ℕ). tableOf ids' u v (filledOf m top)) fill
         ∙ ap₂ (λ (x : ColumnList) (y : RowList).
-        tableOf (x .ids) (y .bounds) (filled s r c (x .keys) (y .bounds) 1 (y .top) t) (filledOf (x .count) (y .top))) add stops
+        tableOf (x .ids) (y .bounds) (filled s r c (x .keys) (y .bounds) 1 (y .top) t) (filledOf (x .count) (y .top))) add
+        (stops ∙ stopped-is s c s 0 (c .next) bounds' (record {
+          ranges = h .ranges;
+          others = omega (arith, h .ranges);
+          rows = omega (arith, h .rows);
+          boundWords = omega (arith, h .boundWords);
+        }))
 
-    pub raised-put : (p0 p1 tick : ℕ) (ids'' : List ℕ) (column n : ℕ) → joinOf ids'' column n ≡ joined ids' m m p0 p1 → (t' t'' : List ℕ)
-        → t' ≡ filled s r c keys' u 1 top t → t'' ≡ columnSet column tick 1 top t'
-        → tableOf ids'' u t'' (filledOf n top) ≡ raisedFilled s r c p0 p1 tick ids bounds' t
-    unfolding raisedFilled
-    raised-put p0 p1 tick ids'' column n own t' t'' fill set-own =
-        ap (λ (v : List ℕ). tableOf ids'' u v (filledOf n top)) (set-own ∙ ap (columnSet column tick 1 top) fill)
-        ∙ ap (λ (j : Join). tableOf (j .ids) u (columnSet (j .column) tick 1 top (filled s r c keys' u 1 top t)) (filledOf (j .count) top)) own
-        ∙ ap₂ (λ (x : ColumnList) (y : RowList). raisedBy x y) add stops
-      where
-        raisedBy : ColumnList → RowList → Table
-        raisedBy x y =
-            let j = joined (x .ids) (x .count) (x .count) p0 p1 in
-            tableOf (j .ids) (y .bounds)
-            (columnSet (j .column) tick 1 (y .top) (filled s r c (x .keys) (y .bounds) 1 (y .top) t)) (filledOf (j .count) (y .top))
+    pub span-put : (first last : Bound) (u : List ℕ) (from top rows : ℕ) → spanOf u from top rows ≡ spanStopped s c first last bounds'
+        → Fits s r c r (c .left + 3) (length ids) (length bounds') (length t) → (t' : List ℕ) → t' ≡ filled s r c keys' u from top t
+        → tableOf ids' u t' (filledOf m rows) ≡ spanFilled s r c first last ids bounds' t
+    unfolding spanFilled
+    span-put first last u from top rows stops h t' fill =
+        ap (λ (v : List ℕ). tableOf ids' u v (filledOf m rows)) fill
+        ∙ ap₂ (λ (x : ColumnList) (y : SpanList).
+        tableOf (x .ids) (y .bounds) (filled s r c (x .keys) (y .bounds) (y .from) (y .top) t) (filledOf (x .count) (y .rows))) add
+        (stops ∙ spanned-is s c first last bounds' (record {
+          ranges = h .ranges;
+          others = omega (arith, h .ranges);
+          rows = omega (arith, h .rows);
+          boundWords = omega (arith, h .boundWords);
+        }))
 
-  pub span-put : (first last : Bound) (u v w : List ℕ) (from top rows : ℕ) → rowsOf u from ≡ firstRow bounds' first
-      → rowsOf v top ≡ stopped s (c .left) (c .next) s 0 (c .next) first last u from → rowsOf w rows ≡ lastRow (rowsOf v top) last
-      → (t' : List ℕ) → t' ≡ filled s r c keys' w from top t → tableOf ids' w t' (filledOf m rows) ≡ spanFilled s r c first last ids bounds' t
-  unfolding spanFilled
-  span-put first last u v w from top rows begin stops end t' fill =
-      ap (λ (x : List ℕ). tableOf ids' w x (filledOf m rows)) fill
-      ∙ ap (λ (x : ColumnList). tableOf (x .ids) w (filled s r c (x .keys) w from top t) (filledOf (x .count) rows)) add
-      ∙ ap (λ (z : RowList). tableOf (x .ids) (z .bounds) (filled s r c (x .keys) (z .bounds) from top t) (filledOf (x .count) (z .top))) end
-      ∙ ap (λ (y : RowList).
-      let z = lastRow y last in
-      tableOf (x .ids) (z .bounds) (filled s r c (x .keys) (z .bounds) from (y .top) t) (filledOf (x .count) (z .top))) stops
-      ∙ ap (λ (f : RowList).
-      let y = stopped s (c .left) (c .next) s 0 (c .next) first last (f .bounds) (f .top) in
-      let z = lastRow y last in
-      tableOf (x .ids) (z .bounds) (filled s r c (x .keys) (z .bounds) (f .top) (y .top) t) (filledOf (x .count) (z .top))) begin
-    where
-      x : ColumnList
-      x = mapped s r ids 0 noKeys
+  -- on the table of one knowledge
+  pub raised-put : (p0 p1 tick : ℕ) (u t' : List ℕ) (top : ℕ) → tableOf ids' u t' (filledOf m top) ≡ oneFilled s r c ids bounds' t
+      → (ids'' : List ℕ) (column n : ℕ) → joinOf ids'' column n ≡ joined ids' m m p0 p1 → (t'' : List ℕ) → t'' ≡ columnSet column tick 1 top t'
+      → tableOf ids'' u t'' (filledOf n top) ≡ raisedFilled s r c p0 p1 tick ids bounds' t
+  unfolding oneFilled raisedFilled
+  raised-put p0 p1 tick u t' top one ids'' column n own t'' set-own =
+      ap (λ (v : List ℕ). tableOf ids'' u v (filledOf n top)) set-own
+      ∙ ap (λ (j : Join). tableOf (j .ids) u (columnSet (j .column) tick 1 top t') (filledOf (j .count) top)) own
+      ∙ ap (λ (x : Table).
+      let j = joined (x .ids) (x .filled .columns) (x .filled .columns) p0 p1 in
+      tableOf (j .ids) (x .bounds) (columnSet (j .column) tick 1 (x .filled .rows) (x .t)) (filledOf (j .count) (x .filled .rows))) one
 
+module _ (s : List ℕ) (r : ℕ) (c : Cursor) (ids bounds' t ids' keys' : List ℕ) (m : ℕ)
+    (add : columnsOf ids' m keys' ≡ mapped s r ids 0 noKeys) where
   pub two-put : (other : List ℕ) (n : ℕ) (d : Cursor) (ids'' others u : List ℕ) (k top : ℕ) → columnsOf ids'' k others ≡ mapped other n ids' m noKeys
-      → rowsOf u top ≡ stopped s (c .left) (c .next) other (d .left) (d .next) firstItem topItem bounds' 1 → (t' t'' : List ℕ)
+      → rowsOf u top ≡ allStopped s c other (d .left) (d .next) bounds'
+      → Fits s r c (r + n) (c .left + d .left + 1) (length ids) (length bounds') (length t)
+      → Fits other n d (r + n) (c .left + d .left + 1) (length ids) (length bounds') (length t) → (t' t'' : List ℕ)
       → t' ≡ filled s r c keys' u 1 top t → t'' ≡ filled other n d others u 1 top t'
       → tableOf ids'' u t'' (filledOf k top) ≡ twoFilled s r c other n d ids bounds' t
   unfolding twoFilled
-  two-put other n d ids'' others u k top more-ids stops t' t'' fill fill' =
+  two-put other n d ids'' others u k top more-ids stops h i t' t'' fill fill' =
       ap (λ (v : List ℕ). tableOf ids'' u v (filledOf k top)) (fill' ∙ ap (filled other n d others u 1 top) fill)
       ∙ ap₂ (λ (z : ColumnList) (y : RowList).
       tableOf (z .ids) (y .bounds)
       (filled other n d (z .keys) (y .bounds) 1 (y .top) (filled s r c keys' (y .bounds) 1 (y .top) t)) (filledOf (z .count) (y .top)))
-      more-ids stops
+      more-ids
+      (stops ∙ stopped-is s c other (d .left) (d .next) bounds' (record {
+        ranges = h .ranges;
+        others = i .ranges;
+        rows = h .rows;
+        boundWords = h .boundWords;
+      }))
       ∙ ap (λ (x : ColumnList).
       let z = mapped other n (x .ids) (x .count) noKeys in
       let y = stopped s (c .left) (c .next) other (d .left) (d .next) firstItem topItem bounds' 1 in
@@ -426,7 +404,7 @@ pub span-samples : (s : List ℕ) (r : ℕ) (c : Cursor) (first last : Bound) (i
     → tableOf ids' bounds'' t' q ≡ spanTable s r c first last ids bounds' t → Open s r c → TableRoom r (c .left + 3) ids bounds' t
     → InWords last → itemOf first ≤ itemOf last
     → Samples ids' bounds'' t' r (c .left + 3) (knownInside (itemOf first) (itemOf last) (decode s)) q
-unfolding spanFilled
+unfolding spanFilled spanned
 span-samples s r c first last ids bounds' t ids' bounds'' t' q e o room words span =
     let x = mapped s r ids 0 noKeys in
     let m = map-columns s r c o ids 0 (omega (arith, room .idWords)) in

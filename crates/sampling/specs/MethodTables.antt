@@ -1,6 +1,6 @@
 -- The tables that are filled, for any bytes, any counts and any lists. There is nothing to believe here: the laws say that a table from
 -- accepted bytes, with room for it, samples the ticks of its operation.
-use Rattle.codec.specs.Prelude.{ℕ, suc, _+_, _*_, _≤_, _<_, _≡_, Bool, true, false, List, [], _∷_, leb, length}
+use Rattle.codec.specs.Prelude.{ℕ, suc, _+_, _*_, _≤_, _<_, _≡_, Bool, true, false, List, [], _∷_, length}
 use lib.ListN.{replicate}
 use Rattle.layout.specs.Permitted.{largestReplicas}
 use Rattle.layout.specs.MethodPlaces.{idsPlace}
@@ -10,15 +10,11 @@ use Rattle.lookup.specs.declared.Cursor.{Cursor}
 use Rattle.sampling.specs.declared.Bound.{Bound}
 use Rattle.sampling.specs.declared.Filled.{Filled}
 use Rattle.sampling.specs.MethodColumns.{joined, mapped}
-use Rattle.sampling.specs.MethodRows.{firstItem, topItem, stopped, firstRow, lastRow}
+use Rattle.sampling.specs.MethodRows.{firstItem, topItem, stopped}
+use Rattle.sampling.specs.MethodStops.{atMost, spanned}
 use Rattle.sampling.specs.MethodCells.{filled, columnSet}
 
 -- What is filled
-
--- are all first numbers at most the second ones
-unfoldable pub atMost : List (ℕ × ℕ) → Bool
-atMost [] = true
-atMost (x ∷ xs) = elim (leb (x .0) (x .1)) [ true ↦ atMost xs | false ↦ false ]
 
 -- are the ids and the ranges of r replicas and a cursor all in the bytes, and is there room for m columns and the rows up to n, in lists
 -- of the given lengths
@@ -26,6 +22,17 @@ unfoldable pub fits : List ℕ → ℕ → Cursor → ℕ → ℕ → ℕ → �
 fits s r c m n ids bounds t =
     atMost ((r, largestReplicas) ∷ (idsPlace + 16 * r, length s) ∷ (c .next + 28 * c .left, length s)
     ∷ (m, stride) ∷ (suc n, mostRows) ∷ (2 * m, ids) ∷ (3 * suc n, bounds) ∷ (stride * suc n, t) ∷ [])
+
+-- all of it, with names
+pub record Fits (s : List ℕ) (r : ℕ) (c : Cursor) (m n ids bounds t : ℕ) : Type 0 where
+  pub small : r ≤ largestReplicas
+  pub map : idsPlace + 16 * r ≤ length s
+  pub ranges : c .next + 28 * c .left ≤ length s
+  pub columns : m ≤ stride
+  pub rows : n < mostRows
+  pub idWords : 2 * m ≤ ids
+  pub boundWords : 3 * suc n ≤ bounds
+  pub cells : stride * suc n ≤ t
 
 -- Tables
 
@@ -87,10 +94,8 @@ twoTable s r start other m begin ids bounds t =
 unfoldable pub spanFilled : List ℕ → ℕ → Cursor → Bound → Bound → List ℕ → List ℕ → List ℕ → Table
 spanFilled s r start first last ids bounds t =
     let x = mapped s r ids 0 noKeys in
-    let f = firstRow bounds first in
-    let y = stopped s (start .left) (start .next) s 0 (start .next) first last (f .bounds) (f .top) in
-    let z = lastRow y last in
-    tableOf (x .ids) (z .bounds) (filled s r start (x .keys) (z .bounds) (f .top) (y .top) t) (filledOf (x .count) (z .top))
+    let y = spanned s start first last bounds in
+    tableOf (x .ids) (y .bounds) (filled s r start (x .keys) (y .bounds) (y .from) (y .top) t) (filledOf (x .count) (y .rows))
 
 unfoldable pub spanTable : List ℕ → ℕ → Cursor → Bound → Bound → List ℕ → List ℕ → List ℕ → Table
 spanTable s r start first last ids bounds t =

@@ -1,9 +1,9 @@
--- `filling::put_bound` meets its contract: the three words of the row.
+-- `stopping::put_bound` meets its contract: the three words of the row.
 use native.Mathlib.Omega.{arith}
 use Rattle.sampling.proofs.Bounds.{put-is}
 use lib.ListN.{length-set}
-use Rattle.filling.proofs.put_bound.Statement.{statement}
-use Rattle.filling.proofs.put_bound.Tie as tie
+use Rattle.stopping.proofs.put_bound.Statement.{statement}
+use Rattle.stopping.proofs.put_bound.Tie as tie
 
 mul-i : tie.Need-mul-i
 mul-i c = omega arith

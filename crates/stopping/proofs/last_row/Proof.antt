@@ -1,10 +1,10 @@
--- `filling::last_row` meets its contract: nothing follows the top item, and after any other one there is a row more.
+-- `stopping::last_row` meets its contract: nothing follows the top item, and after any other one there is a row more.
 use native.Mathlib.Omega.{arith}
 use mathlib.Core.Path.{refl}
 use Rattle.sampling.proofs.Span.{below-top, last-none, last-more}
 use Rattle.sampling.specs.MethodRows.{boundOf}
-use Rattle.filling.proofs.last_row.Statement.{statement}
-use Rattle.filling.proofs.last_row.Tie as tie
+use Rattle.stopping.proofs.last_row.Statement.{statement}
+use Rattle.stopping.proofs.last_row.Tie as tie
 
 same3-requires : tie.Need-same3-requires
 same3-requires c κs = tt

@@ -1,12 +1,12 @@
--- `filling::stops` meets its contract. The loop's invariant: the rows are still to be put at the bounds that are left.
+-- `stopping::stops` meets its contract. The loop's invariant: the rows are still to be put at the bounds that are left.
 use native.Mathlib.Omega.{arith}
 use Prim.Native.Nat.{_+_, _-_, _*_, _^_, _≤_, _<_}
 use mathlib.Core.Path.{_≡_, refl, _∙_}
 use lib.ListN.{length}
 use Rattle.sampling.specs.MethodRows.{itemOf, rowsOf, stoppedFrom}
 use Rattle.sampling.proofs.Bounds.{stop-starts, stop-ends, stop-last, stop-next, stop-whole}
-use Rattle.filling.proofs.stops.Statement.{statement}
-use Rattle.filling.proofs.stops.Tie as tie
+use Rattle.stopping.proofs.stops.Statement.{statement}
+use Rattle.stopping.proofs.stops.Tie as tie
 
 abbrev Inv-loop : tie.InvT-loop
 Inv-loop s a at t b bt last bounds₀ from top₀ i₀ j₀ bounds top i j =

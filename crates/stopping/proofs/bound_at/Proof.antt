@@ -1,8 +1,8 @@
--- `filling::bound_at` meets its contract: the bound is three words.
+-- `stopping::bound_at` meets its contract: the bound is three words.
 use native.Mathlib.Omega.{arith}
 use Rattle.sampling.proofs.Bounds.{bound-read}
-use Rattle.filling.proofs.bound_at.Statement.{statement}
-use Rattle.filling.proofs.bound_at.Tie as tie
+use Rattle.stopping.proofs.bound_at.Statement.{statement}
+use Rattle.stopping.proofs.bound_at.Tie as tie
 
 mul-place : tie.Need-mul-place
 mul-place c = omega arith

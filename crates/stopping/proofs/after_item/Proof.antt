@@ -1,8 +1,8 @@
--- `filling::after_item` meets its contract: the item after, by the words that are full.
+-- `stopping::after_item` meets its contract: the item after, by the words that are full.
 use native.Mathlib.Omega.{arith}
 use Rattle.sampling.proofs.Span.{after-one-low, after-one-middle, after-one-high, high-room}
-use Rattle.filling.proofs.after_item.Statement.{statement}
-use Rattle.filling.proofs.after_item.Tie as tie
+use Rattle.stopping.proofs.after_item.Statement.{statement}
+use Rattle.stopping.proofs.after_item.Tie as tie
 
 add-t5 : tie.Need-add-t5
 add-t5 c = omega arith

@@ -1,8 +1,8 @@
--- `filling::first_row` meets its contract: row 1 is at the first item of all.
+-- `stopping::first_row` meets its contract: row 1 is at the first item of all.
 use native.Mathlib.Omega.{arith}
 use Rattle.sampling.proofs.Span.{first-at-once, first-after-one}
-use Rattle.filling.proofs.first_row.Statement.{statement}
-use Rattle.filling.proofs.first_row.Tie as tie
+use Rattle.stopping.proofs.first_row.Statement.{statement}
+use Rattle.stopping.proofs.first_row.Tie as tie
 
 put-bound-requires : tie.Need-put-bound-requires
 put-bound-requires c κs = omega arith

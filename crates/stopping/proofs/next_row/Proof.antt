@@ -1,9 +1,9 @@
--- `filling::next_row` meets its contract: a row more, where the bound is above the last one's.
+-- `stopping::next_row` meets its contract: a row more, where the bound is above the last one's.
 use native.Mathlib.Omega.{arith}
 use mathlib.Core.Path.{refl}
 use Rattle.sampling.proofs.Bounds.{row-same, row-more}
-use Rattle.filling.proofs.next_row.Statement.{statement}
-use Rattle.filling.proofs.next_row.Tie as tie
+use Rattle.stopping.proofs.next_row.Statement.{statement}
+use Rattle.stopping.proofs.next_row.Tie as tie
 
 mul-i : tie.Need-mul-i
 mul-i c = omega arith

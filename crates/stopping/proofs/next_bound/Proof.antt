@@ -1,8 +1,8 @@
--- `filling::next_bound` meets its contract: the smaller of the two next bounds, or the only one.
+-- `stopping::next_bound` meets its contract: the smaller of the two next bounds, or the only one.
 use native.Mathlib.Omega.{arith}
 use Rattle.sampling.proofs.Bounds.{turn-first, turn-second, turn-lower, turn-upper}
-use Rattle.filling.proofs.next_bound.Statement.{statement}
-use Rattle.filling.proofs.next_bound.Tie as tie
+use Rattle.stopping.proofs.next_bound.Statement.{statement}
+use Rattle.stopping.proofs.next_bound.Tie as tie
 
 bound-at-requires : tie.Need-bound-at-requires
 bound-at-requires c κs = omega arith
