@@ -10,30 +10,24 @@ use layout::ReplicaKey;
 use lookup::Cursor;
 use sampling::Bound;
 use sampling::Filled;
-use sampling::Turn;
 ghost use mathlib.Core.Path.{_≡_};
 ghost use Prim.Native.Nat.{suc, _+_, _*_, _^_, _≤_, _<_};
 ghost use lib.ListN.{length, getD};
 ghost use Rattle.codec.specs.Number.{beAt};
 ghost use Rattle.codec.specs.Words.{words2};
-ghost use Rattle.ticks.specs.Meaning.{highest};
 ghost use Rattle.layout.specs.MethodPlaces.{idsPlace};
 ghost use Rattle.tables.specs.MethodWords.{stride};
 ghost use Rattle.lookup.specs.Method.{elementsHere};
 ghost use Rattle.sampling.specs.MethodColumns.{columnOf, joinOf, joined, columnsOf, mapped};
-ghost use Rattle.sampling.specs.MethodRows.{boundOf, itemOf, InWords, boundRead, firstItem, topItem, boundIn, turn};
-ghost use Rattle.sampling.specs.MethodRows.{putBound, rowsOf, grown, stopped, firstRow, after, lastRow};
+ghost use Rattle.sampling.specs.MethodRows.{InWords, boundRead};
 ghost use Rattle.sampling.specs.MethodCells.{raisedIn, raisedBy, filled, columnSet};
-ghost use Rattle.sampling.specs.MethodTables.{fits, tableOf, oneTable, twoTable, spanTable, raisedTable};
+ghost use Rattle.sampling.specs.MethodTables.{fits, Fits, tableOf, oneFilled, oneTable, twoFilled, twoTable, spanTable, raisedTable};
 
 // the place of the replica ids
 const IDS: usize = 27;
 
 // the most keys of a replica map
 const KEYS: usize = layout::LARGEST_REPLICAS as usize;
-
-// each word of the top item id
-const TOP: u64 = 18446744073709551615;
 
 // The column of an id, and how many columns there are then.
 struct Joined {
@@ -261,6 +255,55 @@ fn fits(
     tables::STRIDE * (n + 1) <= t
 }
 
+// The table of what one knowledge knows, where all is in the bytes and there is room.
+fn filled_one(
+    s: &[u8],
+    r: u32,
+    start: Cursor,
+    ids: &mut [u64],
+    bounds: &mut [u64],
+    t: &mut [u64],
+) -> Filled
+    requires { ⌜ Fits (now s) r start r (start .left + 1) (length (now ids)) (length (now bounds)) (length (now t)) ⌝ }
+    ensures { λ q. ⌜ (tableOf (now (ids .exit)) (now (bounds .exit)) (now (t .exit)) q
+        ≡ oneFilled (now (s .entry)) r start (now (ids .entry)) (now (bounds .entry)) (now (t .entry)))
+        × (q .columns ≤ r) × (q .rows ≤ start .left + 1) × (length (now (ids .exit)) ≡ length (now (ids .entry)))
+        × (length (now (t .exit)) ≡ length (now (t .entry))) ⌝ }
+{
+    let mut keys = [0u32; KEYS];
+    let columns = add_ids(s, r, ids, 0, &mut keys);
+    let rows = stopping::all_stops(s, start, s, 0, start.next, bounds);
+    fill(s, r, start, &keys, bounds, 1, rows, t);
+    Filled { columns, rows }
+}
+
+// The table of the larger of what two knowledges know, where all is in the bytes and there is room.
+fn filled_two(
+    s: &[u8],
+    r: u32,
+    start: Cursor,
+    other: &[u8],
+    m: u32,
+    begin: Cursor,
+    ids: &mut [u64],
+    bounds: &mut [u64],
+    t: &mut [u64],
+) -> Filled
+    requires { ⌜ Fits (now s) r start (r + m) (start .left + begin .left + 1) (length (now ids)) (length (now bounds)) (length (now t))
+        × Fits (now other) m begin (r + m) (start .left + begin .left + 1) (length (now ids)) (length (now bounds)) (length (now t)) ⌝ }
+    ensures { λ q. ⌜ tableOf (now (ids .exit)) (now (bounds .exit)) (now (t .exit)) q
+        ≡ twoFilled (now (s .entry)) r start (now (other .entry)) m begin (now (ids .entry)) (now (bounds .entry)) (now (t .entry)) ⌝ }
+{
+    let mut keys = [0u32; KEYS];
+    let mut others = [0u32; KEYS];
+    let first = add_ids(s, r, ids, 0, &mut keys);
+    let columns = add_ids(other, m, ids, first, &mut others);
+    let rows = stopping::all_stops(s, start, other, begin.left, begin.next, bounds);
+    fill(s, r, start, &keys, bounds, 1, rows, t);
+    fill(other, m, begin, &others, bounds, 1, rows, t);
+    Filled { columns, rows }
+}
+
 // The table of what one knowledge knows.
 pub fn fill_one(
     s: &[u8],
@@ -275,11 +318,7 @@ pub fn fill_one(
 {
     let n = start.left as usize + 1;
     if fits(s, r, start, r as usize, n, ids.len(), bounds.len(), t.len()) {
-        let mut keys = [0u32; KEYS];
-        let columns = add_ids(s, r, ids, 0, &mut keys);
-        let rows = all_stops(s, start, s, 0, start.next, bounds);
-        fill(s, r, start, &keys, bounds, 1, rows, t);
-        return Filled { columns, rows };
+        return filled_one(s, r, start, ids, bounds, t);
     }
     Filled {
         columns: 0,
@@ -305,15 +344,12 @@ pub fn fill_raised(
     let m = r as usize + 1;
     let n = start.left as usize + 1;
     if fits(s, r, start, m, n, ids.len(), bounds.len(), t.len()) {
-        let mut keys = [0u32; KEYS];
-        let columns = add_ids(s, r, ids, 0, &mut keys);
-        let own = join_id(ids, columns, columns, p0, p1);
-        let rows = all_stops(s, start, s, 0, start.next, bounds);
-        fill(s, r, start, &keys, bounds, 1, rows, t);
-        raise_column(t, own.column, 1, rows, tick);
+        let q = filled_one(s, r, start, ids, bounds, t);
+        let own = join_id(ids, q.columns, q.columns, p0, p1);
+        raise_column(t, own.column, 1, q.rows, tick);
         return Filled {
             columns: own.count,
-            rows,
+            rows: q.rows,
         };
     }
     Filled {
@@ -340,22 +376,12 @@ pub fn fill_span(
     if fits(s, r, start, r as usize, n, ids.len(), bounds.len(), t.len()) {
         let mut keys = [0u32; KEYS];
         let columns = add_ids(s, r, ids, 0, &mut keys);
-        let from = first_row(bounds, first);
-        let top = stops(
-            s,
-            start.left,
-            start.next,
-            s,
-            0,
-            start.next,
-            first,
-            last,
-            bounds,
-            from,
-        );
-        let rows = last_row(bounds, top, last.high, last.middle, last.low);
-        fill(s, r, start, &keys, bounds, from, top, t);
-        return Filled { columns, rows };
+        let span = stopping::span_stops(s, start, first, last, bounds);
+        fill(s, r, start, &keys, bounds, span.from, span.top, t);
+        return Filled {
+            columns,
+            rows: span.rows,
+        };
     }
     Filled {
         columns: 0,
@@ -382,14 +408,7 @@ pub fn fill_two(
     let n = start.left as usize + begin.left as usize + 1;
     if fits(s, r, start, k, n, ids.len(), bounds.len(), t.len()) {
         if fits(other, m, begin, k, n, ids.len(), bounds.len(), t.len()) {
-            let mut keys = [0u32; KEYS];
-            let mut others = [0u32; KEYS];
-            let first = add_ids(s, r, ids, 0, &mut keys);
-            let columns = add_ids(other, m, ids, first, &mut others);
-            let rows = all_stops(s, start, other, begin.left, begin.next, bounds);
-            fill(s, r, start, &keys, bounds, 1, rows, t);
-            fill(other, m, begin, &others, bounds, 1, rows, t);
-            return Filled { columns, rows };
+            return filled_two(s, r, start, other, m, begin, ids, bounds, t);
         }
     }
     Filled {
