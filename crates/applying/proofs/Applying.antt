@@ -44,9 +44,9 @@ use Rattle.rows.specs.declared.Place.{Place}
 use Rattle.rows.specs.declared.Place.the-variants as O
 use Rattle.rows.specs.Method.{lackingBy, lackOf}
 use Rattle.rows.proofs.FirstLacking.{place-covers}
-use Rattle.filling.specs.declared.Filled.{Filled}
-use Rattle.filling.specs.MethodTables.{tableOf, twoTable, TableRoom}
-use Rattle.filling.proofs.Opening.{scratch-replicas, scratch-ranges}
+use Rattle.sampling.specs.declared.Filled.{Filled}
+use Rattle.sampling.specs.MethodTables.{tableOf, twoTable, TableRoom}
+use Rattle.sampling.proofs.Opening.{scratch-replicas, scratch-ranges}
 use Rattle.loading.specs.MethodReply.{resultReply}
 use Rattle.preparing.specs.declared.Prepared.{Prepared}
 use Rattle.preparing.specs.MethodPrepared.{planOf, planned, Prepares, Ended, PlanRoom}

@@ -18,7 +18,7 @@ ghost use Rattle.ticks.specs.Operations.{covers, ownAlike};
 ghost use Rattle.replication.specs.OpenBatch.{firstId, lastId, batchNeeded};
 ghost use Rattle.replication.specs.Calls.{applyReply};
 ghost use Rattle.lookup.specs.Method.{Open};
-ghost use Rattle.filling.specs.MethodTables.{TableRoom};
+ghost use Rattle.sampling.specs.MethodTables.{TableRoom};
 ghost use Rattle.preparing.specs.MethodPrepared.{few, Ended, PlanRoom};
 ghost use Rattle.applying.specs.Method.{ownCovered, appliedReply, BothValid, Merges};
 

@@ -34,10 +34,10 @@ use Rattle.lookup.specs.declared.Cursor.{Cursor}
 use Rattle.lookup.specs.Method.{Opens}
 use Rattle.ranges.specs.Method.{topOf}
 use Rattle.ranges.proofs.Ranges.{largest-from}
-use Rattle.filling.specs.declared.Filled.{Filled}
-use Rattle.filling.specs.MethodTables.{tableOf, raisedTable, TableRoom}
-use Rattle.filling.proofs.Scratch.{zeros-length, table-room}
-use Rattle.filling.proofs.Opening.{scratch-replicas, scratch-ranges}
+use Rattle.sampling.specs.declared.Filled.{Filled}
+use Rattle.sampling.specs.MethodTables.{tableOf, raisedTable, TableRoom}
+use Rattle.sampling.proofs.Scratch.{zeros-length, table-room}
+use Rattle.sampling.proofs.Opening.{scratch-replicas, scratch-ranges}
 use Rattle.preparing.specs.declared.Prepared.{Prepared}
 use Rattle.preparing.specs.MethodPrepared.{oneRows, planOf, planned, Prepares, Ended, PlanRoom}
 use Rattle.preparing.proofs.Scratch.{plan-room}

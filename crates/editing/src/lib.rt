@@ -29,7 +29,7 @@ ghost use Rattle.replication.specs.MethodReplies.{brings, changeReply, storeRep
 ghost use Rattle.replication.specs.Calls.{gone, editReply, deleteReply};
 ghost use Rattle.joining.specs.MethodWritten.{recordOf};
 ghost use Rattle.lookup.specs.Method.{Opens};
-ghost use Rattle.filling.specs.MethodTables.{TableRoom};
+ghost use Rattle.sampling.specs.MethodTables.{TableRoom};
 ghost use Rattle.preparing.specs.MethodPrepared.{few, Ended, PlanRoom};
 ghost use Rattle.editing.specs.MethodEditing.{itemOf, contentOf, versionReplica, foundRead, Becomes, Asked};
 

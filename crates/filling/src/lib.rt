@@ -8,20 +8,20 @@
 // the highest word first; the tick of row k and column c is word STRIDE * k + c of `t`. The order of a replica map is never used.
 use layout::ReplicaKey;
 use lookup::Cursor;
+use sampling::Bound;
+use sampling::Filled;
 ghost use mathlib.Core.Path.{_≡_};
 ghost use Prim.Native.Nat.{suc, _+_, _*_, _^_, _≤_, _<_};
 ghost use lib.ListN.{length, getD};
 ghost use Rattle.codec.specs.Number.{beAt};
 ghost use Rattle.codec.specs.Words.{words2};
-ghost use Rattle.ticks.specs.Meaning.{highest};
 ghost use Rattle.layout.specs.MethodPlaces.{idsPlace};
 ghost use Rattle.tables.specs.MethodWords.{stride};
 ghost use Rattle.lookup.specs.Method.{elementsHere};
-ghost use Rattle.filling.specs.MethodColumns.{columnOf, joinOf, joined, columnsOf, mapped};
-ghost use Rattle.filling.specs.MethodRows.{boundOf, itemOf, InWords, boundRead, firstItem, topItem, boundIn, turn};
-ghost use Rattle.filling.specs.MethodRows.{putBound, rowsOf, grown, stopped, firstRow, after, lastRow};
-ghost use Rattle.filling.specs.MethodCells.{raisedIn, raisedBy, filled, columnSet};
-ghost use Rattle.filling.specs.MethodTables.{fits, tableOf, oneTable, twoTable, spanTable, raisedTable};
+ghost use Rattle.sampling.specs.MethodColumns.{columnOf, joinOf, joined, columnsOf, mapped};
+ghost use Rattle.sampling.specs.MethodRows.{InWords, boundRead};
+ghost use Rattle.sampling.specs.MethodCells.{raisedIn, raisedBy, filled, columnSet};
+ghost use Rattle.sampling.specs.MethodTables.{fits, Fits, tableOf, oneFilled, oneTable, twoFilled, twoTable, spanTable, raisedTable};
 
 // the place of the replica ids
 const IDS: usize = 27;
@@ -29,33 +29,10 @@ const IDS: usize = 27;
 // the most keys of a replica map
 const KEYS: usize = layout::LARGEST_REPLICAS as usize;
 
-// each word of the top item id
-const TOP: u64 = 18446744073709551615;
-
-// An item id, as three words, the highest first.
-pub struct Bound {
-    pub high: u64,
-    pub middle: u64,
-    pub low: u64,
-}
-
-// The next bound of two lists, and how many of the first list and of the second are passed with it.
-struct Turn {
-    bound: Bound,
-    first: u32,
-    second: u32,
-}
-
 // The column of an id, and how many columns there are then.
 struct Joined {
     column: ReplicaKey,
     count: u32,
-}
-
-// How many columns and rows of a table are filled.
-pub struct Filled {
-    pub columns: u32,
-    pub rows: u32,
 }
 
 // ---- numbers that are there
@@ -144,144 +121,6 @@ fn add_ids(s: &[u8], r: u32, ids: &mut [u64], n: u32, keys: &mut [u32]) -> u32
     m
 }
 
-// ---- rows
-
-// Bound n of the ranges from a place on.
-fn bound_at(s: &[u8], at: usize, n: u32) -> Bound
-    requires { ⌜ at + 28 * n + 24 ≤ length (now s) ⌝ }
-    ensures { λ b. ⌜ b ≡ boundIn (now (s .entry)) at n ⌝ }
-{
-    let place = at + 28 * (n as usize);
-    let high = eight(s, place);
-    let middle = eight(s, place + 8);
-    let low = eight(s, place + 16);
-    Bound { high, middle, low }
-}
-
-// The next of a bounds and b bounds, of which i and j are passed: the smaller one, the first list's where both are the same.
-fn next_bound(s: &[u8], a: u32, at: usize, i: u32, t: &[u8], b: u32, bt: usize, j: u32) -> Turn
-    requires { ⌜ (at + 28 * a ≤ length (now s)) × (bt + 28 * b ≤ length (now t)) × (i ≤ a) × (j ≤ b) × (i + j < a + b) ⌝ }
-    ensures { λ r. ⌜ (r ≡ turn (now (s .entry)) a at i (now (t .entry)) b bt j)
-        × (r .first ≤ a) × (r .second ≤ b) × (r .first + r .second ≡ i + j + 1) ⌝ }
-{
-    if b <= j {
-        let bound = bound_at(s, at, i);
-        return Turn {
-            bound,
-            first: i + 1,
-            second: j,
-        };
-    }
-    let y = bound_at(t, bt, j);
-    if a <= i {
-        return Turn {
-            bound: y,
-            first: i,
-            second: j + 1,
-        };
-    }
-    let x = bound_at(s, at, i);
-    if codec::less3(y.high, y.middle, y.low, x.high, x.middle, x.low) {
-        return Turn {
-            bound: y,
-            first: i,
-            second: j + 1,
-        };
-    }
-    Turn {
-        bound: x,
-        first: i + 1,
-        second: j,
-    }
-}
-
-// The bound of a row.
-fn put_bound(bounds: &mut [u64], k: u32, b: Bound)
-    requires { ⌜ 3 * k + 2 < length (now bounds) ⌝ }
-    ensures { λ _. ⌜ (now (bounds .exit) ≡ putBound (now (bounds .entry)) k b) × (length (now (bounds .exit)) ≡ length (now (bounds .entry))) ⌝ }
-{
-    let i = 3 * (k as usize);
-    bounds[i] = b.high;
-    bounds[i + 1] = b.middle;
-    bounds[i + 2] = b.low;
-}
-
-// A row after the last one for a bound that is above that row's. Gives the last row.
-fn next_row(bounds: &mut [u64], top: u32, b: Bound) -> u32
-    requires { ⌜ (3 * top + 5 < length (now bounds)) × (top + 1 < 2 ^ 32) ⌝ }
-    ensures { λ r. ⌜ (rowsOf (now (bounds .exit)) r ≡ grown (rowsOf (now (bounds .entry)) top) b)
-        × (top ≤ r) × (r ≤ top + 1) × (length (now (bounds .exit)) ≡ length (now (bounds .entry))) ⌝ }
-{
-    let i = 3 * (top as usize);
-    let r0 = bounds[i];
-    let r1 = bounds[i + 1];
-    let r2 = bounds[i + 2];
-    if codec::less3(r0, r1, r2, b.high, b.middle, b.low) {
-        put_bound(bounds, top + 1, b);
-        return top + 1;
-    }
-    top
-}
-
-// The rows of the items from the first to the last: row `from` at the first item, and one row for each later bound, up to the
-// last item, of the a ranges of s and the b ranges of t from their places on. Gives the last row.
-fn stops(
-    s: &[u8],
-    a: u32,
-    at: usize,
-    t: &[u8],
-    b: u32,
-    bt: usize,
-    first: Bound,
-    last: Bound,
-    bounds: &mut [u64],
-    from: u32,
-) -> u32
-    requires { ⌜ (at + 28 * a ≤ length (now s)) × (bt + 28 * b ≤ length (now t)) × (from + a + b < 2 ^ 32)
-        × (3 * (from + a + b + 1) ≤ length (now bounds)) ⌝ }
-    ensures { λ top. ⌜ (rowsOf (now (bounds .exit)) top
-        ≡ stopped (now (s .entry)) a at (now (t .entry)) b bt first last (now (bounds .entry)) from)
-        × (from ≤ top) × (top ≤ from + a + b) × (length (now (bounds .exit)) ≡ length (now (bounds .entry))) ⌝ }
-{
-    put_bound(bounds, from, first);
-    let mut top = from;
-    let mut i: u32 = 0;
-    let mut j: u32 = 0;
-    while i + j < a + b {
-        let next = next_bound(s, a, at, i, t, b, bt, j);
-        let x = next.bound;
-        if codec::less3(last.high, last.middle, last.low, x.high, x.middle, x.low) {
-            return top;
-        }
-        top = next_row(bounds, top, x);
-        i = next.first;
-        j = next.second;
-    }
-    top
-}
-
-// The rows of all items: row 1 at the first item of all, and one row for each later bound of the ranges of s from a cursor on, and of
-// the b ranges of t from a place on.
-fn all_stops(s: &[u8], c: Cursor, t: &[u8], b: u32, bt: usize, bounds: &mut [u64]) -> u32
-    requires { ⌜ (c .next + 28 * c .left ≤ length (now s)) × (bt + 28 * b ≤ length (now t)) × (c .left + b + 1 < 2 ^ 32)
-        × (3 * (c .left + b + 2) ≤ length (now bounds)) ⌝ }
-    ensures { λ top. ⌜ (rowsOf (now (bounds .exit)) top
-        ≡ stopped (now (s .entry)) (c .left) (c .next) (now (t .entry)) b bt firstItem topItem (now (bounds .entry)) 1)
-        × (top ≤ c .left + b + 1) × (length (now (bounds .exit)) ≡ length (now (bounds .entry))) ⌝ }
-{
-    let first = Bound {
-        high: 0,
-        middle: 0,
-        low: 0,
-    };
-    let last = Bound {
-        high: TOP,
-        middle: TOP,
-        low: TOP,
-    };
-    stops(s, c.left, c.next, t, b, bt, first, last, bounds, 1)
-}
-
 // ---- the ends of a span
 
 // An item id as words; a word that is not all there is 0.
@@ -293,68 +132,6 @@ pub fn bound_of(id: &[u8]) -> Bound
     let middle = codec::read8(id, 8);
     let low = codec::read8(id, 16);
     Bound { high, middle, low }
-}
-
-// The first row of a span that begins at an item: row 1, which is put at the first item of all, or the row after it.
-fn first_row(bounds: &mut [u64], first: Bound) -> u32
-    requires { ⌜ 5 < length (now bounds) ⌝ }
-    ensures { λ r. ⌜ (rowsOf (now (bounds .exit)) r ≡ firstRow (now (bounds .entry)) first)
-        × (1 ≤ r) × (r ≤ 2) × (length (now (bounds .exit)) ≡ length (now (bounds .entry))) ⌝ }
-{
-    put_bound(
-        bounds,
-        1,
-        Bound {
-            high: 0,
-            middle: 0,
-            low: 0,
-        },
-    );
-    if codec::same3(first.high, first.middle, first.low, 0, 0, 0) {
-        return 1;
-    }
-    2
-}
-
-// The item after one that is not the top one: a word that is full becomes 0, and the word above it takes one more.
-fn after_item(l0: u64, l1: u64, l2: u64) -> Bound
-    requires { ⌜ itemOf (boundOf l0 l1 l2) < highest ⌝ }
-    ensures { λ b. ⌜ b ≡ after (boundOf l0 l1 l2) ⌝ }
-{
-    if l2 < TOP {
-        return Bound {
-            high: l0,
-            middle: l1,
-            low: l2 + 1,
-        };
-    }
-    if l1 < TOP {
-        return Bound {
-            high: l0,
-            middle: l1 + 1,
-            low: 0,
-        };
-    }
-    Bound {
-        high: l0 + 1,
-        middle: 0,
-        low: 0,
-    }
-}
-
-// The last row, after row `top`, the last one of a span that ends at an item: one more where an item follows, as nothing follows the
-// top one.
-fn last_row(bounds: &mut [u64], top: u32, l0: u64, l1: u64, l2: u64) -> u32
-    requires { ⌜ (3 * top + 5 < length (now bounds)) × (top + 1 < 2 ^ 32) ⌝ }
-    ensures { λ r. ⌜ (rowsOf (now (bounds .exit)) r ≡ lastRow (rowsOf (now (bounds .entry)) top) (boundOf l0 l1 l2))
-        × (length (now (bounds .exit)) ≡ length (now (bounds .entry))) ⌝ }
-{
-    if codec::same3(l0, l1, l2, TOP, TOP, TOP) {
-        return top;
-    }
-    let next = after_item(l0, l1, l2);
-    put_bound(bounds, top + 1, next);
-    top + 1
 }
 
 // ---- cells
@@ -478,6 +255,55 @@ fn fits(
     tables::STRIDE * (n + 1) <= t
 }
 
+// The table of what one knowledge knows, where all is in the bytes and there is room.
+fn filled_one(
+    s: &[u8],
+    r: u32,
+    start: Cursor,
+    ids: &mut [u64],
+    bounds: &mut [u64],
+    t: &mut [u64],
+) -> Filled
+    requires { ⌜ Fits (now s) r start r (start .left + 1) (length (now ids)) (length (now bounds)) (length (now t)) ⌝ }
+    ensures { λ q. ⌜ (tableOf (now (ids .exit)) (now (bounds .exit)) (now (t .exit)) q
+        ≡ oneFilled (now (s .entry)) r start (now (ids .entry)) (now (bounds .entry)) (now (t .entry)))
+        × (q .columns ≤ r) × (q .rows ≤ start .left + 1) × (length (now (ids .exit)) ≡ length (now (ids .entry)))
+        × (length (now (t .exit)) ≡ length (now (t .entry))) ⌝ }
+{
+    let mut keys = [0u32; KEYS];
+    let columns = add_ids(s, r, ids, 0, &mut keys);
+    let rows = stopping::all_stops(s, start, s, 0, start.next, bounds);
+    fill(s, r, start, &keys, bounds, 1, rows, t);
+    Filled { columns, rows }
+}
+
+// The table of the larger of what two knowledges know, where all is in the bytes and there is room.
+fn filled_two(
+    s: &[u8],
+    r: u32,
+    start: Cursor,
+    other: &[u8],
+    m: u32,
+    begin: Cursor,
+    ids: &mut [u64],
+    bounds: &mut [u64],
+    t: &mut [u64],
+) -> Filled
+    requires { ⌜ Fits (now s) r start (r + m) (start .left + begin .left + 1) (length (now ids)) (length (now bounds)) (length (now t))
+        × Fits (now other) m begin (r + m) (start .left + begin .left + 1) (length (now ids)) (length (now bounds)) (length (now t)) ⌝ }
+    ensures { λ q. ⌜ tableOf (now (ids .exit)) (now (bounds .exit)) (now (t .exit)) q
+        ≡ twoFilled (now (s .entry)) r start (now (other .entry)) m begin (now (ids .entry)) (now (bounds .entry)) (now (t .entry)) ⌝ }
+{
+    let mut keys = [0u32; KEYS];
+    let mut others = [0u32; KEYS];
+    let first = add_ids(s, r, ids, 0, &mut keys);
+    let columns = add_ids(other, m, ids, first, &mut others);
+    let rows = stopping::all_stops(s, start, other, begin.left, begin.next, bounds);
+    fill(s, r, start, &keys, bounds, 1, rows, t);
+    fill(other, m, begin, &others, bounds, 1, rows, t);
+    Filled { columns, rows }
+}
+
 // The table of what one knowledge knows.
 pub fn fill_one(
     s: &[u8],
@@ -492,11 +318,7 @@ pub fn fill_one(
 {
     let n = start.left as usize + 1;
     if fits(s, r, start, r as usize, n, ids.len(), bounds.len(), t.len()) {
-        let mut keys = [0u32; KEYS];
-        let columns = add_ids(s, r, ids, 0, &mut keys);
-        let rows = all_stops(s, start, s, 0, start.next, bounds);
-        fill(s, r, start, &keys, bounds, 1, rows, t);
-        return Filled { columns, rows };
+        return filled_one(s, r, start, ids, bounds, t);
     }
     Filled {
         columns: 0,
@@ -522,15 +344,12 @@ pub fn fill_raised(
     let m = r as usize + 1;
     let n = start.left as usize + 1;
     if fits(s, r, start, m, n, ids.len(), bounds.len(), t.len()) {
-        let mut keys = [0u32; KEYS];
-        let columns = add_ids(s, r, ids, 0, &mut keys);
-        let own = join_id(ids, columns, columns, p0, p1);
-        let rows = all_stops(s, start, s, 0, start.next, bounds);
-        fill(s, r, start, &keys, bounds, 1, rows, t);
-        raise_column(t, own.column, 1, rows, tick);
+        let q = filled_one(s, r, start, ids, bounds, t);
+        let own = join_id(ids, q.columns, q.columns, p0, p1);
+        raise_column(t, own.column, 1, q.rows, tick);
         return Filled {
             columns: own.count,
-            rows,
+            rows: q.rows,
         };
     }
     Filled {
@@ -557,22 +376,12 @@ pub fn fill_span(
     if fits(s, r, start, r as usize, n, ids.len(), bounds.len(), t.len()) {
         let mut keys = [0u32; KEYS];
         let columns = add_ids(s, r, ids, 0, &mut keys);
-        let from = first_row(bounds, first);
-        let top = stops(
-            s,
-            start.left,
-            start.next,
-            s,
-            0,
-            start.next,
-            first,
-            last,
-            bounds,
-            from,
-        );
-        let rows = last_row(bounds, top, last.high, last.middle, last.low);
-        fill(s, r, start, &keys, bounds, from, top, t);
-        return Filled { columns, rows };
+        let span = stopping::span_stops(s, start, first, last, bounds);
+        fill(s, r, start, &keys, bounds, span.from, span.top, t);
+        return Filled {
+            columns,
+            rows: span.rows,
+        };
     }
     Filled {
         columns: 0,
@@ -599,14 +408,7 @@ pub fn fill_two(
     let n = start.left as usize + begin.left as usize + 1;
     if fits(s, r, start, k, n, ids.len(), bounds.len(), t.len()) {
         if fits(other, m, begin, k, n, ids.len(), bounds.len(), t.len()) {
-            let mut keys = [0u32; KEYS];
-            let mut others = [0u32; KEYS];
-            let first = add_ids(s, r, ids, 0, &mut keys);
-            let columns = add_ids(other, m, ids, first, &mut others);
-            let rows = all_stops(s, start, other, begin.left, begin.next, bounds);
-            fill(s, r, start, &keys, bounds, 1, rows, t);
-            fill(other, m, begin, &others, bounds, 1, rows, t);
-            return Filled { columns, rows };
+            return filled_two(s, r, start, other, m, begin, ids, bounds, t);
         }
     }
     Filled {

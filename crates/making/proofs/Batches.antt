@@ -21,7 +21,7 @@ use Rattle.loading.proofs.Closing.{result-is}
 use Rattle.preparing.specs.MethodPrepared.{Holds, Ended}
 use Rattle.preparing.proofs.Ends.{ended-refused}
 use Rattle.preparing.proofs.Ready.{ready-length, ready-writes}
-use Rattle.filling.specs.MethodRows.{itemOf}
+use Rattle.sampling.specs.MethodRows.{itemOf}
 use Rattle.replication.specs.Record.{Rec}
 use Rattle.replication.specs.BatchFormat.{Batch, encodeBatch}
 use Rattle.replication.specs.OpenBatch.{batchNeeded}

@@ -29,12 +29,12 @@ use Rattle.lookup.specs.declared.Opened.{Opened}
 use Rattle.lookup.specs.declared.Opened.the-variants as O
 use Rattle.lookup.specs.Method.{openOf, Opens}
 use Rattle.lookup.proofs.Calls.{opens, opens-refused}
-use Rattle.filling.specs.declared.Bound.{Bound}
-use Rattle.filling.specs.declared.Filled.{Filled}
-use Rattle.filling.specs.MethodRows.{itemOf, InWords, boundRead}
-use Rattle.filling.specs.MethodTables.{tableOf, oneTable, spanTable, TableRoom}
-use Rattle.filling.proofs.Opening.{opened-read, scratch-replicas, scratch-ranges}
-use Rattle.filling.proofs.Span.{bound-item}
+use Rattle.sampling.specs.declared.Bound.{Bound}
+use Rattle.sampling.specs.declared.Filled.{Filled}
+use Rattle.sampling.specs.MethodRows.{itemOf, InWords, boundRead}
+use Rattle.sampling.specs.MethodTables.{tableOf, oneTable, spanTable, TableRoom}
+use Rattle.sampling.proofs.Opening.{opened-read, scratch-replicas, scratch-ranges}
+use Rattle.sampling.proofs.Span.{bound-item}
 use Rattle.loading.specs.MethodReply.{resultReply}
 use Rattle.preparing.specs.declared.Prepared.{Prepared}
 use Rattle.preparing.specs.declared.Prepared.the-variants as P

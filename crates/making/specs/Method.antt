@@ -11,8 +11,8 @@ use Rattle.ticks.specs.Operations.{normalise, project}
 use Rattle.tables.specs.declared.Sizes.{Sizes}
 use Rattle.lookup.specs.declared.Cursor.{Cursor}
 use Rattle.lookup.specs.Method.{Opens}
-use Rattle.filling.specs.declared.Bound.{Bound}
-use Rattle.filling.specs.MethodRows.{itemOf, InWords}
+use Rattle.sampling.specs.declared.Bound.{Bound}
+use Rattle.sampling.specs.MethodRows.{itemOf, InWords}
 use Rattle.loading.specs.MethodReply.{resultReply}
 use Rattle.preparing.specs.MethodPrepared.{Holds, Ended}
 use Rattle.replication.specs.BatchFormat.{Batch}

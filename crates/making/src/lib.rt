@@ -4,7 +4,7 @@
 // small where it has few ranges; all that can refuse the call is decided before the first byte is written. The records are looked
 // up in the given knowledge as it stands, which contains the same versions as its normal form.
 use codec::Answer;
-use filling::Bound;
+use sampling::Bound;
 use joining::Extent;
 use lookup::Opened;
 use preparing::Prepared;
@@ -17,7 +17,7 @@ ghost use lib.ListN.{length};
 ghost use Rattle.codec.specs.Reply.{answer, after};
 ghost use Rattle.layout.specs.Knowledge.{anyId, basic};
 ghost use Rattle.layout.specs.Permitted.{within};
-ghost use Rattle.filling.specs.MethodTables.{TableRoom};
+ghost use Rattle.sampling.specs.MethodTables.{TableRoom};
 ghost use Rattle.preparing.specs.MethodPrepared.{few, PlanRoom, Ended};
 ghost use Rattle.replication.specs.Calls.{makeReply};
 ghost use Rattle.joining.specs.MethodJoin.{sizeFrom, fronted};

@@ -17,9 +17,9 @@ use Rattle.loading.specs.MethodReply.{resultReply}
 use Rattle.loading.proofs.Closing.{normalise-accepted, merge-accepted, project-accepted}
 use Rattle.lookup.specs.declared.Cursor.{Cursor}
 use Rattle.lookup.specs.Method.{Opens}
-use Rattle.filling.specs.declared.Bound.{Bound}
-use Rattle.filling.specs.MethodRows.{itemOf, boundRead}
-use Rattle.filling.proofs.Opening.{opened-read}
+use Rattle.sampling.specs.declared.Bound.{Bound}
+use Rattle.sampling.specs.MethodRows.{itemOf, boundRead}
+use Rattle.sampling.proofs.Opening.{opened-read}
 use Rattle.preparing.specs.MethodPrepared.{Ended}
 use Rattle.preparing.proofs.Ready.{first-item, last-item}
 

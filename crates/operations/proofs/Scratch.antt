@@ -5,7 +5,7 @@ use mathlib.Core.List.{List}
 use Rattle.layout.specs.Permitted.{base, largestReplicas, largestRanges, rulesWithin}
 use Rattle.lookup.specs.declared.Cursor.{Cursor}
 use Rattle.lookup.specs.Method.{Opens}
-use Rattle.filling.proofs.Opening.{scratch-replicas, scratch-ranges}
+use Rattle.sampling.proofs.Opening.{scratch-replicas, scratch-ranges}
 
 module _ (replicas ranges : ℕ) (s : List ℕ) (r : ℕ) (c : Cursor) (o : Opens (rulesWithin replicas ranges) s r c) where
   pub opened-few-replicas : r ≤ largestReplicas

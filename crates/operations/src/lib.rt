@@ -12,7 +12,7 @@ ghost use Rattle.layout.specs.Knowledge.{basic};
 ghost use Rattle.layout.specs.Permitted.{rulesWithin};
 ghost use Rattle.ticks.specs.Calls.{wrongSpan, normaliseReply, mergeReply, projectReply};
 ghost use Rattle.lookup.specs.Method.{Opens};
-ghost use Rattle.filling.specs.MethodTables.{TableRoom};
+ghost use Rattle.sampling.specs.MethodTables.{TableRoom};
 ghost use Rattle.preparing.specs.MethodPrepared.{few, Ended};
 
 // ---- normalise

@@ -16,7 +16,7 @@ use Rattle.tables.specs.declared.Sizes.{Sizes}
 use Rattle.tables.specs.MethodWords.{stride, mostRows}
 use Rattle.tables.specs.MethodPlan.{lengthOf}
 use Rattle.tables.specs.MethodPieces.{laid, pagePieces}
-use Rattle.filling.specs.declared.Filled.{Filled}
+use Rattle.sampling.specs.declared.Filled.{Filled}
 use Rattle.preparing.specs.declared.Prepared.{Prepared}
 use Rattle.preparing.specs.declared.Prepared.the-variants as P
 use Rattle.preparing.specs.MethodPrepared.{few, Plan, planOf, planned, End, endOf, writtenEnd, finished}

@@ -16,7 +16,7 @@ use Rattle.plan.specs.Method.{fits, noSizes}
 use Rattle.plan.proofs.Whole.{Fits, fits-holds}
 use Rattle.loading.specs.MethodReply.{resultReply, Tabled}
 use Rattle.loading.proofs.Closing.{result-replicas, result-ranges, result-gives, tabled}
-use Rattle.filling.specs.declared.Filled.{Filled}
+use Rattle.sampling.specs.declared.Filled.{Filled}
 use Rattle.preparing.specs.declared.Prepared.{Prepared}
 use Rattle.preparing.specs.declared.Prepared.the-variants as P
 use Rattle.preparing.specs.MethodPrepared.{judged, Plan, planOf, over, planned, Prepares, PlanRoom}

@@ -26,13 +26,13 @@ use Rattle.tables.proofs.Link.{page-normalise, page-merge, page-project, page-r
 use Rattle.loading.specs.MethodReply.{resultReply}
 use Rattle.lookup.specs.declared.Cursor.{Cursor}
 use Rattle.lookup.specs.Method.{Opens}
-use Rattle.filling.specs.declared.Bound.{Bound}
-use Rattle.filling.specs.declared.Filled.{Filled}
-use Rattle.filling.specs.MethodRows.{itemOf, InWords, boundRead}
-use Rattle.filling.specs.MethodTables.{tableOf, oneTable, twoTable, spanTable, raisedTable, TableRoom}
-use Rattle.filling.proofs.Opening.{scratch-open}
-use Rattle.filling.proofs.Span.{bound-item}
-use Rattle.filling.proofs.Tables.{one-samples, two-samples, span-samples, raised-samples}
+use Rattle.sampling.specs.declared.Bound.{Bound}
+use Rattle.sampling.specs.declared.Filled.{Filled}
+use Rattle.sampling.specs.MethodRows.{itemOf, InWords, boundRead}
+use Rattle.sampling.specs.MethodTables.{tableOf, oneTable, twoTable, spanTable, raisedTable, TableRoom}
+use Rattle.sampling.proofs.Opening.{scratch-open}
+use Rattle.sampling.proofs.Span.{bound-item}
+use Rattle.sampling.proofs.Tables.{one-samples, two-samples, span-samples, raised-samples}
 use Rattle.preparing.specs.declared.Prepared.{Prepared}
 use Rattle.preparing.specs.declared.Prepared.the-variants as P
 use Rattle.preparing.specs.MethodPrepared.{Plan, planOf, planned, endOf, concluded, Holds, Prepares, Ended, PlanRoom, Sheet}

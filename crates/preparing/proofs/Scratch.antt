@@ -2,7 +2,7 @@
 use Prim.Native.Nat.{ℕ, _≤_, _<_}
 use native.Mathlib.Omega.{arith}
 use lib.ListN.{replicate}
-use Rattle.filling.proofs.Scratch.{zeros-length}
+use Rattle.sampling.proofs.Scratch.{zeros-length}
 use Rattle.preparing.specs.MethodPrepared.{PlanRoom}
 
 pub plan-room : (m n a b c : ℕ) → m ≤ a → n < b → n ≤ c → PlanRoom m n (replicate a 0) (replicate b 0) (replicate c 0)

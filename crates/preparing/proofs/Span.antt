@@ -7,9 +7,9 @@ use lib.Dec.{ltb}
 use lib.ListN.{length}
 use borrow.Author.Tests.{eq-eqb, ne-eqb}
 use Rattle.ticks.specs.Calls.{idOf, wrongLength, wrongSpan}
-use Rattle.filling.specs.declared.Bound.{Bound}
-use Rattle.filling.specs.MethodRows.{itemOf, boundRead}
-use Rattle.filling.proofs.Span.{bound-item}
+use Rattle.sampling.specs.declared.Bound.{Bound}
+use Rattle.sampling.specs.MethodRows.{itemOf, boundRead}
+use Rattle.sampling.proofs.Span.{bound-item}
 
 module _ (first last : List ℕ) where
   pub wrong-first : (length first ≡ 24 → ⊥) → true ≡ wrongSpan first last

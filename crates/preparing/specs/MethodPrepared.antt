@@ -13,7 +13,7 @@ use Rattle.tables.specs.MethodWords.{stride, mostRows, cell, idAt, boundAt}
 use Rattle.tables.specs.MethodPlan.{firstsOf, numbersOf, columnsOf, sizesOf, page, lengthOf}
 use Rattle.tables.specs.MethodPieces.{laid, pagePieces}
 use Rattle.plan.specs.Method.{fits, noSizes}
-use Rattle.filling.specs.declared.Filled.{Filled}
+use Rattle.sampling.specs.declared.Filled.{Filled}
 use Rattle.preparing.specs.declared.Prepared.{Prepared}
 use Rattle.preparing.specs.declared.Prepared.the-variants as P
 

@@ -3,7 +3,7 @@
 // Every public function is total. A caller that writes more than a knowledge takes `prepare`, and then `writer::length` and
 // `writer::write`; one that writes just a knowledge ends with `conclude`, which has lists of its own for the plan.
 use codec::Answer;
-use filling::Filled;
+use sampling::Filled;
 use tables::Sizes;
 ghost use mathlib.Core.Path.{_≡_};
 ghost use Rattle.layout.specs.Permitted.{rulesWithin};

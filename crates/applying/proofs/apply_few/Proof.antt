@@ -4,7 +4,7 @@ use native.Mathlib.Omega.{arith}
 use Rattle.layout.specs.Permitted.{largestRecords}
 use Rattle.tables.specs.MethodWords.{stride}
 use Rattle.preparing.specs.MethodPrepared.{few}
-use Rattle.filling.proofs.Scratch.{table-room, zeros-length}
+use Rattle.sampling.proofs.Scratch.{table-room, zeros-length}
 use Rattle.preparing.proofs.Scratch.{plan-room}
 use Rattle.applying.proofs.Applying.{mine-replicas, theirs-replicas}
 use borrow.Author.Needs.{needs}

@@ -3,7 +3,7 @@ use Prim.Native.Nat.{_*_}
 use native.Mathlib.Omega.{arith}
 use Rattle.layout.specs.Permitted.{largestRecords}
 use Rattle.tables.specs.MethodWords.{stride, mostRows}
-use Rattle.filling.proofs.Scratch.{table-room, zeros-length}
+use Rattle.sampling.proofs.Scratch.{table-room, zeros-length}
 use Rattle.preparing.proofs.Scratch.{plan-room}
 use Rattle.applying.proofs.Applying.{mine-replicas, theirs-replicas, mine-ranges, theirs-ranges}
 use borrow.Author.Needs.{needs}

@@ -4,7 +4,7 @@ use native.Mathlib.Omega.{arith}
 use lib.ListN.{replicate}
 use borrow.Author.Tests.{ltb-true}
 use Rattle.replication.proofs.RecordBytes.{recSize}
-use Rattle.filling.proofs.Scratch.{zeros-length}
+use Rattle.sampling.proofs.Scratch.{zeros-length}
 use Rattle.preparing.specs.MethodPrepared.{few}
 use Rattle.editing.proofs.Changing.{put-becomes}
 use borrow.Author.Needs.{needs}

@@ -4,8 +4,8 @@ use Prim.Native.Nat.{_+_, _-_, _*_, _^_, _≤_, _<_}
 use mathlib.Core.Path.{_≡_, refl}
 use lib.ListN.{length, length-set}
 use Rattle.layout.specs.MethodPlaces.{idsPlace}
-use Rattle.filling.specs.MethodColumns.{columnsOf, mappedFrom, mapped}
-use Rattle.filling.proofs.Columns.{map-starts, map-ends, map-next}
+use Rattle.sampling.specs.MethodColumns.{columnsOf, mappedFrom, mapped}
+use Rattle.sampling.proofs.Columns.{map-starts, map-ends, map-next}
 use Rattle.filling.proofs.add_ids.Statement.{statement}
 use Rattle.filling.proofs.add_ids.Tie as tie
 

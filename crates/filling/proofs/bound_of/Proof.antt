@@ -1,5 +1,5 @@
 -- `filling::bound_of` meets its contract: three words of eight bytes.
-use Rattle.filling.proofs.Span.{bound-is-read}
+use Rattle.sampling.proofs.Span.{bound-is-read}
 use Rattle.filling.proofs.bound_of.Statement.{statement}
 use Rattle.filling.proofs.bound_of.Tie as tie
 

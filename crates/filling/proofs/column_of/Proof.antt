@@ -1,6 +1,6 @@
 -- `filling::column_of` meets its contract: a key past the end has column 0.
 use native.Mathlib.Omega.{arith}
-use Rattle.filling.proofs.Cells.{column-none}
+use Rattle.sampling.proofs.Cells.{column-none}
 use mathlib.Core.Path.{refl}
 use Rattle.filling.proofs.column_of.Statement.{statement}
 use Rattle.filling.proofs.column_of.Tie as tie

@@ -4,8 +4,8 @@ use Prim.Native.Nat.{suc, _+_, _-_, _*_, _^_, _≤_, _<_}
 use mathlib.Core.Path.{_≡_, ap, _∙_}
 use lib.ListN.{length}
 use Rattle.tables.specs.MethodWords.{boundAt}
-use Rattle.filling.specs.MethodCells.{filledFrom, filled}
-use Rattle.filling.proofs.Filling.{fill-starts, fill-ends, fill-next, filled-length}
+use Rattle.sampling.specs.MethodCells.{filledFrom, filled}
+use Rattle.sampling.proofs.Filling.{fill-starts, fill-ends, fill-next, filled-length}
 use Rattle.filling.proofs.fill.Statement.{statement}
 use Rattle.filling.proofs.fill.Tie as tie
 

@@ -4,8 +4,8 @@ use Prim.Native.Nat.{_-_, _*_, _≤_}
 use mathlib.Core.Path.{_≡_, refl}
 use lib.ListN.{length}
 use Rattle.codec.specs.Words.{words2}
-use Rattle.filling.specs.MethodColumns.{findFrom, columnOf}
-use Rattle.filling.proofs.Columns.{find-starts, find-here, find-next, find-ends}
+use Rattle.sampling.specs.MethodColumns.{findFrom, columnOf}
+use Rattle.sampling.proofs.Columns.{find-starts, find-here, find-next, find-ends}
 use Rattle.filling.proofs.find_id.Statement.{statement}
 use Rattle.filling.proofs.find_id.Tie as tie
 

@@ -2,7 +2,7 @@
 use Prim.Native.Nat.{_+_, _*_}
 use Rattle.tables.specs.MethodWords.{stride}
 use native.Mathlib.Omega.{arith}
-use Rattle.filling.proofs.Tables.{fits-1, fits-2, fits-3, fits-4, fits-5, fits-6, fits-7, fits-last}
+use Rattle.sampling.proofs.Tables.{fits-1, fits-2, fits-3, fits-4, fits-5, fits-6, fits-7, fits-last}
 use Rattle.filling.proofs.fits.Statement.{statement}
 use Rattle.filling.proofs.fits.Tie as tie
 

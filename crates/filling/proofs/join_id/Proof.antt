@@ -2,7 +2,7 @@
 use native.Mathlib.Omega.{arith}
 use mathlib.Core.Path.{refl}
 use lib.ListN.{length-set}
-use Rattle.filling.proofs.Columns.{join-old, join-new}
+use Rattle.sampling.proofs.Columns.{join-old, join-new}
 use Rattle.filling.proofs.join_id.Statement.{statement}
 use Rattle.filling.proofs.join_id.Tie as tie
 

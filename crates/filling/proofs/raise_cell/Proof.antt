@@ -1,7 +1,7 @@
 -- `filling::raise_cell` meets its contract: what is written is the larger of the cell and the tick.
 use native.Mathlib.Omega.{arith}
 use lib.ListN.{length-set}
-use Rattle.filling.proofs.Cells.{raised-past, raised-is}
+use Rattle.sampling.proofs.Cells.{raised-past, raised-is}
 use Rattle.filling.proofs.raise_cell.Statement.{statement}
 use Rattle.filling.proofs.raise_cell.Tie as tie
 

@@ -4,8 +4,8 @@ use Prim.Native.Nat.{suc, _+_, _-_, _*_, _^_, _≤_, _<_}
 use mathlib.Core.Path.{_≡_, refl}
 use lib.ListN.{length, length-set}
 use Rattle.tables.specs.MethodWords.{stride}
-use Rattle.filling.specs.MethodCells.{columnSetFrom, columnSet}
-use Rattle.filling.proofs.Filling.{set-starts, set-ends, set-next}
+use Rattle.sampling.specs.MethodCells.{columnSetFrom, columnSet}
+use Rattle.sampling.proofs.Filling.{set-starts, set-ends, set-next}
 use Rattle.filling.proofs.raise_column.Statement.{statement}
 use Rattle.filling.proofs.raise_column.Tie as tie
 

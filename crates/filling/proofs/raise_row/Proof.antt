@@ -4,8 +4,8 @@ use Prim.Native.Nat.{_-_}
 use mathlib.Core.Path.{ap, _∙_}
 use lib.ListN.{length}
 use Rattle.lookup.specs.Method.{elementsHere}
-use Rattle.filling.specs.MethodCells.{raisedBy}
-use Rattle.filling.proofs.Cells.{by-size, Rest, rest-starts, rest-ends, rest-next}
+use Rattle.sampling.specs.MethodCells.{raisedBy}
+use Rattle.sampling.proofs.Cells.{by-size, Rest, rest-starts, rest-ends, rest-next}
 use Rattle.filling.proofs.raise_row.Statement.{statement}
 use Rattle.filling.proofs.raise_row.Tie as tie
 

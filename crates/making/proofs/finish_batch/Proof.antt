@@ -1,7 +1,7 @@
 -- `making::finish_batch` meets its contract: the records at the places that were selected, written behind the two knowledges, or 14.
 use native.Mathlib.Omega.{arith}
 use Rattle.layout.specs.Permitted.{largestRecords}
-use Rattle.filling.proofs.Scratch.{zeros-length}
+use Rattle.sampling.proofs.Scratch.{zeros-length}
 use Rattle.making.proofs.Batches.{finishes}
 use borrow.Author.Needs.{needs}
 use Rattle.making.proofs.finish_batch.Statement.{statement}

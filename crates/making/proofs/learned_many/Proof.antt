@@ -4,7 +4,7 @@ use native.Mathlib.Omega.{arith}
 use Rattle.tables.specs.MethodWords.{stride}
 use Rattle.preparing.specs.MethodPrepared.{oneRows}
 use Rattle.preparing.proofs.Scratch.{plan-room}
-use Rattle.filling.proofs.Scratch.{table-room}
+use Rattle.sampling.proofs.Scratch.{table-room}
 use borrow.Author.Needs.{needs}
 use Rattle.making.proofs.learned_many.Statement.{statement}
 use Rattle.making.proofs.learned_many.Tie as tie

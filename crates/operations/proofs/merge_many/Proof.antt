@@ -3,7 +3,7 @@ use mathlib.Core.Path.{refl}
 use Prim.Native.Nat.{_*_, _+_}
 use native.Mathlib.Omega.{arith}
 use Rattle.tables.specs.MethodWords.{stride, mostRows}
-use Rattle.filling.proofs.Scratch.{table-room}
+use Rattle.sampling.proofs.Scratch.{table-room}
 use Rattle.operations.proofs.Scratch.{opened-few-replicas, opened-few-ranges}
 use Rattle.operations.proofs.merge_many.Statement.{statement}
 use Rattle.operations.proofs.merge_many.Tie as tie

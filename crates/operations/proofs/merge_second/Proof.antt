@@ -7,7 +7,7 @@ use Rattle.ticks.proofs.ForCode.{refusing}
 use Rattle.lookup.proofs.Calls.{opens-within, refuses-within}
 use Rattle.loading.proofs.Closing.{merge-second}
 use Rattle.operations.proofs.Scratch.{opened-few-ranges}
-use Rattle.filling.proofs.Opening.{opened-read}
+use Rattle.sampling.proofs.Opening.{opened-read}
 use Rattle.preparing.proofs.Ends.{ended-refused}
 use borrow.Author.Needs.{needs}
 use Rattle.operations.proofs.merge_second.Statement.{statement}

@@ -4,7 +4,7 @@ use Prim.Native.Nat.{_*_, _+_}
 use native.Mathlib.Omega.{arith}
 use Rattle.tables.specs.MethodWords.{stride}
 use Rattle.preparing.specs.MethodPrepared.{oneRows}
-use Rattle.filling.proofs.Scratch.{table-room}
+use Rattle.sampling.proofs.Scratch.{table-room}
 use Rattle.operations.proofs.Scratch.{opened-few-replicas, opened-few-ranges}
 use Rattle.operations.proofs.normalise_many.Statement.{statement}
 use Rattle.operations.proofs.normalise_many.Tie as tie

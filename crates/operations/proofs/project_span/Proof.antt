@@ -5,7 +5,7 @@ use Rattle.layout.specs.Permitted.{rulesWithin}
 use Rattle.layout.specs.Decode.{decode}
 use Rattle.ticks.specs.Calls.{projectReply}
 use Rattle.loading.proofs.Closing.{project-span}
-use Rattle.filling.proofs.Opening.{opened-read}
+use Rattle.sampling.proofs.Opening.{opened-read}
 use Rattle.preparing.proofs.Ends.{ended-refused}
 use borrow.Author.Needs.{needs}
 use Rattle.operations.proofs.project_span.Statement.{statement}

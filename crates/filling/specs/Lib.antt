@@ -1,5 +1,0 @@
--- The method of filling tables.
-pub mod MethodColumns
-pub mod MethodRows
-pub mod MethodCells
-pub mod MethodTables

@@ -1,0 +1,23 @@
+// What the filling of a table of known ticks comes to, step by step: its columns, its rows, its cells and whole tables. The definitions
+// follow the steps of the code; the laws say that from bytes that the check accepts, with room, a table samples the ticks of its
+// operation. No function stands here.
+
+// An item id, as three words, the highest first.
+pub struct Bound {
+    pub high: u64,
+    pub middle: u64,
+    pub low: u64,
+}
+
+// The next bound of two lists, and how many of the first list and of the second are passed with it.
+pub struct Turn {
+    pub bound: Bound,
+    pub first: u32,
+    pub second: u32,
+}
+
+// How many columns and rows of a table are filled.
+pub struct Filled {
+    pub columns: u32,
+    pub rows: u32,
+}
