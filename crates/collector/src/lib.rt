@@ -159,7 +159,7 @@ pub extern "C" fn sync_merge(first: &[u8], second: &[u8], out: &mut [u8], writte
         (answer (mergeReply basic (now (first .entry)) (now (second .entry))) (length (now (out .entry)))) (now (written .entry)) ⌝ }
     ensures bytes { λ _. ⌜ now (out .exit) ≡ after (mergeReply basic (now (first .entry)) (now (second .entry))) (now (out .entry)) ⌝ }
 {
-    let a = operations::merge(first, second, out);
+    let a = merging::merge(first, second, out);
     ended(a, written)
 }
 

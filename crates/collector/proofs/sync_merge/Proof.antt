@@ -6,7 +6,7 @@ use Rattle.collector.proofs.sync_merge.Tie as tie
 use Rattle.collector.proofs.sync_merge.Reads as reads
 use Rattle.collector.proofs.sync_merge.Lts as lts
 use Rattle.collector.proofs.ended.Reads as ended-reads
-use Rattle.operations.proofs.merge.Reads as merge-reads
+use Rattle.merging.proofs.merge.Reads as merge-reads
 
 -- src/lib.rt:154:9
 merge-requires : tie.Need-merge-requires

@@ -1,4 +1,4 @@
--- `operations::merge_second` meets its contract: the refusal of the second check, or the call in scratch that has room.
+-- `merging::merge_second` meets its contract: the refusal of the second check, or the call in scratch that has room.
 use native.Mathlib.Omega.{arith}
 use Rattle.codec.specs.Number.{Bytes}
 use Rattle.layout.specs.Permitted.{rulesWithin}
@@ -6,17 +6,17 @@ use Rattle.ticks.specs.Calls.{mergeReply}
 use Rattle.ticks.proofs.ForCode.{refusing}
 use Rattle.lookup.proofs.Calls.{opens-within, refuses-within}
 use Rattle.loading.proofs.Closing.{merge-second}
 use Rattle.operations.proofs.Scratch.{opened-few-ranges}
 use Rattle.sampling.proofs.Opening.{opened-read}
 use Rattle.preparing.proofs.Ends.{ended-refused}
 use borrow.Author.Needs.{needs}
-use Rattle.operations.proofs.merge_second.Statement.{statement}
-use Rattle.operations.proofs.merge_second.Tie as tie
-use Rattle.operations.proofs.merge_second.Reads as reads
-use Rattle.operations.proofs.merge_second.Lts as lts
+use Rattle.merging.proofs.merge_second.Statement.{statement}
+use Rattle.merging.proofs.merge_second.Tie as tie
+use Rattle.merging.proofs.merge_second.Reads as reads
+use Rattle.merging.proofs.merge_second.Lts as lts
 use Rattle.lookup.proofs.open_within.Reads as open-within-reads
-use Rattle.operations.proofs.merge_few.Reads as merge-few-reads
-use Rattle.operations.proofs.merge_many.Reads as merge-many-reads
+use Rattle.merging.proofs.merge_few.Reads as merge-few-reads
+use Rattle.merging.proofs.merge_many.Reads as merge-many-reads
 
 -- src/lib.rt:796:11
 open-within-requires : tie.Need-open-within-requires

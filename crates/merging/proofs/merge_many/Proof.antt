@@ -1,12 +1,12 @@
--- `operations::merge_many` meets its contract: scratch of the largest sizes has room.
+-- `merging::merge_many` meets its contract: scratch of the largest sizes has room.
 use mathlib.Core.Path.{refl}
 use Prim.Native.Nat.{_*_, _+_}
 use native.Mathlib.Omega.{arith}
 use Rattle.tables.specs.MethodWords.{stride, mostRows}
 use Rattle.sampling.proofs.Scratch.{table-room}
 use Rattle.operations.proofs.Scratch.{opened-few-replicas, opened-few-ranges}
-use Rattle.operations.proofs.merge_many.Statement.{statement}
-use Rattle.operations.proofs.merge_many.Tie as tie
+use Rattle.merging.proofs.merge_many.Statement.{statement}
+use Rattle.merging.proofs.merge_many.Tie as tie
 
 slice-aggregate-merge-in : tie.Need-slice-aggregate-merge-in
 slice-aggregate-merge-in c = refl

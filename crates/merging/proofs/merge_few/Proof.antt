@@ -1,13 +1,13 @@
--- `operations::merge_few` meets its contract: scratch for few rows has room.
+-- `merging::merge_few` meets its contract: scratch for few rows has room.
 use mathlib.Core.Path.{refl}
 use Prim.Native.Nat.{_*_, _+_}
 use native.Mathlib.Omega.{arith}
 use Rattle.tables.specs.MethodWords.{stride}
 use Rattle.preparing.specs.MethodPrepared.{few}
 use Rattle.sampling.proofs.Scratch.{table-room}
 use Rattle.operations.proofs.Scratch.{opened-few-replicas}
-use Rattle.operations.proofs.merge_few.Statement.{statement}
-use Rattle.operations.proofs.merge_few.Tie as tie
+use Rattle.merging.proofs.merge_few.Statement.{statement}
+use Rattle.merging.proofs.merge_few.Tie as tie
 
 slice-aggregate-merge-in : tie.Need-slice-aggregate-merge-in
 slice-aggregate-merge-in c = refl

@@ -1,4 +1,4 @@
--- `operations::merge_within` meets its contract: the refusal of the first check, or what follows once it has accepted.
+-- `merging::merge_within` meets its contract: the refusal of the first check, or what follows once it has accepted.
 use native.Mathlib.Omega.{arith}
 use Rattle.codec.specs.Number.{Bytes}
 use Rattle.layout.specs.Permitted.{rulesWithin}
@@ -8,12 +8,12 @@ use Rattle.lookup.proofs.Calls.{opens-within, refuses-within}
 use Rattle.loading.proofs.Closing.{merge-first}
 use Rattle.preparing.proofs.Ends.{ended-refused}
 use borrow.Author.Needs.{needs}
-use Rattle.operations.proofs.merge_within.Statement.{statement}
-use Rattle.operations.proofs.merge_within.Tie as tie
-use Rattle.operations.proofs.merge_within.Reads as reads
-use Rattle.operations.proofs.merge_within.Lts as lts
+use Rattle.merging.proofs.merge_within.Statement.{statement}
+use Rattle.merging.proofs.merge_within.Tie as tie
+use Rattle.merging.proofs.merge_within.Reads as reads
+use Rattle.merging.proofs.merge_within.Lts as lts
 use Rattle.lookup.proofs.open_within.Reads as open-within-reads
-use Rattle.operations.proofs.merge_second.Reads as merge-second-reads
+use Rattle.merging.proofs.merge_second.Reads as merge-second-reads
 
 -- src/lib.rt:811:11
 open-within-requires : tie.Need-open-within-requires

@@ -1,14 +1,14 @@
--- `operations::merge_in` meets its contract: the table samples the ticks of the result, so the call ends as the result's reply says.
+-- `merging::merge_in` meets its contract: the table samples the ticks of the result, so the call ends as the result's reply says.
 use mathlib.Core.Path.{refl}
 use native.Mathlib.Omega.{arith}
 use Rattle.layout.specs.Permitted.{base, rulesWithin}
 use Rattle.preparing.proofs.Ready.{merge-sheet, sheet-ended}
 use Rattle.operations.proofs.Replies.{merge-says}
 use borrow.Author.Needs.{needs}
-use Rattle.operations.proofs.merge_in.Statement.{statement}
-use Rattle.operations.proofs.merge_in.Tie as tie
-use Rattle.operations.proofs.merge_in.Reads as reads
-use Rattle.operations.proofs.merge_in.Lts as lts
+use Rattle.merging.proofs.merge_in.Statement.{statement}
+use Rattle.merging.proofs.merge_in.Tie as tie
+use Rattle.merging.proofs.merge_in.Reads as reads
+use Rattle.merging.proofs.merge_in.Lts as lts
 use Rattle.sampling.proofs.fill_two.Reads as fill-two-reads
 use Rattle.preparing.proofs.conclude.Reads as conclude-reads
 

@@ -1,12 +1,12 @@
--- `operations::merge` meets its contract: document 01's limits are those of its two numbers.
+-- `merging::merge` meets its contract: document 01's limits are those of its two numbers.
 use Rattle.ticks.specs.Calls.{mergeReply}
 use Rattle.operations.proofs.Replies.{ended-basic}
 use borrow.Author.Needs.{needs}
-use Rattle.operations.proofs.merge.Statement.{statement}
-use Rattle.operations.proofs.merge.Tie as tie
-use Rattle.operations.proofs.merge.Reads as reads
-use Rattle.operations.proofs.merge.Lts as lts
-use Rattle.operations.proofs.merge_within.Reads as merge-within-reads
+use Rattle.merging.proofs.merge.Statement.{statement}
+use Rattle.merging.proofs.merge.Tie as tie
+use Rattle.merging.proofs.merge.Reads as reads
+use Rattle.merging.proofs.merge.Lts as lts
+use Rattle.merging.proofs.merge_within.Reads as merge-within-reads
 
 -- src/lib.rt:822:5
 merge-within-requires : tie.Need-merge-within-requires
