@@ -2,7 +2,8 @@
 //
 // Every public function is total: where the ids or the ranges are not all in the bytes, or where there is no room, nothing is filled,
 // and there are no columns and no rows. From bytes that the check accepts, in scratch that has room and is clear, the table samples the
-// ticks of the operation.
+// ticks of the operation. The rows are put by `stopping`, and the cells raised by `raising`; the definitions of the steps and the laws about
+// them stand in `sampling`.
 //
 // Column c of a table has its id in words 2c and 2c + 1 of `ids`, row k its bound in words 3k, 3k + 1 and 3k + 2 of `bounds`,
 // the highest word first; the tick of row k and column c is word STRIDE * k + c of `t`. The order of a replica map is never used.
@@ -11,17 +12,16 @@ use lookup::Cursor;
 use sampling::Bound;
 use sampling::Filled;
 ghost use mathlib.Core.Path.{_≡_};
-ghost use Prim.Native.Nat.{suc, _+_, _*_, _^_, _≤_, _<_};
+ghost use Prim.Native.Nat.{_+_, _*_, _^_, _≤_, _<_};
 ghost use lib.ListN.{length, getD};
 ghost use Rattle.codec.specs.Number.{beAt};
 ghost use Rattle.codec.specs.Words.{words2};
 ghost use Rattle.layout.specs.MethodPlaces.{idsPlace};
 ghost use Rattle.tables.specs.MethodWords.{stride};
-ghost use Rattle.lookup.specs.Method.{elementsHere};
 ghost use Rattle.sampling.specs.MethodColumns.{columnOf, joinOf, joined, columnsOf, mapped};
 ghost use Rattle.sampling.specs.MethodRows.{InWords, boundRead};
-ghost use Rattle.sampling.specs.MethodCells.{raisedIn, raisedBy, filled, columnSet};
-ghost use Rattle.sampling.specs.MethodTables.{fits, Fits, tableOf, oneFilled, oneTable, twoFilled, twoTable, spanTable, raisedTable};
+ghost use Rattle.sampling.specs.MethodCells.{columnSet};
+ghost use Rattle.sampling.specs.MethodTables.{Fits, tableOf, oneFilled, oneTable, twoFilled, twoTable, spanTable, raisedTable};
 
 // the place of the replica ids
 const IDS: usize = 27;
@@ -134,70 +134,7 @@ pub fn bound_of(id: &[u8]) -> Bound
     Bound { high, middle, low }
 }
 
-// ---- cells
-
-// The column of a key, 0 where it has none.
-fn column_of(keys: &[u32], key: ReplicaKey) -> ReplicaKey
-    ensures { λ c. ⌜ c .0 ≡ getD (now (keys .entry)) (key .0) 0 ⌝ }
-{
-    if keys.len() <= key.0 as usize {
-        return ReplicaKey(0);
-    }
-    let n = keys[key.0 as usize];
-    ReplicaKey(n)
-}
-
-// Raises the tick in a row, in the column of a key, to the larger, where there is such a cell.
-fn raise_cell(keys: &[u32], t: &mut [u64], k: u32, key: ReplicaKey, tick: u64)
-    ensures { λ _. ⌜ now (t .exit) ≡ raisedIn (now (keys .entry)) (now (t .entry)) k (key .0) tick ⌝ }
-{
-    let c = column_of(keys, key);
-    let i = tables::STRIDE * (k as usize) + (c.0 as usize);
-    if t.len() <= i {
-        return;
-    }
-    t[i] = codec::larger(t[i], tick);
-}
-
-// Raises row k from the clock vector at a place: each element the cell of its key's column.
-fn raise_row(s: &[u8], vector: usize, keys: &[u32], t: &mut [u64], k: u32)
-    ensures { λ _. ⌜ now (t .exit) ≡ raisedBy (now (keys .entry)) (elementsHere (now (s .entry)) vector) (now (t .entry)) k ⌝ }
-{
-    let n = lookup::elements_at(s, vector);
-    let mut i: usize = 0;
-    let mut at = vector;
-    while i < n {
-        let x = four(s, at + 8) as u32;
-        let tick = eight(s, at + 12);
-        raise_cell(keys, t, k, ReplicaKey(x), tick);
-        at += 12;
-        i += 1;
-    }
-}
-
-// Raises the rows from the first to the last to what a knowledge knows at their bounds.
-fn fill(
-    s: &[u8],
-    r: u32,
-    start: Cursor,
-    keys: &[u32],
-    bounds: &[u64],
-    from: u32,
-    top: u32,
-    t: &mut [u64],
-)
-    requires { ⌜ (3 * (top + 1) ≤ length (now bounds)) × (top + 1 < 2 ^ 32) ⌝ }
-    ensures { λ _. ⌜ now (t .exit) ≡ filled (now (s .entry)) r start (now (keys .entry)) (now (bounds .entry)) from top (now (t .entry)) ⌝ }
-{
-    let mut c = start;
-    let mut k = from;
-    while k <= top {
-        let i = 3 * (k as usize);
-        c = lookup::advance(s, r, c, bounds[i], bounds[i + 1], bounds[i + 2]);
-        raise_row(s, c.vector, keys, t, k);
-        k += 1;
-    }
-}
+// ---- the tick of one replica
 
 // Sets the ticks of a column in the rows from the first to the last.
 fn raise_column(t: &mut [u64], c: ReplicaKey, from: u32, top: u32, tick: u64)
@@ -213,47 +150,6 @@ fn raise_column(t: &mut [u64], c: ReplicaKey, from: u32, top: u32, tick: u64)
 }
 
 // ---- tables
-
-// Are the ids and the ranges of a knowledge all in its bytes, and is there room for m columns and the rows up to n, in lists of the
-// given lengths.
-fn fits(
-    s: &[u8],
-    r: u32,
-    c: Cursor,
-    m: usize,
-    n: usize,
-    ids: usize,
-    bounds: usize,
-    t: usize,
-) -> bool
-    ensures { λ b. ⌜ b ≡ fits (now (s .entry)) r c m n ids bounds t ⌝ }
-{
-    if layout::LARGEST_REPLICAS < r {
-        return false;
-    }
-    if s.len() < IDS + 16 * (r as usize) {
-        return false;
-    }
-    if s.len() < c.next {
-        return false;
-    }
-    if s.len() - c.next < 28 * (c.left as usize) {
-        return false;
-    }
-    if tables::STRIDE < m {
-        return false;
-    }
-    if tables::ROWS <= n {
-        return false;
-    }
-    if ids < 2 * m {
-        return false;
-    }
-    if bounds < 3 * (n + 1) {
-        return false;
-    }
-    tables::STRIDE * (n + 1) <= t
-}
 
 // The table of what one knowledge knows, where all is in the bytes and there is room.
 fn filled_one(
@@ -273,7 +169,7 @@ fn filled_one(
     let mut keys = [0u32; KEYS];
     let columns = add_ids(s, r, ids, 0, &mut keys);
     let rows = stopping::all_stops(s, start, s, 0, start.next, bounds);
-    fill(s, r, start, &keys, bounds, 1, rows, t);
+    raising::fill(s, r, start, &keys, bounds, 1, rows, t);
     Filled { columns, rows }
 }
 
@@ -299,8 +195,8 @@ fn filled_two(
     let first = add_ids(s, r, ids, 0, &mut keys);
     let columns = add_ids(other, m, ids, first, &mut others);
     let rows = stopping::all_stops(s, start, other, begin.left, begin.next, bounds);
-    fill(s, r, start, &keys, bounds, 1, rows, t);
-    fill(other, m, begin, &others, bounds, 1, rows, t);
+    raising::fill(s, r, start, &keys, bounds, 1, rows, t);
+    raising::fill(other, m, begin, &others, bounds, 1, rows, t);
     Filled { columns, rows }
 }
 
@@ -317,7 +213,7 @@ pub fn fill_one(
         ≡ oneTable (now (s .entry)) r start (now (ids .entry)) (now (bounds .entry)) (now (t .entry)) ⌝ }
 {
     let n = start.left as usize + 1;
-    if fits(s, r, start, r as usize, n, ids.len(), bounds.len(), t.len()) {
+    if raising::fits(s, r, start, r as usize, n, ids.len(), bounds.len(), t.len()) {
         return filled_one(s, r, start, ids, bounds, t);
     }
     Filled {
@@ -343,7 +239,7 @@ pub fn fill_raised(
 {
     let m = r as usize + 1;
     let n = start.left as usize + 1;
-    if fits(s, r, start, m, n, ids.len(), bounds.len(), t.len()) {
+    if raising::fits(s, r, start, m, n, ids.len(), bounds.len(), t.len()) {
         let q = filled_one(s, r, start, ids, bounds, t);
         let own = join_id(ids, q.columns, q.columns, p0, p1);
         raise_column(t, own.column, 1, q.rows, tick);
@@ -373,11 +269,11 @@ pub fn fill_span(
         ≡ spanTable (now (s .entry)) r start first last (now (ids .entry)) (now (bounds .entry)) (now (t .entry)) ⌝ }
 {
     let n = start.left as usize + 3;
-    if fits(s, r, start, r as usize, n, ids.len(), bounds.len(), t.len()) {
+    if raising::fits(s, r, start, r as usize, n, ids.len(), bounds.len(), t.len()) {
         let mut keys = [0u32; KEYS];
         let columns = add_ids(s, r, ids, 0, &mut keys);
         let span = stopping::span_stops(s, start, first, last, bounds);
-        fill(s, r, start, &keys, bounds, span.from, span.top, t);
+        raising::fill(s, r, start, &keys, bounds, span.from, span.top, t);
         return Filled {
             columns,
             rows: span.rows,
@@ -406,8 +302,8 @@ pub fn fill_two(
 {
     let k = r as usize + m as usize;
     let n = start.left as usize + begin.left as usize + 1;
-    if fits(s, r, start, k, n, ids.len(), bounds.len(), t.len()) {
-        if fits(other, m, begin, k, n, ids.len(), bounds.len(), t.len()) {
+    if raising::fits(s, r, start, k, n, ids.len(), bounds.len(), t.len()) {
+        if raising::fits(other, m, begin, k, n, ids.len(), bounds.len(), t.len()) {
             return filled_two(s, r, start, other, m, begin, ids, bounds, t);
         }
     }

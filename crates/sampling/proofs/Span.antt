@@ -20,7 +20,8 @@ use Rattle.ticks.proofs.Lists.{order, less, same, more}
 use Rattle.ticks.proofs.Equality.{exact?, eqb-exact}
 use Rattle.loading.specs.Method.{Stops, Begins, at-once, after-one, Ends, at-top, with-one}
 use Rattle.sampling.specs.declared.Bound.{Bound}
-use Rattle.sampling.specs.MethodRows.{boundOf, itemOf, InWords, boundRead, topWord, firstItem, topItem, putBound, RowList, rowsOf, rowMore, firstRow, after, lastRow}
+use Rattle.sampling.specs.MethodRows.{boundOf, itemOf, InWords, boundRead, topWord, firstItem, topItem, putBound}
+use Rattle.sampling.specs.MethodRows.{RowList, rowsOf, rowMore, firstRow, after, lastRow}
 use Rattle.sampling.proofs.Columns.{Kept, Put}
 use Rattle.sampling.proofs.Bounds.{bound-put, put-size}
 use Rattle.tables.specs.MethodWords.{boundAt}

@@ -15,7 +15,7 @@ use Rattle.tables.specs.MethodWords.{mostRows}
 use Rattle.lookup.specs.declared.Cursor.{Cursor}
 use Rattle.sampling.specs.declared.Bound.{Bound}
 use Rattle.sampling.specs.MethodRows.{firstItem, topItem, RowList, rowsOf, stopped, firstRow, lastRow}
-use Rattle.sampling.specs.MethodStops.{atMost, rowsFit, allStopped, SpanList, spanOf, spanned, spanStopped}
+use Rattle.sampling.specs.MethodStops.{atMost, rowsFit, allStopped, spanOf, spanned, spanStopped}
 
 -- Tests of numbers
 

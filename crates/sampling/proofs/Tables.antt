@@ -1,22 +1,20 @@
 -- The tables that are filled. From accepted bytes and with room, columns are added for the replicas, rows are put at the first item and
 -- at every later bound, and the cells are raised from the bytes: so each table samples the ticks of its operation (`one-samples`,
 -- `two-samples`, `span-samples`, `raised-samples`). Room for a table, and accepted bytes, are just what the test at the start asks.
-use Prim.Native.Nat.{ℕ, suc, max, _+_, _*_, _≤_, _<_}
+use Prim.Native.Nat.{ℕ, suc, _+_, _*_, _≤_, _<_}
 use mathlib.Core.Path.{_≡_, refl, sym, ap, ap₂, _∙_, subst}
 use mathlib.Core.Bool.{Bool, true, false}
 use mathlib.Core.List.{List, [], _∷_}
 use native.Mathlib.Omega.{arith}
 use lib.Dec.{leb}
 use lib.ListN.{length}
-use borrow.Author.Tests.{le-leb, lt-leb}
 use Rattle.codec.specs.Words.{words2}
-use Rattle.layout.specs.Knowledge.{All, bounds}
+use Rattle.layout.specs.Knowledge.{bounds}
 use Rattle.layout.specs.Permitted.{largestReplicas}
 use Rattle.layout.specs.Decode.{decode}
 use Rattle.layout.specs.MethodPlaces.{idsPlace}
 use Rattle.ticks.specs.Meaning.{highest, known}
 use Rattle.ticks.specs.Operations.{larger, knownInside, knownRaised}
-use Rattle.ticks.proofs.Equality.{clash}
 use Rattle.ticks.proofs.Lists.{order, less, same, more}
 use Rattle.tables.specs.MethodWords.{stride, mostRows, cell, idAt, boundAt}
 use Rattle.loading.specs.Method.{Unlike, Columns, Added, Stops}
@@ -29,11 +27,11 @@ use Rattle.sampling.specs.MethodColumns.{Join, joinOf, ColumnList, colum
 use Rattle.sampling.specs.MethodRows.{itemOf, InWords, firstItem, topItem, RowList, rowsOf, stopped, firstRow, lastRow}
 use Rattle.sampling.specs.MethodStops.{atMost, allStopped, SpanList, spanOf, spanned, spanStopped}
 use Rattle.sampling.specs.MethodCells.{filled, columnSet}
-use Rattle.sampling.specs.MethodTables.{fits, Fits, Table, tableOf, filledOf, noTable, noKeys, oneFilled, oneTable, twoFilled, twoTable}
-use Rattle.sampling.specs.MethodTables.{spanFilled, spanTable, raisedFilled, raisedTable, TableRoom, Samples}
+use Rattle.sampling.specs.MethodTables.{fits, Fits, filledIn, Table, tableOf, filledOf, noTable, noKeys, oneFilled, oneTable, twoFilled}
+use Rattle.sampling.specs.MethodTables.{twoTable, spanFilled, spanTable, raisedFilled, raisedTable, TableRoom, Samples}
 use Rattle.sampling.proofs.Columns.{Kept, mapped-added, joined-facts, added-one}
 use Rattle.sampling.proofs.Bounds.{boundsAt, StopFacts, stopped-stops}
-use Rattle.sampling.proofs.Filling.{Fills, fillable, filled-fills, column-set}
+use Rattle.sampling.proofs.Filling.{Fills, fillable, filled-fills, filled-length, column-set}
 use Rattle.sampling.proofs.Stops.{most-not, most-next, last-is, all-most, most-all, stopped-is, spanned-is}
 use Rattle.sampling.proofs.Scratch.{zeros-length}
 use Rattle.sampling.proofs.Opening.{opened-ids, opened-count, opened-bounds, ids-asked, bounds-asked, nothing-asked, bounds-none}
@@ -135,6 +133,39 @@ fits-open s r c m n ids bounds' t o h =
       cells = h .cells;
     })
 
+-- The cells, with a bound for each row
+
+module _ (s : List ℕ) (r : ℕ) (c : Cursor) (keys bounds' : List ℕ) (from top : ℕ) (t : List ℕ) where
+  pub in-rows : mostRows < suc top → t ≡ filledIn s r c keys bounds' from top t
+  unfolding filledIn
+  in-rows h = rw (sym (most-not (suc top, mostRows) ((3 * suc top, length bounds') ∷ []) h), filledIn)
+
+  module _ (a : suc top ≤ mostRows) where
+    pub in-bounds : length bounds' < 3 * suc top → t ≡ filledIn s r c keys bounds' from top t
+    unfolding filledIn
+    in-bounds h =
+        rw (sym (most-not (3 * suc top, length bounds') [] h ∙ most-next (suc top, mostRows) ((3 * suc top, length bounds') ∷ []) a), filledIn)
+
+    pub in-is : 3 * suc top ≤ length bounds' → filled s r c keys bounds' from top t ≡ filledIn s r c keys bounds' from top t
+    unfolding filledIn
+    in-is h = rw (all-most ((suc top, mostRows) ∷ (3 * suc top, length bounds') ∷ []) (a, (h, tt)), filledIn)
+
+    in-size : length (filledIn s r c keys bounds' from top t) ≡ length t
+    in-size =
+        elim (order (3 * suc top) (length bounds')) [
+          | less h ↦ ap length (sym (in-is (omega arith))) ∙ filled-length s r keys bounds' c from top t
+          | same h ↦ ap length (sym (in-is (omega arith))) ∙ filled-length s r keys bounds' c from top t
+          | more h ↦ ap length (sym (in-bounds h))
+        ]
+
+  pub in-length : length (filledIn s r c keys bounds' from top t) ≡ length t
+  in-length =
+      elim (order (suc top) mostRows) [
+        | less h ↦ in-size (omega arith)
+        | same h ↦ in-size (omega arith)
+        | more h ↦ ap length (sym (in-rows h))
+      ]
+
 -- nothing is filled
 pub none-put : (ids bounds' t : List ℕ) → tableOf ids bounds' t (filledOf 0 0) ≡ noTable ids bounds' t
 unfolding noTable
@@ -188,12 +219,14 @@ module _ (s : List ℕ) (r : ℕ) (c : Cursor) (ids bounds' t : List ℕ) where
 
 module _ (s : List ℕ) (r : ℕ) (c : Cursor) (ids bounds' t ids' : List ℕ) (m : ℕ) where
   module _ (keys' : List ℕ) (add : columnsOf ids' m keys' ≡ mapped s r ids 0 noKeys) where
-    pub one-put : (u : List ℕ) (top : ℕ) → rowsOf u top ≡ allStopped s c s 0 (c .next) bounds'
-        → Fits s r c r (c .left + 1) (length ids) (length bounds') (length t) → (t' : List ℕ) → t' ≡ filled s r c keys' u 1 top t
+    pub one-put : (u : List ℕ) (top : ℕ) → rowsOf u top ≡ allStopped s c s 0 (c .next) bounds' → top ≤ c .left + 0 + 1
+        → length u ≡ length bounds' → Fits s r c r (c .left + 1) (length ids) (length bounds') (length t) → (t' : List ℕ)
+        → t' ≡ filledIn s r c keys' u 1 top t
         → tableOf ids' u t' (filledOf m top) ≡ oneFilled s r c ids bounds' t
     unfolding oneFilled
-    one-put u top stops h t' fill =
-        ap (λ (v : List ℕ). tableOf ids' u v (filledOf m top)) fill
+    one-put u top stops low size h t' fill =
+        ap (λ (v : List ℕ). tableOf ids' u v (filledOf m top))
+        (fill ∙ sym (in-is s r c keys' u 1 top t (omega (arith, h .rows)) (omega (arith, size, h .boundWords))))
         ∙ ap₂ (λ (x : ColumnList) (y : RowList).
         tableOf (x .ids) (y .bounds) (filled s r c (x .keys) (y .bounds) 1 (y .top) t) (filledOf (x .count) (y .top))) add
         (stops ∙ stopped-is s c s 0 (c .next) bounds' (record {
@@ -204,11 +237,13 @@ module _ (s : List ℕ) (r : ℕ) (c : Cursor) (ids bounds' t ids' : List ℕ) (
         }))
 
     pub span-put : (first last : Bound) (u : List ℕ) (from top rows : ℕ) → spanOf u from top rows ≡ spanStopped s c first last bounds'
-        → Fits s r c r (c .left + 3) (length ids) (length bounds') (length t) → (t' : List ℕ) → t' ≡ filled s r c keys' u from top t
+        → top ≤ c .left + 2 → length u ≡ length bounds' → Fits s r c r (c .left + 3) (length ids) (length bounds') (length t) → (t' : List ℕ)
+        → t' ≡ filledIn s r c keys' u from top t
         → tableOf ids' u t' (filledOf m rows) ≡ spanFilled s r c first last ids bounds' t
     unfolding spanFilled
-    span-put first last u from top rows stops h t' fill =
-        ap (λ (v : List ℕ). tableOf ids' u v (filledOf m rows)) fill
+    span-put first last u from top rows stops low size h t' fill =
+        ap (λ (v : List ℕ). tableOf ids' u v (filledOf m rows))
+        (fill ∙ sym (in-is s r c keys' u from top t (omega (arith, h .rows)) (omega (arith, size, h .boundWords))))
         ∙ ap₂ (λ (x : ColumnList) (y : SpanList).
         tableOf (x .ids) (y .bounds) (filled s r c (x .keys) (y .bounds) (y .from) (y .top) t) (filledOf (x .count) (y .rows))) add
         (stops ∙ spanned-is s c first last bounds' (record {
@@ -233,14 +268,17 @@ module _ (s : List ℕ) (r : ℕ) (c : Cursor) (ids bounds' t ids' : List ℕ) (
 module _ (s : List ℕ) (r : ℕ) (c : Cursor) (ids bounds' t ids' keys' : List ℕ) (m : ℕ)
     (add : columnsOf ids' m keys' ≡ mapped s r ids 0 noKeys) where
   pub two-put : (other : List ℕ) (n : ℕ) (d : Cursor) (ids'' others u : List ℕ) (k top : ℕ) → columnsOf ids'' k others ≡ mapped other n ids' m noKeys
-      → rowsOf u top ≡ allStopped s c other (d .left) (d .next) bounds'
+      → rowsOf u top ≡ allStopped s c other (d .left) (d .next) bounds' → top ≤ c .left + d .left + 1 → length u ≡ length bounds'
       → Fits s r c (r + n) (c .left + d .left + 1) (length ids) (length bounds') (length t)
       → Fits other n d (r + n) (c .left + d .left + 1) (length ids) (length bounds') (length t) → (t' t'' : List ℕ)
-      → t' ≡ filled s r c keys' u 1 top t → t'' ≡ filled other n d others u 1 top t'
+      → t' ≡ filledIn s r c keys' u 1 top t → t'' ≡ filledIn other n d others u 1 top t'
       → tableOf ids'' u t'' (filledOf k top) ≡ twoFilled s r c other n d ids bounds' t
   unfolding twoFilled
-  two-put other n d ids'' others u k top more-ids stops h i t' t'' fill fill' =
-      ap (λ (v : List ℕ). tableOf ids'' u v (filledOf k top)) (fill' ∙ ap (filled other n d others u 1 top) fill)
+  two-put other n d ids'' others u k top more-ids stops low size h i t' t'' fill fill' =
+      ap (λ (v : List ℕ). tableOf ids'' u v (filledOf k top))
+      (fill' ∙ sym (in-is other n d others u 1 top t' (omega (arith, h .rows)) (omega (arith, size, h .boundWords)))
+      ∙ ap (filled other n d others u 1 top)
+      (fill ∙ sym (in-is s r c keys' u 1 top t (omega (arith, h .rows)) (omega (arith, size, h .boundWords)))))
       ∙ ap₂ (λ (z : ColumnList) (y : RowList).
       tableOf (z .ids) (y .bounds)
       (filled other n d (z .keys) (y .bounds) 1 (y .top) (filled s r c keys' (y .bounds) 1 (y .top) t)) (filledOf (z .count) (y .top)))

@@ -23,7 +23,15 @@ fits s r c m n ids bounds t =
     atMost ((r, largestReplicas) ∷ (idsPlace + 16 * r, length s) ∷ (c .next + 28 * c .left, length s)
     ∷ (m, stride) ∷ (suc n, mostRows) ∷ (2 * m, ids) ∷ (3 * suc n, bounds) ∷ (stride * suc n, t) ∷ [])
 
--- all of it, with names
+-- the rows `from` to `top`, raised where there is a bound for each
+unfoldable pub filledIn : List ℕ → ℕ → Cursor → List ℕ → List ℕ → ℕ → ℕ → List ℕ → List ℕ
+filledIn s r c keys bounds from top t =
+    elim (atMost ((suc top, mostRows) ∷ (3 * suc top, length bounds) ∷ [])) [
+      | true ↦ filled s r c keys bounds from top t
+      | false ↦ t
+    ]
+
+-- all of the test at the start, with names
 pub record Fits (s : List ℕ) (r : ℕ) (c : Cursor) (m n ids bounds t : ℕ) : Type 0 where
   pub small : r ≤ largestReplicas
   pub map : idsPlace + 16 * r ≤ length s

@@ -6,11 +6,11 @@ use lookup::Cursor;
 use sampling::Bound;
 use sampling::Turn;
 ghost use mathlib.Core.Path.{_≡_};
-ghost use Prim.Native.Nat.{suc, _+_, _*_, _^_, _≤_, _<_};
+ghost use Prim.Native.Nat.{_+_, _*_, _^_, _≤_, _<_};
 ghost use lib.ListN.{length, getD};
 ghost use Rattle.codec.specs.Number.{beAt};
 ghost use Rattle.ticks.specs.Meaning.{highest};
-ghost use Rattle.sampling.specs.MethodRows.{boundOf, itemOf, firstItem, topItem, boundIn, turn};
+ghost use Rattle.sampling.specs.MethodRows.{boundOf, itemOf, boundIn, turn};
 ghost use Rattle.sampling.specs.MethodRows.{putBound, rowsOf, grown, stopped, firstRow, after, lastRow};
 ghost use Rattle.sampling.specs.MethodStops.{rowsFit, allStopped, spanOf, spanned, spanStopped};
 

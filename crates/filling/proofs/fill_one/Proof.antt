@@ -10,7 +10,7 @@ use Rattle.filling.proofs.fill_one.Tie as tie
 use Rattle.filling.proofs.fill_one.Reads as reads
 use Rattle.filling.proofs.fill_one.Lts as lts
 use Rattle.filling.proofs.filled_one.Reads as filled-one-reads
-use Rattle.filling.proofs.fits.Reads as fits-reads
+use Rattle.raising.proofs.fits.Reads as fits-reads
 
 cast-n : tie.Need-cast-n
 cast-n c = omega arith

@@ -10,7 +10,7 @@ use Rattle.filling.proofs.fill_raised.Tie as tie
 use Rattle.filling.proofs.fill_raised.Reads as reads
 use Rattle.filling.proofs.fill_raised.Lts as lts
 use Rattle.filling.proofs.filled_one.Reads as filled-one-reads
-use Rattle.filling.proofs.fits.Reads as fits-reads
+use Rattle.raising.proofs.fits.Reads as fits-reads
 use Rattle.filling.proofs.join_id.Reads as join-id-reads
 use Rattle.filling.proofs.raise_column.Reads as raise-column-reads
 

@@ -10,8 +10,8 @@ use Rattle.filling.proofs.fill_span.Tie as tie
 use Rattle.filling.proofs.fill_span.Reads as reads
 use Rattle.filling.proofs.fill_span.Lts as lts
 use Rattle.filling.proofs.add_ids.Reads as add-ids-reads
-use Rattle.filling.proofs.fill.Reads as fill-reads
-use Rattle.filling.proofs.fits.Reads as fits-reads
+use Rattle.raising.proofs.fill.Reads as fill-reads
+use Rattle.raising.proofs.fits.Reads as fits-reads
 use Rattle.stopping.proofs.span_stops.Reads as span-stops-reads
 
 cast-n : tie.Need-cast-n
@@ -38,10 +38,7 @@ slice-aggregate-fill : tie.Need-slice-aggregate-fill
 slice-aggregate-fill c = search needs
 
 fill-requires : tie.Need-fill-requires
-fill-requires c κs = let a = c .before .before .before .before .before .before .before .before .before .before .before .before .before .before .before .before .before .before .before .before .args in
-    let f = fits-tells (a .s .now) (a .r) (a .start) (a .r) (a .start .left + 3) (length (a .ids .now)) (length (a .bounds .now)) (length (a .t .now)) _ (c .before .before .before .before .before .before .before .before .before .before .before .before .before .before .fits2 .ensures) (c .before .before .before .before .before .before .before .before .before .before .before .before .before .if1 .taken) in
-    let y = c .before .before .before .before .before .span-stops .ensures in
-    (omega (arith, f .boundWords, y .1, y .2), omega (arith, f .rows, y .1))
+fill-requires c κs = tt
 
 same-length : tie.Need-same-length
 same-length c = search needs
@@ -55,7 +52,7 @@ same-length-3 c = search needs
 returns : tie.Need-returns
 returns c = let a = c .before .before .before .before .before .before .before .before .before .before .before .before .before .before .before .before .before .before .before .before .before .before .before .args in
     let f = fits-tells (a .s .now) (a .r) (a .start) (a .r) (a .start .left + 3) (length (a .ids .now)) (length (a .bounds .now)) (length (a .t .now)) _ (c .before .before .before .before .before .before .before .before .before .before .before .before .before .before .before .before .before .fits2 .ensures) (c .before .before .before .before .before .before .before .before .before .before .before .before .before .before .before .before .if1 .taken) in
-    span-put _ _ _ _ _ _ _ _ _ (c .before .before .before .before .before .before .before .before .before .before .before .before .before .add-ids .ensures .0) _ _ _ _ _ _ (c .before .before .before .before .before .before .before .before .span-stops .ensures .0) f _ (c .before .before .fill .ensures)
+    span-put _ _ _ _ _ _ _ _ _ (c .before .before .before .before .before .before .before .before .before .before .before .before .before .add-ids .ensures .0) _ _ _ _ _ _ (c .before .before .before .before .before .before .before .before .span-stops .ensures .0) (c .before .before .before .before .before .before .before .before .span-stops .ensures .1) (c .before .before .before .before .before .before .before .before .span-stops .ensures .2) f _ (c .before .before .fill .ensures)
     ∙ span-some _ _ _ _ _ _ _ _ _ (c .before .before .before .before .before .before .before .before .before .before .before .before .before .before .before .before .before .fits2 .ensures) (c .before .before .before .before .before .before .before .before .before .before .before .before .before .before .before .before .if1 .taken)
 
 returns-2 : tie.Need-returns-2

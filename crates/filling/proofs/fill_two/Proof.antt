@@ -10,7 +10,7 @@ use Rattle.filling.proofs.fill_two.Tie as tie
 use Rattle.filling.proofs.fill_two.Reads as reads
 use Rattle.filling.proofs.fill_two.Lts as lts
 use Rattle.filling.proofs.filled_two.Reads as filled-two-reads
-use Rattle.filling.proofs.fits.Reads as fits-reads
+use Rattle.raising.proofs.fits.Reads as fits-reads
 
 add-k : tie.Need-add-k
 add-k c = omega arith

@@ -2,15 +2,14 @@
 use native.Mathlib.Omega.{arith}
 use mathlib.Core.Path.{refl, ap, _∙_}
 use lib.ListN.{length}
-use Rattle.sampling.proofs.Filling.{filled-length}
-use Rattle.sampling.proofs.Tables.{one-put}
+use Rattle.sampling.proofs.Tables.{in-length, one-put}
 use borrow.Author.Needs.{needs}
 use Rattle.filling.proofs.filled_one.Statement.{statement}
 use Rattle.filling.proofs.filled_one.Tie as tie
 use Rattle.filling.proofs.filled_one.Reads as reads
 use Rattle.filling.proofs.filled_one.Lts as lts
 use Rattle.filling.proofs.add_ids.Reads as add-ids-reads
-use Rattle.filling.proofs.fill.Reads as fill-reads
+use Rattle.raising.proofs.fill.Reads as fill-reads
 use Rattle.stopping.proofs.all_stops.Reads as all-stops-reads
 
 slice-aggregate-add-ids : tie.Need-slice-aggregate-add-ids
@@ -26,7 +25,7 @@ slice-aggregate-fill : tie.Need-slice-aggregate-fill
 slice-aggregate-fill c = search needs
 
 fill-requires : tie.Need-fill-requires
-fill-requires c κs = let f = c .before .before .before .before .before .before .before .before .before .before .before .before .before .before .before .before .before .pre in let y = c .before .before .before .before .before .all-stops .ensures in (omega (arith, f .boundWords, y .1, y .2), omega (arith, f .rows, y .1))
+fill-requires c κs = tt
 
 same-length : tie.Need-same-length
 same-length c = search needs
@@ -39,11 +38,11 @@ same-length-3 c = search needs
 
 returns : tie.Need-returns
 returns c = let x = c .before .before .before .before .before .before .before .before .before .before .before .before .before .add-ids .ensures in let y = c .before .before .before .before .before .before .before .before .all-stops .ensures in (
-  one-put _ _ _ _ _ _ _ _ _ (x .0) _ _ (y .0) (c .before .before .before .before .before .before .before .before .before .before .before .before .before .before .before .before .before .before .before .before .pre) _ (c .before .before .fill .ensures),
+  one-put _ _ _ _ _ _ _ _ _ (x .0) _ _ (y .0) (y .1) (y .2) (c .before .before .before .before .before .before .before .before .before .before .before .before .before .before .before .before .before .before .before .before .pre) _ (c .before .before .fill .ensures),
   omega (arith, x .1),
   omega (arith, y .1),
   x .2,
-  ap length (c .before .before .fill .ensures) ∙ filled-length _ _ _ _ _ _ _ _,
+  ap length (c .before .before .fill .ensures) ∙ in-length _ _ _ _ _ _ _ _,
 )
 
 pub filled-one-spec : {M : Type 1} → statement M

@@ -8,7 +8,7 @@ use Rattle.filling.proofs.filled_two.Tie as tie
 use Rattle.filling.proofs.filled_two.Reads as reads
 use Rattle.filling.proofs.filled_two.Lts as lts
 use Rattle.filling.proofs.add_ids.Reads as add-ids-reads
-use Rattle.filling.proofs.fill.Reads as fill-reads
+use Rattle.raising.proofs.fill.Reads as fill-reads
 use Rattle.stopping.proofs.all_stops.Reads as all-stops-reads
 
 slice-aggregate-add-ids : tie.Need-slice-aggregate-add-ids
@@ -31,13 +31,13 @@ slice-aggregate-fill : tie.Need-slice-aggregate-fill
 slice-aggregate-fill c = search needs
 
 fill-requires : tie.Need-fill-requires
-fill-requires c κs = let f = c .before .before .before .before .before .before .before .before .before .before .before .before .before .before .before .before .before .before .before .before .before .before .before .before .pre .0 in let y = c .before .before .before .before .before .all-stops .ensures in (omega (arith, f .boundWords, y .1, y .2), omega (arith, f .rows, y .1))
+fill-requires c κs = tt
 
 slice-aggregate-fill-2 : tie.Need-slice-aggregate-fill-2
 slice-aggregate-fill-2 c = search needs
 
 fill-requires-2 : tie.Need-fill-requires-2
-fill-requires-2 c κs = let f = c .before .before .before .before .before .before .before .before .before .before .before .before .before .before .before .before .before .before .before .before .before .before .before .before .before .before .before .before .before .before .pre .0 in let y = c .before .before .before .before .before .before .before .before .before .before .before .all-stops .ensures in (omega (arith, f .boundWords, y .1, y .2), omega (arith, f .rows, y .1))
+fill-requires-2 c κs = tt
 
 same-length : tie.Need-same-length
 same-length c = search needs
@@ -49,7 +49,7 @@ same-length-3 : tie.Need-same-length-3
 same-length-3 c = search needs
 
 returns : tie.Need-returns
-returns c = two-put _ _ _ _ _ _ _ _ _ (c .before .before .before .before .before .before .before .before .before .before .before .before .before .before .before .before .before .before .before .before .before .before .before .before .before .add-ids .ensures .0) _ _ _ _ _ _ _ _ (c .before .before .before .before .before .before .before .before .before .before .before .before .before .before .before .before .before .before .before .add-ids2 .ensures .0) (c .before .before .before .before .before .before .before .before .before .before .before .before .before .before .all-stops .ensures .0) (c .before .before .before .before .before .before .before .before .before .before .before .before .before .before .before .before .before .before .before .before .before .before .before .before .before .before .before .before .before .before .before .before .before .pre .0) (c .before .before .before .before .before .before .before .before .before .before .before .before .before .before .before .before .before .before .before .before .before .before .before .before .before .before .before .before .before .before .before .before .before .pre .1) _ _ (c .before .before .before .before .before .before .before .before .fill .ensures) (c .before .before .fill2 .ensures)
+returns c = two-put _ _ _ _ _ _ _ _ _ (c .before .before .before .before .before .before .before .before .before .before .before .before .before .before .before .before .before .before .before .before .before .before .before .before .before .add-ids .ensures .0) _ _ _ _ _ _ _ _ (c .before .before .before .before .before .before .before .before .before .before .before .before .before .before .before .before .before .before .before .add-ids2 .ensures .0) (c .before .before .before .before .before .before .before .before .before .before .before .before .before .before .all-stops .ensures .0) (c .before .before .before .before .before .before .before .before .before .before .before .before .before .before .all-stops .ensures .1) (c .before .before .before .before .before .before .before .before .before .before .before .before .before .before .all-stops .ensures .2) (c .before .before .before .before .before .before .before .before .before .before .before .before .before .before .before .before .before .before .before .before .before .before .before .before .before .before .before .before .before .before .before .before .before .pre .0) (c .before .before .before .before .before .before .before .before .before .before .before .before .before .before .before .before .before .before .before .before .before .before .before .before .before .before .before .before .before .before .before .before .before .pre .1) _ _ (c .before .before .before .before .before .before .before .before .fill .ensures) (c .before .before .fill2 .ensures)
 
 pub filled-two-spec : {M : Type 1} → statement M
 filled-two-spec =

@@ -1,9 +1,9 @@
--- `filling::column_of` meets its contract: a key past the end has column 0.
+-- `raising::column_of` meets its contract: a key past the end has column 0.
 use native.Mathlib.Omega.{arith}
 use Rattle.sampling.proofs.Cells.{column-none}
 use mathlib.Core.Path.{refl}
-use Rattle.filling.proofs.column_of.Statement.{statement}
-use Rattle.filling.proofs.column_of.Tie as tie
+use Rattle.raising.proofs.column_of.Statement.{statement}
+use Rattle.raising.proofs.column_of.Tie as tie
 
 cast-if1 : tie.Need-cast-if1
 cast-if1 c = omega arith

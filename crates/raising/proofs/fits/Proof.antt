@@ -1,10 +1,10 @@
--- `filling::fits` meets its contract, test by test.
+-- `raising::fits` meets its contract, test by test.
 use Prim.Native.Nat.{_+_, _*_}
 use Rattle.tables.specs.MethodWords.{stride}
 use native.Mathlib.Omega.{arith}
 use Rattle.sampling.proofs.Tables.{fits-1, fits-2, fits-3, fits-4, fits-5, fits-6, fits-7, fits-last}
-use Rattle.filling.proofs.fits.Statement.{statement}
-use Rattle.filling.proofs.fits.Tie as tie
+use Rattle.raising.proofs.fits.Statement.{statement}
+use Rattle.raising.proofs.fits.Tie as tie
 
 returns : tie.Need-returns
 returns c = fits-1 _ _ _ _ _ _ _ _ (omega arith)

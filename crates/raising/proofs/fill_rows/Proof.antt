@@ -1,4 +1,4 @@
--- `filling::fill` meets its contract. The loop's invariant: the rows that are left are still to be raised, from the cursor on.
+-- `raising::fill_rows` meets its contract. The loop's invariant: the rows that are left are still to be raised, from the cursor on.
 use native.Mathlib.Omega.{arith}
 use Prim.Native.Nat.{suc, _+_, _-_, _*_, _^_, _≤_, _<_}
 use mathlib.Core.Path.{_≡_, ap, _∙_}
@@ -6,8 +6,8 @@ use lib.ListN.{length}
 use Rattle.tables.specs.MethodWords.{boundAt}
 use Rattle.sampling.specs.MethodCells.{filledFrom, filled}
 use Rattle.sampling.proofs.Filling.{fill-starts, fill-ends, fill-next, filled-length}
-use Rattle.filling.proofs.fill.Statement.{statement}
-use Rattle.filling.proofs.fill.Tie as tie
+use Rattle.raising.proofs.fill_rows.Statement.{statement}
+use Rattle.raising.proofs.fill_rows.Tie as tie
 
 abbrev Inv-loop : tie.InvT-loop
 Inv-loop s r keys bounds from top t₀ c₀ k₀ t c k =
@@ -71,8 +71,8 @@ same-length c = ap length (fill-ends _ _ _ _ _ _ _ _ _ (c .before .loop .inv .0)
 returns : tie.Need-returns Inv-loop μ-loop
 returns c = fill-ends _ _ _ _ _ _ _ _ _ (c .before .loop .inv .0) (omega arith)
 
-pub fill-spec : {M : Type 1} → statement M
-fill-spec =
+pub fill-rows-spec : {M : Type 1} → statement M
+fill-rows-spec =
     tie.close
     (tie.spec
     Inv-loop

@@ -1,4 +1,4 @@
--- `filling::raise_row` meets its contract. The loop's invariant: the whole row is what the elements that are left raise.
+-- `raising::raise_row` meets its contract. The loop's invariant: the whole row is what the elements that are left raise.
 use native.Mathlib.Omega.{arith}
 use Prim.Native.Nat.{_-_}
 use mathlib.Core.Path.{ap, _∙_}
@@ -6,8 +6,8 @@ use lib.ListN.{length}
 use Rattle.lookup.specs.Method.{elementsHere}
 use Rattle.sampling.specs.MethodCells.{raisedBy}
 use Rattle.sampling.proofs.Cells.{by-size, Rest, rest-starts, rest-ends, rest-next}
-use Rattle.filling.proofs.raise_row.Statement.{statement}
-use Rattle.filling.proofs.raise_row.Tie as tie
+use Rattle.raising.proofs.raise_row.Statement.{statement}
+use Rattle.raising.proofs.raise_row.Tie as tie
 
 abbrev Inv-loop : tie.InvT-loop
 Inv-loop s vector keys t₀ k n i₀ at₀ t i at =

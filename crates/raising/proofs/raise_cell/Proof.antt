@@ -1,9 +1,9 @@
--- `filling::raise_cell` meets its contract: what is written is the larger of the cell and the tick.
+-- `raising::raise_cell` meets its contract: what is written is the larger of the cell and the tick.
 use native.Mathlib.Omega.{arith}
 use lib.ListN.{length-set}
 use Rattle.sampling.proofs.Cells.{raised-past, raised-is}
-use Rattle.filling.proofs.raise_cell.Statement.{statement}
-use Rattle.filling.proofs.raise_cell.Tie as tie
+use Rattle.raising.proofs.raise_cell.Statement.{statement}
+use Rattle.raising.proofs.raise_cell.Tie as tie
 
 column-of-requires : tie.Need-column-of-requires
 column-of-requires c κs = tt
