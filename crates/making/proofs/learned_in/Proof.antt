@@ -6,7 +6,7 @@ use Rattle.making.proofs.learned_in.Statement.{statement}
 use Rattle.making.proofs.learned_in.Tie as tie
 use Rattle.making.proofs.learned_in.Reads as reads
 use Rattle.making.proofs.learned_in.Lts as lts
-use Rattle.sampling.proofs.fill_span.Reads as fill-span-reads
+use Rattle.filling.proofs.fill_span.Reads as fill-span-reads
 use Rattle.making.proofs.finish_batch.Reads as finish-batch-reads
 use Rattle.preparing.proofs.prepare.Reads as prepare-reads
 

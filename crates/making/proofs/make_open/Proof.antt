@@ -6,7 +6,7 @@ use Rattle.making.proofs.make_open.Statement.{statement}
 use Rattle.making.proofs.make_open.Tie as tie
 use Rattle.making.proofs.make_open.Reads as reads
 use Rattle.making.proofs.make_open.Lts as lts
-use Rattle.sampling.proofs.bound_of.Reads as bound-of-reads
+use Rattle.filling.proofs.bound_of.Reads as bound-of-reads
 use Rattle.making.proofs.make_needed.Reads as make-needed-reads
 use Rattle.preparing.proofs.wrong_span.Reads as wrong-span-reads
 

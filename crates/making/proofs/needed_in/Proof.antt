@@ -6,7 +6,7 @@ use Rattle.making.proofs.needed_in.Statement.{statement}
 use Rattle.making.proofs.needed_in.Tie as tie
 use Rattle.making.proofs.needed_in.Reads as reads
 use Rattle.making.proofs.needed_in.Lts as lts
-use Rattle.sampling.proofs.fill_one.Reads as fill-one-reads
+use Rattle.filling.proofs.fill_one.Reads as fill-one-reads
 use Rattle.making.proofs.make_learned.Reads as make-learned-reads
 use Rattle.preparing.proofs.prepare.Reads as prepare-reads
 

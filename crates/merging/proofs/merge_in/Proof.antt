@@ -9,7 +9,7 @@ use Rattle.merging.proofs.merge_in.Statement.{statement}
 use Rattle.merging.proofs.merge_in.Tie as tie
 use Rattle.merging.proofs.merge_in.Reads as reads
 use Rattle.merging.proofs.merge_in.Lts as lts
-use Rattle.sampling.proofs.fill_two.Reads as fill-two-reads
+use Rattle.filling.proofs.fill_two.Reads as fill-two-reads
 use Rattle.preparing.proofs.conclude.Reads as conclude-reads
 
 fill-two-requires : tie.Need-fill-two-requires

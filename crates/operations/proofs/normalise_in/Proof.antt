@@ -9,7 +9,7 @@ use Rattle.operations.proofs.normalise_in.Statement.{statement}
 use Rattle.operations.proofs.normalise_in.Tie as tie
 use Rattle.operations.proofs.normalise_in.Reads as reads
 use Rattle.operations.proofs.normalise_in.Lts as lts
-use Rattle.sampling.proofs.fill_one.Reads as fill-one-reads
+use Rattle.filling.proofs.fill_one.Reads as fill-one-reads
 use Rattle.preparing.proofs.conclude.Reads as conclude-reads
 
 fill-one-requires : tie.Need-fill-one-requires

@@ -9,8 +9,8 @@ use Rattle.operations.proofs.project_in.Statement.{statement}
 use Rattle.operations.proofs.project_in.Tie as tie
 use Rattle.operations.proofs.project_in.Reads as reads
 use Rattle.operations.proofs.project_in.Lts as lts
-use Rattle.sampling.proofs.bound_of.Reads as bound-of-reads
-use Rattle.sampling.proofs.fill_span.Reads as fill-span-reads
+use Rattle.filling.proofs.bound_of.Reads as bound-of-reads
+use Rattle.filling.proofs.fill_span.Reads as fill-span-reads
 use Rattle.preparing.proofs.conclude.Reads as conclude-reads
 
 bound-of-requires : tie.Need-bound-of-requires

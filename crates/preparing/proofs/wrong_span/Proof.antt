@@ -7,7 +7,7 @@ use Rattle.preparing.proofs.wrong_span.Tie as tie
 use Rattle.preparing.proofs.wrong_span.Reads as reads
 use Rattle.preparing.proofs.wrong_span.Lts as lts
 use Rattle.codec.proofs.less3.Reads as less3-reads
-use Rattle.sampling.proofs.bound_of.Reads as bound-of-reads
+use Rattle.filling.proofs.bound_of.Reads as bound-of-reads
 
 returns : tie.Need-returns
 returns c = wrong-first _ _ (c .if1 .taken)
