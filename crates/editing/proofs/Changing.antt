@@ -81,7 +81,7 @@ use Rattle.joining.proofs.Written.{record-table, record-placed, replaced-table}
 use Rattle.stores.specs.declared.KnowledgePart.{KnowledgePart}
 use Rattle.stores.specs.declared.OpenedStore.{OpenedStore}
 use Rattle.stores.specs.declared.OpenedStore.the-variants as S
-use Rattle.stores.specs.Method.{ownPart, storeOpened}
+use Rattle.stores.specs.Method.{ownBytes, storeOpened}
 use Rattle.stores.proofs.Opened.{StoreOpen, store-open, store-closed, store-place, store-room, store-slice}
 use Rattle.storing.specs.MethodStoring.{finishedAnswer, finishedOut, storeWritten}
 use Rattle.storing.proofs.Storing.{finish-ends}

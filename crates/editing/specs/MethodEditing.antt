@@ -17,7 +17,7 @@ use Rattle.records.specs.Method.{readRec, foundPlace}
 use Rattle.joining.specs.declared.VersionWords.{VersionWords}
 use Rattle.stores.specs.declared.KnowledgePart.{KnowledgePart}
 use Rattle.stores.specs.declared.OpenedStore.the-variants as S
-use Rattle.stores.specs.Method.{ownPart, storeOpened}
+use Rattle.stores.specs.Method.{ownBytes, storeOpened}
 use Rattle.editing.specs.declared.Change.{Change}
 
 -- the item of a change, and its content
@@ -46,7 +46,7 @@ pub record Becomes (s k : List ℕ) (who tick : ℕ) (one : List ℕ) (st : Stor
 pub record Asked (L : Limits) (s k : List ℕ) (own : KnowledgePart) (found : Found) (what : Change) : Type 0 where
   pub count : ℕ
   pub valid : storeOpened L s ≡ S.Valid own count
-  pub part : k ≡ ownPart s
+  pub part : k ≡ ownBytes s
   pub place : foundPlace found ≡ placeOf s (itemOf what) (places s (storeKnowledge + own .length))
   pub item : itemOf what < 256 ^ 24
   pub tag : contentOf what .tag < 256 ^ 16

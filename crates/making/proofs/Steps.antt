@@ -59,7 +59,7 @@ use Rattle.selecting.proofs.SelectedTables.{selected-needed, selected-fewer}
 use Rattle.stores.specs.declared.KnowledgePart.{KnowledgePart}
 use Rattle.stores.specs.declared.OpenedStore.{OpenedStore}
 use Rattle.stores.specs.declared.OpenedStore.the-variants as S
-use Rattle.stores.specs.Method.{ownPart, knowledgePart, storeOpened}
+use Rattle.stores.specs.Method.{ownBytes, sizedPart, storeOpened}
 use Rattle.stores.proofs.Opened.{StoreOpen, store-open, store-closed}
 use Rattle.making.specs.declared.Task.{Task}
 use Rattle.making.specs.Method.{Small, Sized, Inputs, taskOf, Carries, Parts, Makes, Learns, Finishes}
@@ -201,7 +201,7 @@ module _ (L : Limits) (s : List ℕ) (own : KnowledgePart) (k : List ℕ) (given
 
     -- mine is the part of the store's bytes that code takes
     module _ (mine : List ℕ) (em : mine ≡ take (table - storeKnowledge) (drop storeKnowledge s)) where
-      part : mine ≡ ownPart s
+      part : mine ≡ ownBytes s
       part =
           let e : table - storeKnowledge ≡ knowledgeLength s = omega (arith, h .length) in
           em ∙ ap (λ (n : ℕ). take n (drop storeKnowledge s)) e
@@ -263,7 +263,7 @@ module _ (a b n : ℕ) (s k first last : List ℕ) (o : OpenedStore) (e : o ≡ 
       reads : Opens R k r c
       reads = opens R (within-permitted a b n) k q g z r c h
 
-      pub make-inputs : Inputs (within a b n) s own k (knowledgePart size r c)
+      pub make-inputs : Inputs (within a b n) s own k (sizedPart size r c)
       make-inputs = record {
         bytes = y;
         value = opened .value;
@@ -277,12 +277,12 @@ module _ (a b n : ℕ) (s k first last : List ℕ) (o : OpenedStore) (e : o ≡ 
         theirs = reads;
       }
 
-      pub make-sized : Sized s own (knowledgePart size r c)
+      pub make-sized : Sized s own (sizedPart size r c)
       make-sized = record {
         inside = omega (arith, opened .length, opened .tests .inside);
         mine = record {
           replicas = opened .small;
-          ranges = scratch-ranges R a b n refl (ownPart s) (own .r) (own .start) (opened .opens);
+          ranges = scratch-ranges R a b n refl (ownBytes s) (own .r) (own .start) (opened .opens);
         };
         theirs = record {
           replicas = scratch-replicas R a b n refl k r c reads;

@@ -22,7 +22,7 @@ use Rattle.replication.specs.MethodRecords.{shapedAt}
 use Rattle.replication.specs.MethodTable.{recsOf, tableAt}
 use Rattle.replication.specs.MethodReplies.{batchReply}
 use Rattle.stores.specs.declared.KnowledgePart.{KnowledgePart}
-use Rattle.stores.specs.Method.{ownPart}
+use Rattle.stores.specs.Method.{ownBytes}
 use Rattle.selecting.specs.MethodSelect.{selectPlaces}
 use Rattle.making.specs.declared.Task.{Task}
 
@@ -44,8 +44,8 @@ pub record Inputs (L : Limits) (s : List ℕ) (own : KnowledgePart) (k : List �
   pub bytes : Bytes s
   pub value : openStore L s ≡ accepted (storeAt L s)
   pub length : own .length ≡ knowledgeLength s
-  pub opens : Opens (anyId L) (ownPart s) (own .r) (own .start)
-  pub knowledge : storeAt L s .knowledge ≡ decode (ownPart s)
+  pub opens : Opens (anyId L) (ownBytes s) (own .r) (own .start)
+  pub knowledge : storeAt L s .knowledge ≡ decode (ownBytes s)
   pub records : tableAt s (storeTable s) ≡ storeAt L s .records
   pub ordered : shapedAt s 0 (storeCount s) (storeTable s) ≡ true
   pub count : storeCount s ≤ L .records

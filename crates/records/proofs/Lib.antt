@@ -2,3 +2,4 @@
 pub mod Fields
 pub mod Finding
 pub mod Shape
+pub mod Lengths

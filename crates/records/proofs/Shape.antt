@@ -1,7 +1,7 @@
 -- The check of a table's records, one after the other. A record is valid by tests of its ticks and tag, which are read at their places. The
 -- whole check is the check of the records that are left, with the item above the last one as the lower bound: a record that passes
--- takes one step, one that does not ends it, and with none left the place must be the end of the bytes.
-use Prim.Native.Nat.{ℕ, suc, _+_, _-_, _≤_, _<_}
+-- takes one step, one that does not ends it, and with none left the place is the end of the bytes, as their length is right.
+use Prim.Native.Nat.{ℕ, suc, _+_, _-_, _*_, _≤_, _<_}
 use mathlib.Core.Path.{_≡_, refl, sym, ap, ap₂, _∙_}
 use mathlib.Core.Bool.{Bool, true, false}
 use mathlib.Core.List.{List}
@@ -16,8 +16,8 @@ use Rattle.layout.specs.Knowledge.{largestTick}
 use Rattle.replication.specs.Record.{Content, Rec}
 use Rattle.replication.specs.Reading.{itemPlace, changeTickPlace, createTickPlace, tagPlace, recAt, both, whole, tagKept, validRec}
 use Rattle.replication.specs.MethodRecords.{shapedAt}
-use Rattle.replication.proofs.RecordsInBytes.{shaped-nil, shaped-on, shaped-stop, shaped-low, shaped-invalid}
-use Rattle.records.specs.Method.{lengthAt, least}
+use Rattle.replication.proofs.RecordsInBytes.{shaped-end, shaped-on, shaped-stop, shaped-low, shaped-invalid}
+use Rattle.records.specs.Method.{commonLength, lengthAt, least}
 use Rattle.records.proofs.Fields.{length-ends, length-stands, length-behind, pair-read, item-at, change-tick-at, create-tick-at, tag-at, deleted-at}
 
 -- ---- the tag
@@ -126,10 +126,10 @@ pub shape-all : (s : List ℕ) (n at l0 l1 l2 : ℕ) → shapedAt s 0 n at ≡ s
 shape-all s n at l0 l1 l2 = ap (λ (lo : ℕ). shapedAt s lo n at) (sym (least-none l0 l1 l2))
 
 module _ (s : List ℕ) (n first lo left at : ℕ) (inv : shapedAt s 0 n first ≡ shapedAt s lo left at) where
-  pub shape-end : left ≤ 0 → eqb at (length s) ≡ shapedAt s 0 n first
-  shape-end l =
+  pub shape-end : left ≤ 0 → at + commonLength * left ≡ length s → true ≡ shapedAt s 0 n first
+  shape-end l room =
       let z : left ≡ 0 = omega arith in
-      sym (inv ∙ (ap (λ (k : ℕ). shapedAt s lo k at) z ∙ shaped-nil s lo at))
+      sym (inv ∙ (ap (λ (k : ℕ). shapedAt s lo k at) z ∙ shaped-end s lo at (omega arith)))
 
   module _ (took : 0 < left) (m : ℕ) (e : m ≡ lengthAt s at) where
     one : shapedAt s 0 n first ≡ shapedAt s lo (suc (left - 1)) at

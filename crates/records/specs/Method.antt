@@ -12,6 +12,10 @@ use Rattle.replication.specs.Reading.{itemPlace, changeReplicaPlace, changeTick
 use Rattle.records.specs.declared.Found.{Found}
 use Rattle.records.specs.declared.Found.the-variants as F
 
+-- the length of a record of either kind, by the law `common-length`
+abbrev pub commonLength : ℕ
+commonLength = 89
+
 -- the length of the whole record of a known kind at a place, 0 where none stands there
 unfoldable pub lengthAt : List ℕ → ℕ → ℕ
 lengthAt s at = elim (whole s at) [ true ↦ recLength (beAt s 1 at) | false ↦ 0 ]

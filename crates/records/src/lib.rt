@@ -4,7 +4,7 @@
 // Every public function is total and takes the whole bytes and a place in them. An item id is three words of 64 bits and a
 // replica id two, the highest first.
 ghost use mathlib.Core.Path.{_≡_};
-ghost use Prim.Native.Nat.{_+_, _^_, _≤_, _<_};
+ghost use Prim.Native.Nat.{_+_, _*_, _^_, _≤_, _<_};
 ghost use lib.Dec.{eqb, leb};
 ghost use lib.ListN.{length, getD};
 ghost use Rattle.codec.specs.Number.{beAt};
@@ -16,7 +16,7 @@ ghost use Rattle.replication.specs.Reading.{itemPlace, changeReplicaPlace, chan
 ghost use Rattle.replication.specs.Queries.{places, placeOf};
 ghost use Rattle.replication.specs.Operate.{wins};
 ghost use Rattle.replication.specs.MethodRecords.{WholeAt, shapedAt};
-ghost use Rattle.records.specs.Method.{lengthAt, recordPart, readRec, foundPlace, least};
+ghost use Rattle.records.specs.Method.{commonLength, lengthAt, recordPart, readRec, foundPlace, least};
 
 // the places of a record's fields, counted from its own
 const ITEM: usize = 1;
@@ -31,6 +31,7 @@ const CREATE_TICK: usize = 65;
 
 const TAG: usize = 73;
 
+// the place behind it, counted so too: the length of a record of either kind
 const END: usize = 89;
 
 const LARGEST_TICK: u64 = 9223372036854775807;
@@ -312,8 +313,10 @@ fn rises(any: bool, l0: u64, l1: u64, l2: u64, i0: u64, i1: u64, i2: u64) -> boo
     true
 }
 
-// Do n whole records of known kinds stand from a place on, up to the very end of the bytes, valid and strictly rising by item.
-pub fn shaped(s: &[u8], n: u32, at: usize) -> bool
+// Are the n records that take all bytes from a place on of known kinds, valid and strictly rising by item. Each is whole: the length of
+// the bytes says so.
+fn in_order(s: &[u8], n: u32, at: usize) -> bool
+    requires { ⌜ at + commonLength * n ≡ length (now s) ⌝ }
     ensures { λ r. ⌜ r ≡ shapedAt (now (s .entry)) 0 n at ⌝ }
 {
     let mut any = false;
@@ -323,7 +326,8 @@ pub fn shaped(s: &[u8], n: u32, at: usize) -> bool
     let mut left = n;
     let mut p = at;
     while 0 < left {
-        let k = length_at(s, p);
+        let kind = one(s, p);
+        let k = record_length(kind);
         if k == 0 {
             return false;
         }
@@ -341,5 +345,19 @@ pub fn shaped(s: &[u8], n: u32, at: usize) -> bool
         p += k;
         left -= 1;
     }
-    p == s.len()
+    true
+}
+
+// Do n whole records of known kinds stand from a place on, up to the very end of the bytes, valid and strictly rising by item. Where the
+// bytes have another length than n records, none is looked at.
+pub fn shaped(s: &[u8], n: u32, at: usize) -> bool
+    ensures { λ r. ⌜ r ≡ shapedAt (now (s .entry)) 0 n at ⌝ }
+{
+    if s.len() < at {
+        return false;
+    }
+    if s.len() - at != END * (n as usize) {
+        return false;
+    }
+    in_order(s, n, at)
 }

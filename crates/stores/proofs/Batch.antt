@@ -21,9 +21,7 @@ use Rattle.layout.specs.Decode.{decode}
 use Rattle.layout.specs.Parse.{checkedBy, parse}
 use Rattle.ticks.specs.Written.{isNormal}
 use Rattle.ticks.specs.Calls.{readAs}
-use Rattle.replication.specs.OpenStore.{versionsIn}
 use Rattle.replication.specs.OpenBatch.{firstId, lastId, neededLength, learnedLength, batchCount, batchNeeded, batchLearned, batchTable}
-use Rattle.replication.specs.OpenBatch.{lacksChange}
 use Rattle.replication.specs.MethodRecords.{recordsAt, shapedAt, each}
 use Rattle.replication.specs.MethodOpening.{isAccepted, neededRead, learnedRead, unchanged}
 use Rattle.replication.proofs.PartBytes.{part-length}
@@ -32,15 +30,16 @@ use Rattle.lookup.specs.declared.Cursor.{Cursor}
 use Rattle.lookup.specs.Method.{openOf}
 use Rattle.ranges.specs.Method.{insideOf}
 use Rattle.ranges.proofs.Outside.{inside-opens}
+use Rattle.versions.specs.Method.{carriedBy}
 use Rattle.stores.specs.declared.KnowledgePart.{KnowledgePart}
 use Rattle.stores.specs.declared.Normality.{Normality}
 use Rattle.stores.specs.declared.Normality.the-variants as N
 use Rattle.stores.specs.declared.OpenedBatch.the-variants as B
-use Rattle.stores.specs.Method.{knowledgePart, NormalOf, NormalityOf, neededPart, learnedPart}
+use Rattle.stores.specs.Method.{sizedPart, NormalOf, NormalityOf, neededBytes, learnedBytes}
 use Rattle.stores.specs.Method.{batchFrom, batchOpened, BatchHeader}
 use Rattle.stores.proofs.Opened.{if-batch, if-not, from-both}
 use Rattle.stores.proofs.Judged.{normal-accepted, normal-read, normal-opened}
-use Rattle.stores.proofs.Carried.{carried-contained, carried-lacking, carried-all}
+use Rattle.stores.proofs.Carried.{carried-by, carried-all}
 
 -- ---- the two answers
 
@@ -49,7 +48,7 @@ unfolding batchOpened
 batch-not L s n = sym (if-not _ _ (no-batch L s n))
 
 batch-is : (L : Limits) (s : List ℕ) → BatchTests L s
-    → batchOpened L s ≡ batchFrom s (openOf (checkedBy (anyId L) (neededPart s))) (openOf (checkedBy (anyId L) (learnedPart s)))
+    → batchOpened L s ≡ batchFrom s (openOf (checkedBy (anyId L) (neededBytes s))) (openOf (checkedBy (anyId L) (learnedBytes s)))
 unfolding batchOpened
 batch-is L s t = if-batch _ _ (tests-batch L s t)
 
@@ -204,62 +203,49 @@ module _ (a b m : ℕ) (s k l : List ℕ) (n : ℕ) (h : BatchHeader s k l n) (f
       here : recordsAt s n (batchNeeded + length k + length l) ≡ recordsAt s (batchCount s) (batchTable s)
       here = ap₂ (recordsAt s) (h .count) (batch-table s k l n h)
 
-      module _ (w : Bool) (x : w ≡ each (versionsIn (decode l)) (recordsAt s n (batchNeeded + length k + length l))) where
-        contained-is : w ≡ each (versionsIn (decode l)) (recordsAt s (batchCount s) (batchTable s))
-        contained-is = x ∙ ap (each (versionsIn (decode l))) here
+      module _ (w : Bool) (x : w ≡ each (carriedBy (decode k) (decode l)) (recordsAt s n (batchNeeded + length k + length l))) where
+        carried-is : w ≡ each (carriedBy (decode k) (decode l)) (recordsAt s (batchCount s) (batchTable s))
+        carried-is = x ∙ ap (each (carriedBy (decode k) (decode l))) here
 
         pub batch-lacks : w ≡ false → B.NotValid ≡ batchOpened L s
         batch-lacks f =
             batch-not L s
             (λ y.
-            let i = carried-contained L s (decode k) (decode l) needed-is learned-is (batchCount s) (batchTable s) (y .carries) in
-            let j = contained-is in
+            let i = carried-by L s (decode k) (decode l) needed-is learned-is (batchCount s) (batchTable s) (y .carries) in
+            let j = carried-is in
             let z : _≡_ {A = ℕ} 0 1 = cc in
             omega arith)
 
-        module _ (c : w ≡ true) (y : Bool) (j : y ≡ each (lacksChange (decode k)) (recordsAt s n (batchNeeded + length k + length l))) where
-          lacking-is : y ≡ each (lacksChange (decode k)) (recordsAt s (batchCount s) (batchTable s))
-          lacking-is = j ∙ ap (each (lacksChange (decode k))) here
+        tests : w ≡ true → BatchTests L s
+        tests f = record {
+          header = h .header;
+          kind = h .kind;
+          inside = h .inside;
+          count = omega (arith, h .count, few);
+          span = h .span;
+          ordered = h .ordered;
+          neededAccepted =
+              ap (λ (x : Parsed Knowledge). isAccepted x) (sym read-needed)
+              ∙ normal-accepted L k p o;
+          neededNormal = ap isNormal needed-is ∙ o .normal;
+          learnedAccepted = ap (λ (x : Parsed Knowledge). isAccepted x) (sym read-learned) ∙ normal-accepted L l d q;
+          learnedNormal = ap isNormal learned-is ∙ q .normal;
+          projected = same-unchanged;
+          carries =
+              carried-all L s (decode k) (decode l) needed-is learned-is (batchCount s) (batchTable s) (h .bytes) none-outside
+              (sym carried-is ∙ f);
+        }
 
-          pub batch-known : y ≡ false → B.NotValid ≡ batchOpened L s
-          batch-known f =
-              batch-not L s
-              (λ i.
-              let x = carried-lacking L s (decode k) (decode l) needed-is learned-is (batchCount s) (batchTable s) (i .carries) in
-              let y = lacking-is in
-              let z : _≡_ {A = ℕ} 0 1 = cc in
-              omega arith)
-
-          tests : y ≡ true → BatchTests L s
-          tests f = record {
-            header = h .header;
-            kind = h .kind;
-            inside = h .inside;
-            count = omega (arith, h .count, few);
-            span = h .span;
-            ordered = h .ordered;
-            neededAccepted =
-                ap (λ (x : Parsed Knowledge). isAccepted x) (sym read-needed)
-                ∙ normal-accepted L k p o;
-            neededNormal = ap isNormal needed-is ∙ o .normal;
-            learnedAccepted = ap (λ (x : Parsed Knowledge). isAccepted x) (sym read-learned) ∙ normal-accepted L l d q;
-            learnedNormal = ap isNormal learned-is ∙ q .normal;
-            projected = same-unchanged;
-            carries =
-                carried-all L s (decode k) (decode l) needed-is learned-is (batchCount s) (batchTable s) (h .bytes) none-outside
-                (sym contained-is ∙ c) (sym lacking-is ∙ f);
-          }
-
-          pub batch-valid : y ≡ true → B.Valid p d n ≡ batchOpened L s
-          batch-valid f =
-              let one : p .length ≡ neededLength s = o .length ∙ needed-length s k l n h in
-              let two : d .length ≡ learnedLength s = q .length ∙ learned-length s k l n h in
-              let needed : p ≡ knowledgePart (neededLength s) (p .r) (p .start) = λ i. knowledgePart (one i) (p .r) (p .start) in
-              let learned : d ≡ knowledgePart (learnedLength s) (d .r) (d .start) = λ i. knowledgePart (two i) (d .r) (d .start) in
-              ap₂ (λ (x : KnowledgePart) (c : ℕ). B.Valid x d c) needed (h .count)
-              ∙ ap (λ (x : KnowledgePart). B.Valid (knowledgePart (neededLength s) (p .r) (p .start)) x (batchCount s)) learned
-              ∙ sym (batch-is L s (tests f)
-              ∙ ap₂ (batchFrom s)
-              (ap (λ (x : List ℕ). openOf (checkedBy (anyId L) x)) (sym (h .needed)) ∙ normal-opened L k p o)
-              (ap (λ (x : List ℕ). openOf (checkedBy (anyId L) x)) (sym (h .learned)) ∙ normal-opened L l d q)
-              ∙ from-both s (p .r) (p .start) (d .r) (d .start))
+        pub batch-valid : w ≡ true → B.Valid p d n ≡ batchOpened L s
+        batch-valid f =
+            let one : p .length ≡ neededLength s = o .length ∙ needed-length s k l n h in
+            let two : d .length ≡ learnedLength s = q .length ∙ learned-length s k l n h in
+            let needed : p ≡ sizedPart (neededLength s) (p .r) (p .start) = λ i. sizedPart (one i) (p .r) (p .start) in
+            let learned : d ≡ sizedPart (learnedLength s) (d .r) (d .start) = λ i. sizedPart (two i) (d .r) (d .start) in
+            ap₂ (λ (x : KnowledgePart) (c : ℕ). B.Valid x d c) needed (h .count)
+            ∙ ap (λ (x : KnowledgePart). B.Valid (sizedPart (neededLength s) (p .r) (p .start)) x (batchCount s)) learned
+            ∙ sym (batch-is L s (tests f)
+            ∙ ap₂ (batchFrom s)
+            (ap (λ (x : List ℕ). openOf (checkedBy (anyId L) x)) (sym (h .needed)) ∙ normal-opened L k p o)
+            (ap (λ (x : List ℕ). openOf (checkedBy (anyId L) x)) (sym (h .learned)) ∙ normal-opened L l d q)
+            ∙ from-both s (p .r) (p .start) (d .r) (d .start))

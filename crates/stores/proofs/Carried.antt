@@ -1,8 +1,8 @@
 -- What the records of a batch must meet. A record whose change version is contained in learned has a tick there, and learned knows nothing
 -- outside the span: so its item is inside the span, with no test of its own. What is left is that both of its versions are contained in
--- learned and that needed lacks the change version; each is asked in a pass of its own.
+-- learned and that needed lacks the change version (`carriedBy`).
 use Prim.Native.Nat.{ℕ, zero, suc, _≤_}
-use mathlib.Core.Path.{_≡_, sym, ap, ap₂, _∙_}
+use mathlib.Core.Path.{_≡_, refl, sym, ap, ap₂, _∙_}
 use mathlib.Core.Logic.{inl, inr}
 use mathlib.Core.Bool.{Bool, true}
 use mathlib.Core.List.{List}
@@ -25,20 +25,20 @@ use Rattle.replication.proofs.Tables.{both-parts, both-holds}
 use Rattle.replication.proofs.RecordBytes.{rec-fits}
 use Rattle.replication.proofs.RecordsInBytes.{each-nil, each-cons, records-nil, records-cons}
 use Rattle.replication.proofs.OpeningBatch.{NothingOutside, carried-is}
+use Rattle.versions.specs.Method.{carriedBy}
 
 -- ---- properties of each record
 
--- what follows from two properties at every place follows for the records
-each-follows : (P Q T : Rec → Bool) (s : List ℕ) → ((at : ℕ) → P (recAt s at) ≡ true → Q (recAt s at) ≡ true → T (recAt s at) ≡ true)
-    → (n at : ℕ) → each P (recordsAt s n at) ≡ true → each Q (recordsAt s n at) ≡ true → each T (recordsAt s n at) ≡ true
-each-follows P Q T s f zero at p q = ap (each T) (records-nil s at) ∙ each-nil T
-each-follows P Q T s f (suc n) at p q =
+-- what follows from a property at every place follows for the records
+each-follows : (P T : Rec → Bool) (s : List ℕ) → ((at : ℕ) → P (recAt s at) ≡ true → T (recAt s at) ≡ true)
+    → (n at : ℕ) → each P (recordsAt s n at) ≡ true → each T (recordsAt s n at) ≡ true
+each-follows P T s f zero at p = ap (each T) (records-nil s at) ∙ each-nil T
+each-follows P T s f (suc n) at p =
     let r = recAt s at in
     let rs = recordsAt s n (behind s at) in
     let a = both-parts (P r) (each P rs) (sym (ap (each P) (records-cons s n at) ∙ each-cons P r rs) ∙ p) in
-    let b = both-parts (Q r) (each Q rs) (sym (ap (each Q) (records-cons s n at) ∙ each-cons Q r rs) ∙ q) in
     ap (each T) (records-cons s n at) ∙ each-cons T r rs
-    ∙ both-holds (T r) (each T rs) (f at (a .0) (b .0)) (each-follows P Q T s f n (behind s at) (a .1) (b .1))
+    ∙ both-holds (T r) (each T rs) (f at (a .0)) (each-follows P T s f n (behind s at) (a .1))
 
 -- ---- the span
 
@@ -70,34 +70,28 @@ known-inside first last k none s b at e =
 
 -- ---- the records of a batch
 
+by-is : (needed learned : Knowledge) (r : Rec) → carriedBy needed learned r ≡ both (versionsIn learned r) (lacksChange needed r)
+unfolding carriedBy
+by-is needed learned r = refl
+
 module _ (L : Limits) (s : List ℕ) (needed learned : Knowledge) (k : readAs (neededRead L s) ≡ needed)
     (l : readAs (learnedRead L s) ≡ learned) where
-  carried-here : (r : Rec) → carried (batchAt L s) r
-      ≡ both (inSpan (firstId s) (lastId s) (r .item)) (both (versionsIn learned r) (lacksChange needed r))
+  carried-here : (r : Rec) → carried (batchAt L s) r ≡ both (inSpan (firstId s) (lastId s) (r .item)) (carriedBy needed learned r)
   carried-here r =
       carried-is L s r
       ∙ ap₂ (λ (x y : Knowledge). both (inSpan (firstId s) (lastId s) (r .item)) (both (versionsIn x r) (lacksChange y r))) l k
+      ∙ ap (both (inSpan (firstId s) (lastId s) (r .item))) (sym (by-is needed learned r))
 
   module _ (n at : ℕ) where
-    pub carried-contained : each (carried (batchAt L s)) (recordsAt s n at) ≡ true → each (versionsIn learned) (recordsAt s n at) ≡ true
-    carried-contained e =
-        each-follows (carried (batchAt L s)) (carried (batchAt L s)) (versionsIn learned) s
-        (λ p x y.
-        let a = both-parts (inSpan (firstId s) (lastId s) (recAt s p .item)) _ (sym (carried-here (recAt s p)) ∙ x) in
-        both-parts (versionsIn learned (recAt s p)) _ (a .1) .0) n at e e
+    pub carried-by : each (carried (batchAt L s)) (recordsAt s n at) ≡ true → each (carriedBy needed learned) (recordsAt s n at) ≡ true
+    carried-by =
+        each-follows (carried (batchAt L s)) (carriedBy needed learned) s
+        (λ p x. both-parts (inSpan (firstId s) (lastId s) (recAt s p .item)) _ (sym (carried-here (recAt s p)) ∙ x) .1) n at
 
-    pub carried-lacking : each (carried (batchAt L s)) (recordsAt s n at) ≡ true → each (lacksChange needed) (recordsAt s n at) ≡ true
-    carried-lacking e =
-        each-follows (carried (batchAt L s)) (carried (batchAt L s)) (lacksChange needed) s
-        (λ p x y.
-        let a = both-parts (inSpan (firstId s) (lastId s) (recAt s p .item)) _ (sym (carried-here (recAt s p)) ∙ x) in
-        both-parts (versionsIn learned (recAt s p)) _ (a .1) .1) n at e e
-
-    pub carried-all : Bytes s → NothingOutside (firstId s) (lastId s) learned → each (versionsIn learned) (recordsAt s n at) ≡ true
-        → each (lacksChange needed) (recordsAt s n at) ≡ true → each (carried (batchAt L s)) (recordsAt s n at) ≡ true
+    pub carried-all : Bytes s → NothingOutside (firstId s) (lastId s) learned → each (carriedBy needed learned) (recordsAt s n at) ≡ true
+        → each (carried (batchAt L s)) (recordsAt s n at) ≡ true
     carried-all b none =
-        each-follows (versionsIn learned) (lacksChange needed) (carried (batchAt L s)) s
-        (λ p x y.
-        carried-here (recAt s p)
-        ∙ both-holds _ _ (known-inside (firstId s) (lastId s) learned none s b p x)
-        (both-holds (versionsIn learned (recAt s p)) (lacksChange needed (recAt s p)) x y)) n at
+        each-follows (carriedBy needed learned) (carried (batchAt L s)) s
+        (λ p x.
+        let a = both-parts (versionsIn learned (recAt s p)) _ (sym (by-is needed learned (recAt s p)) ∙ x) in
+        carried-here (recAt s p) ∙ both-holds _ _ (known-inside (firstId s) (lastId s) learned none s b p (a .0)) x) n at

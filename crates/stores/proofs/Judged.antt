@@ -33,7 +33,7 @@ use Rattle.normal.specs.MethodNormal.{normalIn}
 use Rattle.normal.proofs.ByPlaces.{within-roomy, normal-by-places}
 use Rattle.stores.specs.declared.KnowledgePart.{KnowledgePart}
 use Rattle.stores.specs.declared.Normality.the-variants as N
-use Rattle.stores.specs.Method.{knowledgePart, NormalOf, NotNormal, NormalityOf}
+use Rattle.stores.specs.Method.{sizedPart, NormalOf, NotNormal, NormalityOf}
 
 normal-answer : (L : Limits) (k : List ℕ) (p : KnowledgePart) → NormalOf L k p → NormalityOf L k (N.Normal p)
 normal-answer L k p q = record {
@@ -106,9 +106,9 @@ module _ (a b : ℕ) (k : List ℕ) (c : Checked)
         q ∙ normal-by-places R k r v e g accepts (within-roomy R k r v e g accepts few (brought-within b largestRanges (omega arith) .1))
 
     pub accepted-normal : t ≡ true → (size : ℕ) (s : Cursor) → size ≡ length k → s ≡ startAt r v e g
-        → NormalityOf (within a b n) k (N.Normal (knowledgePart size r s))
+        → NormalityOf (within a b n) k (N.Normal (sizedPart size r s))
     accepted-normal u size s l st =
-        normal-answer (within a b n) k (knowledgePart size r s)
+        normal-answer (within a b n) k (sizedPart size r s)
         (record {
           opens = record {
             permitted = within-permitted a b n;

@@ -38,8 +38,8 @@ use Rattle.stores.specs.declared.OpenedStore.{OpenedStore}
 use Rattle.stores.specs.declared.OpenedStore.the-variants as S
 use Rattle.stores.specs.declared.OpenedBatch.{OpenedBatch}
 use Rattle.stores.specs.declared.OpenedBatch.the-variants as B
-use Rattle.stores.specs.Method.{knowledgePart, ownPart, storeFrom, storeIf, storeOpened}
-use Rattle.stores.specs.Method.{neededPart, learnedPart, batchFrom, batchIf, batchOpened}
+use Rattle.stores.specs.Method.{sizedPart, ownBytes, storeFrom, storeIf, storeOpened}
+use Rattle.stores.specs.Method.{neededBytes, learnedBytes, batchFrom, batchIf, batchOpened}
 
 -- ---- a knowledge of a store or batch
 
@@ -64,7 +64,7 @@ module _ (a b n : ℕ) where
         omega (arith, places (anyId L) bytes r (o .v) (o .e) (o .g) (opens-reading (anyId L) bytes r c o) .replicas, few)
 
     opened-part : Bytes bytes → (size r : ℕ) (c : Cursor) → openOf (checkedBy (anyId L) bytes) ≡ O.At r c
-        → PartOpen L bytes (knowledgePart size r c)
+        → PartOpen L bytes (sizedPart size r c)
     opened-part h size r c e = let o = open-at h r c e in record { opens = o; small = open-small r c o }
 
     not-refused : isAccepted (parse (anyId L) bytes) ≡ true → (m : ℕ) → openOf (checkedBy (anyId L) bytes) ≡ O.Refused m → ⊥
@@ -93,7 +93,7 @@ pub if-false : (b : Bool) (x : OpenedStore) → b ≡ false → storeIf b x ≡ 
 unfolding storeIf
 if-false b x e = ap (λ (t : Bool). storeIf t x) e
 
-pub from-at : (s : List ℕ) (r : ℕ) (c : Cursor) → storeFrom s (O.At r c) ≡ S.Valid (knowledgePart (knowledgeLength s) r c) (storeCount s)
+pub from-at : (s : List ℕ) (r : ℕ) (c : Cursor) → storeFrom s (O.At r c) ≡ S.Valid (sizedPart (knowledgeLength s) r c) (storeCount s)
 unfolding storeFrom
 from-at s r c = refl
 
@@ -103,13 +103,13 @@ from-refused s n = refl
 
 module _ (a b m : ℕ) (s : List ℕ) where
   module _ (bytes : Bytes s) (k : KnowledgePart) (n : ℕ) where
-    open-store : (o : Opened) → openOf (checkedBy (anyId (within a b m)) (ownPart s)) ≡ o → isStore (within a b m) s ≡ true
+    open-store : (o : Opened) → openOf (checkedBy (anyId (within a b m)) (ownBytes s)) ≡ o → isStore (within a b m) s ≡ true
         → storeFrom s o ≡ S.Valid k n → StoreOpen (within a b m) s k n
     open-store (O.At r c) e t f =
         let L = within a b m in
-        let part = ownPart s in
+        let part = ownBytes s in
         let g = sym (from-at s r c) ∙ f in
-        let is : knowledgePart (knowledgeLength s) r c ≡ k = cc in
+        let is : sizedPart (knowledgeLength s) r c ≡ k = cc in
         let part-is = part-bytes s (knowledgeLength s) storeKnowledge bytes in
         let p = subst (PartOpen L part) is (opened-part a b m part part-is (knowledgeLength s) r c e) in
         let o = p .opens in
@@ -132,10 +132,10 @@ module _ (a b m : ℕ) (s : List ℕ) where
     pub store-open : storeOpened (within a b m) s ≡ S.Valid k n → StoreOpen (within a b m) s k n
     store-open = by-test (isStore (within a b m) s) refl
 
-  closed-store : (o : Opened) → openOf (checkedBy (anyId (within a b m)) (ownPart s)) ≡ o → isStore (within a b m) s ≡ true
+  closed-store : (o : Opened) → openOf (checkedBy (anyId (within a b m)) (ownBytes s)) ≡ o → isStore (within a b m) s ≡ true
       → storeFrom s o ≡ S.NotValid → ⊥
   closed-store (O.At r c) e t f = absurd (let g = sym (from-at s r c) ∙ f in let z : _≡_ {A = ℕ} 0 1 = cc in omega arith)
-  closed-store (O.Refused n) e t f = not-refused a b m (ownPart s) (store-tests-hold (within a b m) s t .accepts) n e
+  closed-store (O.Refused n) e t f = not-refused a b m (ownBytes s) (store-tests-hold (within a b m) s t .accepts) n e
 
   pub store-closed : storeOpened (within a b m) s ≡ S.NotValid → openStore (within a b m) s ≡ refused 15
   unfolding storeOpened
@@ -153,12 +153,12 @@ module _ (L : Limits) (s : List ℕ) (k : KnowledgePart) (n : ℕ) (o : StoreOpe
   pub store-room : storeKnowledge + k .length ≤ length s
   store-room = omega (arith, o .length, o .tests .inside)
 
-  pub store-slice : take (storeKnowledge + k .length - storeKnowledge) (drop storeKnowledge s) ≡ ownPart s
+  pub store-slice : take (storeKnowledge + k .length - storeKnowledge) (drop storeKnowledge s) ≡ ownBytes s
   store-slice =
       let e : storeKnowledge + k .length - storeKnowledge ≡ knowledgeLength s = omega (arith, o .length) in
       ap (λ m. take m (drop storeKnowledge s)) e
 
-  pub store-lookup : Open (ownPart s) (k .r) (k .start)
+  pub store-lookup : Open (ownBytes s) (k .r) (k .start)
   store-lookup = record { rules = anyId L; opens = o .opens; small = o .small }
 
   pub store-shaped : shapedAt s 0 n (storeKnowledge + k .length) ≡ true
@@ -190,7 +190,7 @@ unfolding batchIf
 if-not b x e = ap (λ (t : Bool). batchIf t x) e
 
 pub from-both : (s : List ℕ) (r : ℕ) (c : Cursor) (m : ℕ) (d : Cursor) → batchFrom s (O.At r c) (O.At m d)
-    ≡ B.Valid (knowledgePart (neededLength s) r c) (knowledgePart (learnedLength s) m d) (batchCount s)
+    ≡ B.Valid (sizedPart (neededLength s) r c) (sizedPart (learnedLength s) m d) (batchCount s)
 unfolding batchFrom
 from-both s r c m d = refl
 
@@ -207,14 +207,14 @@ module _ (a b m : ℕ) (s : List ℕ) where
   M = within a b m
 
   module _ (bytes : Bytes s) (k l : KnowledgePart) (n : ℕ) where
-    open-batch : (o q : Opened) → openOf (checkedBy (anyId M) (neededPart s)) ≡ o → openOf (checkedBy (anyId M) (learnedPart s)) ≡ q
+    open-batch : (o q : Opened) → openOf (checkedBy (anyId M) (neededBytes s)) ≡ o → openOf (checkedBy (anyId M) (learnedBytes s)) ≡ q
         → isBatch M s ≡ true → batchFrom s o q ≡ B.Valid k l n → BatchOpen M s k l n
     open-batch (O.At r c) (O.At j d) e h t f =
-        let one = neededPart s in
-        let two = learnedPart s in
+        let one = neededBytes s in
+        let two = learnedBytes s in
         let g = sym (from-both s r c j d) ∙ f in
-        let is : knowledgePart (neededLength s) r c ≡ k = cc in
-        let as-well : knowledgePart (learnedLength s) j d ≡ l = cc in
+        let is : sizedPart (neededLength s) r c ≡ k = cc in
+        let as-well : sizedPart (learnedLength s) j d ≡ l = cc in
         let first-bytes = part-bytes s (neededLength s) batchNeeded bytes in
         let second-bytes = part-bytes s (learnedLength s) (batchLearned s) bytes in
         let p = subst (PartOpen M one) is (opened-part a b m one first-bytes (neededLength s) r c e) in
@@ -248,12 +248,12 @@ module _ (a b m : ℕ) (s : List ℕ) where
     pub batch-open : batchOpened (within a b m) s ≡ B.Valid k l n → BatchOpen (within a b m) s k l n
     batch-open = batch-by-test (isBatch M s) refl
 
-  closed-batch : (o q : Opened) → openOf (checkedBy (anyId M) (neededPart s)) ≡ o → openOf (checkedBy (anyId M) (learnedPart s)) ≡ q
+  closed-batch : (o q : Opened) → openOf (checkedBy (anyId M) (neededBytes s)) ≡ o → openOf (checkedBy (anyId M) (learnedBytes s)) ≡ q
       → isBatch M s ≡ true → batchFrom s o q ≡ B.NotValid → ⊥
   closed-batch (O.At r c) (O.At j d) e h t f =
       absurd (let g = sym (from-both s r c j d) ∙ f in let z : _≡_ {A = ℕ} 0 1 = cc in omega arith)
-  closed-batch (O.At r c) (O.Refused j) e h t f = not-refused a b m (learnedPart s) (batch-tests-hold M s t .learnedAccepted) j h
-  closed-batch (O.Refused j) q e h t f = not-refused a b m (neededPart s) (batch-tests-hold M s t .neededAccepted) j e
+  closed-batch (O.At r c) (O.Refused j) e h t f = not-refused a b m (learnedBytes s) (batch-tests-hold M s t .learnedAccepted) j h
+  closed-batch (O.Refused j) q e h t f = not-refused a b m (neededBytes s) (batch-tests-hold M s t .neededAccepted) j e
 
   pub batch-closed : batchOpened (within a b m) s ≡ B.NotValid → openBatch (within a b m) s ≡ refused 16
   unfolding batchOpened
@@ -271,22 +271,22 @@ module _ (L : Limits) (s : List ℕ) (k l : KnowledgePart) (n : ℕ) (o : BatchO
   pub batch-fits : batchNeeded + k .length + l .length ≤ length s
   batch-fits = omega (arith, batch-place, o .tests .inside)
 
-  pub needed-slice : take (batchNeeded + k .length - batchNeeded) (drop batchNeeded s) ≡ neededPart s
+  pub needed-slice : take (batchNeeded + k .length - batchNeeded) (drop batchNeeded s) ≡ neededBytes s
   needed-slice =
       let e : batchNeeded + k .length - batchNeeded ≡ neededLength s = omega (arith, o .neededSize) in
       ap (λ m. take m (drop batchNeeded s)) e
 
   pub learned-slice : take (batchNeeded + k .length + l .length - (batchNeeded + k .length)) (drop (batchNeeded + k .length) s)
-      ≡ learnedPart s
+      ≡ learnedBytes s
   learned-slice =
       let e : batchNeeded + k .length + l .length - (batchNeeded + k .length) ≡ learnedLength s = omega (arith, o .learnedSize) in
       let f : batchNeeded + k .length ≡ batchLearned s = omega (arith, o .neededSize) in
       ap₂ (λ m at. take m (drop at s)) e f
 
-  pub needed-lookup : Open (neededPart s) (k .r) (k .start)
+  pub needed-lookup : Open (neededBytes s) (k .r) (k .start)
   needed-lookup = record { rules = anyId L; opens = o .neededOpens; small = o .neededSmall }
 
-  pub learned-lookup : Open (learnedPart s) (l .r) (l .start)
+  pub learned-lookup : Open (learnedBytes s) (l .r) (l .start)
   learned-lookup = record { rules = anyId L; opens = o .learnedOpens; small = o .learnedSmall }
 
   pub batch-shaped : shapedAt s 0 n (batchNeeded + k .length + l .length) ≡ true

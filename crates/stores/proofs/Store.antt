@@ -30,7 +30,7 @@ use Rattle.stores.specs.declared.KnowledgePart.{KnowledgePart}
 use Rattle.stores.specs.declared.Normality.{Normality}
 use Rattle.stores.specs.declared.Normality.the-variants as N
 use Rattle.stores.specs.declared.OpenedStore.the-variants as S
-use Rattle.stores.specs.Method.{knowledgePart, NormalOf, NormalityOf, ownPart, storeFrom, storeOpened, StoreHeader}
+use Rattle.stores.specs.Method.{sizedPart, NormalOf, NormalityOf, ownBytes, storeFrom, storeOpened, StoreHeader}
 use Rattle.stores.proofs.Opened.{if-true, if-false, from-at}
 use Rattle.stores.proofs.Judged.{normal-accepted, normal-read, normal-opened}
 
@@ -40,7 +40,7 @@ pub store-not : (L : Limits) (s : List ℕ) → (StoreTests L s → ⊥) → S.N
 unfolding storeOpened
 store-not L s n = sym (if-false _ _ (no-store L s n))
 
-store-is : (L : Limits) (s : List ℕ) → StoreTests L s → storeOpened L s ≡ storeFrom s (openOf (checkedBy (anyId L) (ownPart s)))
+store-is : (L : Limits) (s : List ℕ) → StoreTests L s → storeOpened L s ≡ storeFrom s (openOf (checkedBy (anyId L) (ownBytes s)))
 unfolding storeOpened
 store-is L s t = if-true _ _ (tests-store L s t)
 
@@ -158,7 +158,7 @@ module _ (a b m : ℕ) (s k : List ℕ) (n : ℕ) (h : StoreHeader s k n) (few :
         pub store-valid : w ≡ true → S.Valid p n ≡ storeOpened L s
         store-valid f =
             let size : p .length ≡ knowledgeLength s = q .length ∙ size-part s k n h in
-            let own : p ≡ knowledgePart (knowledgeLength s) (p .r) (p .start) = λ i. knowledgePart (size i) (p .r) (p .start) in
+            let own : p ≡ sizedPart (knowledgeLength s) (p .r) (p .start) = λ i. sizedPart (size i) (p .r) (p .start) in
             ap₂ (λ (y : KnowledgePart) (c : ℕ). S.Valid y c) own (h .count)
             ∙ sym (store-is L s (tests f)
             ∙ ap (storeFrom s) (ap (λ (y : List ℕ). openOf (checkedBy (anyId L) y)) (sym (h .part)) ∙ normal-opened L k p q)

@@ -26,8 +26,8 @@ use Rattle.stores.specs.declared.Normality.{Normality}
 use Rattle.stores.specs.declared.Normality.the-variants as N
 
 -- a knowledge of n bytes
-abbrev pub knowledgePart : ℕ → ℕ → Cursor → KnowledgePart
-knowledgePart n r c = record { length = n; r = r; start = c }
+abbrev pub sizedPart : ℕ → ℕ → Cursor → KnowledgePart
+sizedPart n r c = record { length = n; r = r; start = c }
 
 -- a knowledge in normal form that was opened for lookup, with no more replicas than scratch of the largest size has room for
 pub record NormalOf (L : Limits) (k : List ℕ) (p : KnowledgePart) : Type 0 where
@@ -48,12 +48,12 @@ pub record NormalityOf (L : Limits) (k : List ℕ) (z : Normality) : Type 0 wher
 -- ---- stores
 
 -- the bytes of a store's knowledge
-abbrev pub ownPart : List ℕ → List ℕ
-ownPart s = take (knowledgeLength s) (drop storeKnowledge s)
+abbrev pub ownBytes : List ℕ → List ℕ
+ownBytes s = take (knowledgeLength s) (drop storeKnowledge s)
 
 -- from what the check of the knowledge answered
 unfoldable pub storeFrom : List ℕ → Opened → OpenedStore
-storeFrom s (O.At r c) = S.Valid (knowledgePart (knowledgeLength s) r c) (storeCount s)
+storeFrom s (O.At r c) = S.Valid (sizedPart (knowledgeLength s) r c) (storeCount s)
 storeFrom s (O.Refused n) = S.NotValid
 
 unfoldable pub storeIf : Bool → OpenedStore → OpenedStore
@@ -61,7 +61,7 @@ storeIf true x = x
 storeIf false x = S.NotValid
 
 unfoldable pub storeOpened : Limits → List ℕ → OpenedStore
-storeOpened L s = storeIf (isStore L s) (storeFrom s (openOf (checkedBy (anyId L) (ownPart s))))
+storeOpened L s = storeIf (isStore L s) (storeFrom s (openOf (checkedBy (anyId L) (ownBytes s))))
 
 -- the tests before the knowledge hold, but for the limit of records; k is the knowledge's bytes, and n the count of records
 pub record StoreHeader (s k : List ℕ) (n : ℕ) : Type 0 where
@@ -69,20 +69,20 @@ pub record StoreHeader (s k : List ℕ) (n : ℕ) : Type 0 where
   pub kind : beAt s 1 0 ≡ 3
   pub inside : storeTable s ≤ length s
   pub ordered : shapedAt s 0 (storeCount s) (storeTable s) ≡ true
-  pub part : k ≡ ownPart s
+  pub part : k ≡ ownBytes s
   pub count : n ≡ storeCount s
 
 -- ---- batches
 
-abbrev pub neededPart : List ℕ → List ℕ
-neededPart s = take (neededLength s) (drop batchNeeded s)
+abbrev pub neededBytes : List ℕ → List ℕ
+neededBytes s = take (neededLength s) (drop batchNeeded s)
 
-abbrev pub learnedPart : List ℕ → List ℕ
-learnedPart s = take (learnedLength s) (drop (batchLearned s) s)
+abbrev pub learnedBytes : List ℕ → List ℕ
+learnedBytes s = take (learnedLength s) (drop (batchLearned s) s)
 
 unfoldable pub batchFrom : List ℕ → Opened → Opened → OpenedBatch
 batchFrom s (O.At r c) (O.At m d) =
-    B.Valid (knowledgePart (neededLength s) r c) (knowledgePart (learnedLength s) m d) (batchCount s)
+    B.Valid (sizedPart (neededLength s) r c) (sizedPart (learnedLength s) m d) (batchCount s)
 batchFrom s (O.At r c) (O.Refused n) = B.NotValid
 batchFrom s (O.Refused n) o = B.NotValid
 
@@ -93,7 +93,7 @@ batchIf false x = B.NotValid
 unfoldable pub batchOpened : Limits → List ℕ → OpenedBatch
 batchOpened L s =
     batchIf (isBatch L s)
-    (batchFrom s (openOf (checkedBy (anyId L) (neededPart s))) (openOf (checkedBy (anyId L) (learnedPart s))))
+    (batchFrom s (openOf (checkedBy (anyId L) (neededBytes s))) (openOf (checkedBy (anyId L) (learnedBytes s))))
 
 -- the same for a batch: k and l are the bytes of the needed and of the learned knowledge
 pub record BatchHeader (s k l : List ℕ) (n : ℕ) : Type 0 where
@@ -103,6 +103,6 @@ pub record BatchHeader (s k l : List ℕ) (n : ℕ) : Type 0 where
   pub inside : batchTable s ≤ length s
   pub span : firstId s ≤ lastId s
   pub ordered : shapedAt s 0 (batchCount s) (batchTable s) ≡ true
-  pub needed : k ≡ neededPart s
-  pub learned : l ≡ learnedPart s
+  pub needed : k ≡ neededBytes s
+  pub learned : l ≡ learnedBytes s
   pub count : n ≡ batchCount s

@@ -16,10 +16,11 @@ ghost use Rattle.codec.specs.Words.{words3};
 ghost use Rattle.layout.specs.Permitted.{largestRecords, within};
 ghost use Rattle.layout.specs.Decode.{decode};
 ghost use Rattle.replication.specs.OpenStore.{versionsIn};
-ghost use Rattle.replication.specs.OpenBatch.{firstId, lastId, batchNeeded, lacksChange};
+ghost use Rattle.replication.specs.OpenBatch.{firstId, lastId, batchNeeded};
 ghost use Rattle.replication.specs.MethodRecords.{recordsAt, shapedAt, each};
 ghost use Rattle.lookup.specs.Method.{Open};
 ghost use Rattle.ranges.specs.Method.{insideOf};
+ghost use Rattle.versions.specs.Method.{carriedBy};
 ghost use Rattle.stores.specs.Method.{NormalOf, NormalityOf, StoreHeader, storeOpened, BatchHeader, batchOpened};
 
 // the places of a store's own id, of the knowledge's length, of the count of records, and of the knowledge
@@ -116,25 +117,6 @@ fn each_contained(s: &[u8], n: u32, at: usize, k: &[u8], r: u32, start: Cursor) 
     true
 }
 
-// Does a knowledge lack the change version of each of the n records from a place on.
-fn each_lacking(s: &[u8], n: u32, at: usize, k: &[u8], r: u32, start: Cursor) -> bool
-    requires { ⌜ (shapedAt (now s) 0 n at ≡ true) × (Open (now k) r start) ⌝ }
-    ensures { λ b. ⌜ b ≡ each (lacksChange (decode (now (k .entry)))) (recordsAt (now (s .entry)) n at) ⌝ }
-{
-    let mut c = start;
-    let mut left = n;
-    let mut p = at;
-    while 0 < left {
-        c = versions::move_to(s, p, k, r, c);
-        if versions::change_in(s, p, k, r, c.vector) {
-            return false;
-        }
-        p = records::behind(s, p);
-        left -= 1;
-    }
-    true
-}
-
 // ---- stores
 
 // The check of a store from its knowledge k on, with the count of records.
@@ -220,6 +202,39 @@ fn inside_span(s: &[u8], k: &[u8], start: Cursor) -> bool
     ranges::inside(k, start, f.high, f.middle, f.low, l.high, l.middle, l.low)
 }
 
+// Does learned, in l with m replicas, contain both versions of each of the n records from a place on, and does needed, in k with r
+// replicas, lack its change version: one pass with a cursor in each.
+fn each_carried(
+    s: &[u8],
+    n: u32,
+    at: usize,
+    k: &[u8],
+    r: u32,
+    start: Cursor,
+    l: &[u8],
+    m: u32,
+    begin: Cursor,
+) -> bool
+    requires { ⌜ (shapedAt (now s) 0 n at ≡ true) × (Open (now k) r start) × (Open (now l) m begin) ⌝ }
+    ensures { λ b. ⌜ b ≡ each (carriedBy (decode (now (k .entry))) (decode (now (l .entry)))) (recordsAt (now (s .entry)) n at) ⌝ }
+{
+    let mut c = start;
+    let mut d = begin;
+    let mut left = n;
+    let mut p = at;
+    while 0 < left {
+        let i = records::item_of(s, p);
+        c = lookup::advance(k, r, c, i.high, i.middle, i.low);
+        d = lookup::advance(l, m, d, i.high, i.middle, i.low);
+        if versions::carried_in(s, p, k, r, c.vector, l, m, d.vector) {} else {
+            return false;
+        }
+        p = records::behind(s, p);
+        left -= 1;
+    }
+    true
+}
+
 // The check of a batch from its learned knowledge l on, with the needed knowledge k, its sizes, and the count of records. A record
 // whose change version is contained in learned has its item inside the span, as learned has.
 fn batch_learned(
@@ -242,10 +257,17 @@ fn batch_learned(
         return OpenedBatch::NotValid;
     }
     let at = BATCH_NEEDED + k.len() + l.len();
-    if each_contained(s, count, at, l, learned.r, learned.start) {} else {
-        return OpenedBatch::NotValid;
-    }
-    if each_lacking(s, count, at, k, needed.r, needed.start) {} else {
+    if each_carried(
+        s,
+        count,
+        at,
+        k,
+        needed.r,
+        needed.start,
+        l,
+        learned.r,
+        learned.start,
+    ) {} else {
         return OpenedBatch::NotValid;
     }
     OpenedBatch::Valid {

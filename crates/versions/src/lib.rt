@@ -4,8 +4,10 @@
 // bytes that the check accepts and a cursor that was moved on to the record's item, the answers are those of containing.
 use lookup::Cursor;
 ghost use mathlib.Core.Path.{_≡_};
+ghost use lib.Dec.{eqb, leb};
 ghost use Rattle.codec.specs.Words.{words2};
-ghost use Rattle.versions.specs.Method.{movedTo, tickIn, changeIn, createIn, bothIn};
+ghost use Rattle.replication.specs.Reading.{both};
+ghost use Rattle.versions.specs.Method.{movedTo, tickIn, changeIn, withCreate, bothIn, carriedIn};
 
 // The cursor, moved on to the item of the record at a place. Items must rise from call to call.
 pub fn move_to(s: &[u8], at: usize, k: &[u8], r: u32, c: Cursor) -> Cursor
@@ -23,6 +25,41 @@ fn tick_in(k: &[u8], r: u32, vector: usize, p0: u64, p1: u64, tick: u64) -> bool
     tick <= lookup::tick_at(k, vector, key)
 }
 
+// Is the second version, its replica q and its tick t, one of the first's replica with no later tick.
+fn no_later(p0: u64, p1: u64, tick: u64, q0: u64, q1: u64, t: u64) -> bool
+    ensures { λ b. ⌜ b ≡ both (eqb (words2 p0 p1) (words2 q0 q1)) (leb t tick) ⌝ }
+{
+    if codec::same2(p0, p1, q0, q1) {
+        return t <= tick;
+    }
+    false
+}
+
+// Is a version in the clock vector at a place, and the create version of a record with it. A create version of the same replica with
+// no later tick is there where the first is, and is not looked for.
+fn with_create(
+    s: &[u8],
+    at: usize,
+    k: &[u8],
+    r: u32,
+    vector: usize,
+    p0: u64,
+    p1: u64,
+    tick: u64,
+) -> bool
+    ensures { λ b. ⌜ b ≡ withCreate (now (s .entry)) at (now (k .entry)) r vector (words2 p0 p1) tick ⌝ }
+{
+    if tick_in(k, r, vector, p0, p1, tick) {} else {
+        return false;
+    }
+    let q = records::create_replica(s, at);
+    let t = records::create_tick(s, at);
+    if no_later(p0, p1, tick, q.high, q.low, t) {
+        return true;
+    }
+    tick_in(k, r, vector, q.high, q.low, t)
+}
+
 // Is the record's change version in the clock vector at a place.
 pub fn change_in(s: &[u8], at: usize, k: &[u8], r: u32, vector: usize) -> bool
     ensures { λ b. ⌜ b ≡ changeIn (now (s .entry)) at (now (k .entry)) r vector ⌝ }
@@ -32,21 +69,32 @@ pub fn change_in(s: &[u8], at: usize, k: &[u8], r: u32, vector: usize) -> bool
     tick_in(k, r, vector, p.high, p.low, t)
 }
 
-// Is its create version there.
-pub fn create_in(s: &[u8], at: usize, k: &[u8], r: u32, vector: usize) -> bool
-    ensures { λ b. ⌜ b ≡ createIn (now (s .entry)) at (now (k .entry)) r vector ⌝ }
-{
-    let p = records::create_replica(s, at);
-    let t = records::create_tick(s, at);
-    tick_in(k, r, vector, p.high, p.low, t)
-}
-
-// Are both there.
+// Are its change version and its create version there.
 pub fn both_in(s: &[u8], at: usize, k: &[u8], r: u32, vector: usize) -> bool
     ensures { λ b. ⌜ b ≡ bothIn (now (s .entry)) at (now (k .entry)) r vector ⌝ }
 {
-    if change_in(s, at, k, r, vector) {
-        return create_in(s, at, k, r, vector);
+    let p = records::change_replica(s, at);
+    let t = records::change_tick(s, at);
+    with_create(s, at, k, r, vector, p.high, p.low, t)
+}
+
+// Is its change version not in the clock vector at a place of k, and are both versions in the one at a place of l, with m replicas.
+pub fn carried_in(
+    s: &[u8],
+    at: usize,
+    k: &[u8],
+    r: u32,
+    vector: usize,
+    l: &[u8],
+    m: u32,
+    learned: usize,
+) -> bool
+    ensures { λ b. ⌜ b ≡ carriedIn (now (s .entry)) at (now (k .entry)) r vector (now (l .entry)) m learned ⌝ }
+{
+    let p = records::change_replica(s, at);
+    let t = records::change_tick(s, at);
+    if tick_in(k, r, vector, p.high, p.low, t) {
+        return false;
     }
-    false
+    with_create(s, at, l, m, learned, p.high, p.low, t)
 }

@@ -12,20 +12,41 @@ impl Store {
     /// `r` replicas, `g` unlike ranges and `n` records, of which one in three is a tombstone. The own replica has the first
     /// key. Without replicas there are no records, and one range.
     pub fn filled(r: usize, g: usize, n: usize) -> Self {
-        const OWN_TICK: u64 = 9000;
         let own = replica_id(1);
         if r == 0 {
             return Self::new(own);
         }
         // A knowledge that has the own replica only is the same in all ranges.
         let g = if r == 1 { 1 } else { g };
-        let mut knowledge = Knowledge::filled(r, g + 1, g);
-        knowledge.vectors.iter_mut().skip(1).for_each(|vector| vector[0].1 = OWN_TICK);
-        for (place, (bound, _)) in knowledge.ranges.iter_mut().enumerate() {
-            *bound = item_id(4 * place as u128);
+        Self::laid_out(own, r, (0..g).map(|k| item_id(4 * k as u128)), (0..n).map(|k| item_id(1 + k as u128)))
+    }
+
+    /// The same, from one replica on, with the records spread evenly over the ranges. The one replica is not the own one, which would
+    /// have the same tick in all ranges.
+    pub fn spread(r: usize, g: usize, n: usize) -> Self {
+        let own = replica_id(if r == 1 { 77 } else { 1 });
+        Self::laid_out(
+            own,
+            r,
+            (0..g).map(|k| item_id((k * n.max(1)) as u128)),
+            (0..n).map(|k| item_id((k * g) as u128)),
+        )
+    }
+
+    /// `r` replicas, unlike ranges with these bounds and records of these items.
+    fn laid_out(
+        own: ReplicaId,
+        r: usize,
+        bounds: impl ExactSizeIterator<Item = ItemId>,
+        items: impl Iterator<Item = ItemId>,
+    ) -> Self {
+        const OWN_TICK: u64 = 9000;
+        let mut knowledge = Knowledge::filled(r, bounds.len() + 1, bounds.len());
+        if knowledge.replicas[0] == own {
+            knowledge.vectors.iter_mut().skip(1).for_each(|vector| vector[0].1 = OWN_TICK);
         }
-        let record = |place: usize| {
-            let item = item_id(place as u128 + 1);
+        knowledge.ranges.iter_mut().zip(bounds).for_each(|((bound, _), item)| *bound = item);
+        let record = |(place, item): (usize, ItemId)| {
             let version = |key: usize, less: u64| {
                 let replica = knowledge.replicas[key % r];
                 (replica, knowledge.known(&item, &replica).saturating_sub(less).max(1))
@@ -37,7 +58,7 @@ impl Store {
             let tag = if live { [place as u8; 16] } else { [0; 16] };
             Record { kind: if live { LIVE } else { TOMBSTONE }, item, change, create, tag }
         };
-        let records = (0..n).map(record).collect();
+        let records = items.enumerate().map(record).collect();
         Self { own, knowledge, records }
     }
 
@@ -188,6 +209,18 @@ mod tests {
             records += store.records.len();
         }
         assert!(records > 5000, "{records}");
+    }
+
+    #[test]
+    fn those_with_spread_records_are_valid() {
+        for (r, g, n) in
+            [(1, 1, 0), (1, 8, 32), (4, 1, 32), (4, 8, 0), (4, 8, 1), (4, 64, 32), (16, 8, 32), (4, 8, 256)]
+        {
+            let store = Store::spread(r, g, n);
+            assert!(store.is_valid(), "{store:?}");
+            let counts = (store.knowledge.replicas.len(), store.knowledge.ranges.len(), store.records.len());
+            assert_eq!(counts, (r, g, n));
+        }
     }
 
     #[test]

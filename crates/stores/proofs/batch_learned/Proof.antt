@@ -2,7 +2,7 @@
 use native.Mathlib.Omega.{arith}
 use Rattle.layout.specs.Permitted.{within}
 use Rattle.stores.proofs.Judged.{normal-open}
-use Rattle.stores.proofs.Batch.{batch-room, batch-ordered, batch-learned, batch-outside, batch-lacks, batch-known, batch-valid}
+use Rattle.stores.proofs.Batch.{batch-room, batch-ordered, batch-learned, batch-outside, batch-lacks, batch-valid}
 use borrow.Author.Needs.{needs}
 use Rattle.stores.proofs.batch_learned.Statement.{statement}
 use Rattle.stores.proofs.batch_learned.Tie as tie
@@ -45,11 +45,13 @@ add-at-2 c =
     let c5 = c .before .before .before .before .before in
     omega (arith, batch-room _ _ _ _ (c5 .before .before .before .before .pre .0))
 
-each-contained-requires : tie.Need-each-contained-requires
-each-contained-requires c κs =
+each-carried-requires : tie.Need-each-carried-requires
+each-carried-requires c κs =
     let c5 = c .before .before .before .before .before in
-    let a = c5 .before .before .before .before .args in (
-      batch-ordered _ _ _ _ (c5 .before .before .before .before .pre .0),
+    let h = c5 .before .before .before .before in
+    let a = h .args in (
+      batch-ordered _ _ _ _ (h .pre .0),
+      normal-open (within (a .replicas) (a .ranges) 0) _ _ (h .pre .1 0),
       normal-open (within (a .replicas) (a .ranges) 0) _ _ (c5 .normal-part .ensures 0 .normal _
           (c .before .before .before .learned .given .1)),
     )
@@ -61,37 +63,18 @@ returns-3 c =
     λ m few.
     batch-lacks _ _ m _ _ _ _ (c10 .before .pre .0) few _ _ (c10 .before .pre .1 m)
     (c5 .before .before .normal-part .ensures m .normal _ (c5 .learned .given .1)) _
-    (c .before .before .before .inside-span .ensures) (c .before .before .if1 .taken) _ (c .before .each-contained .ensures)
+    (c .before .before .before .inside-span .ensures) (c .before .before .if1 .taken) _ (c .before .each-carried .ensures)
     (c .if2 .left)
-
-each-lacking-requires : tie.Need-each-lacking-requires
-each-lacking-requires c κs =
-    let c5 = c .before .before .before .before .before in
-    let c10 = c5 .before .before .before .before .before in
-    let a = c10 .before .args in
-    (batch-ordered _ _ _ _ (c10 .before .pre .0), normal-open (within (a .replicas) (a .ranges) 0) _ _ (c10 .before .pre .1 0))
 
 returns-4 : tie.Need-returns-4
 returns-4 c =
     let c5 = c .before .before .before .before .before in
     let c10 = c5 .before .before .before .before .before in
     λ m few.
-    batch-known _ _ m _ _ _ _ (c10 .before .before .before .pre .0) few _ _ (c10 .before .before .before .pre .1 m)
-    (c5 .before .before .before .before .normal-part .ensures m .normal _ (c5 .before .before .learned .given .1)) _
-    (c5 .inside-span .ensures) (c .before .before .before .before .if1 .taken) _
-    (c .before .before .before .each-contained .ensures) (c .before .before .if2 .taken) _ (c .before .each-lacking .ensures)
-    (c .if3 .left)
-
-returns-5 : tie.Need-returns-5
-returns-5 c =
-    let c5 = c .before .before .before .before .before in
-    let c10 = c5 .before .before .before .before .before in
-    λ m few.
-    batch-valid _ _ m _ _ _ _ (c10 .before .before .before .pre .0) few _ _ (c10 .before .before .before .pre .1 m)
-    (c5 .before .before .before .before .normal-part .ensures m .normal _ (c5 .before .before .learned .given .1)) _
-    (c5 .inside-span .ensures) (c .before .before .before .before .if1 .taken) _
-    (c .before .before .before .each-contained .ensures) (c .before .before .if2 .taken) _ (c .before .each-lacking .ensures)
-    (c .if3 .taken)
+    batch-valid _ _ m _ _ _ _ (c10 .before .pre .0) few _ _ (c10 .before .pre .1 m)
+    (c5 .before .before .normal-part .ensures m .normal _ (c5 .learned .given .1)) _
+    (c .before .before .before .inside-span .ensures) (c .before .before .if1 .taken) _ (c .before .each-carried .ensures)
+    (c .if2 .taken)
 
 pub batch-learned-spec : {M : Type 1} → statement M
 batch-learned-spec =
@@ -105,8 +88,6 @@ batch-learned-spec =
     returns-2
     add-at
     add-at-2
-    each-contained-requires
+    each-carried-requires
     returns-3
-    each-lacking-requires
-    returns-4
-    returns-5)
+    returns-4)

@@ -8,12 +8,6 @@ use Rattle.versions.proofs.Passing.{follows-both, Passes, passes-start, passes-
 use Rattle.stores.proofs.each_contained.Statement.{statement}
 use Rattle.stores.proofs.each_contained.Tie as tie
 
--- has come to the last record's item.
-
--- has come to the last record's item.
-
--- has come to the last record's item.
-
 abbrev Inv-loop : tie.InvT-loop
 Inv-loop s n at k r c₀ left₀ p₀ c left p = Passes (versionsIn (decode k)) s k r n at left p c
 

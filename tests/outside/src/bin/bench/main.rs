@@ -4,11 +4,13 @@
 //! else on the machine disturbs only takes longer, so the time of a call is that of the 5th percentile of the turns. Long
 //! turns would nearly all be disturbed, and not both sides alike.
 //!
-//! Arguments choose among the tables by the names of the calls.
+//! Arguments choose among the tables by the names of the calls, `growth` and `memcpy`.
 
 mod changing;
 mod changing_call;
+mod growth;
 mod measure;
+mod memcpy;
 mod reading;
 mod reading_call;
 mod row;
@@ -63,10 +65,13 @@ fn main() {
         ROUNDS * TURNS,
         TURN.as_secs_f64() * 1e3
     );
-    for table in TABLES {
-        if chosen.is_empty() || chosen.iter().any(|name| name == table.call) {
-            table.measure();
-        }
+    let wanted = |name: &str| chosen.is_empty() || chosen.iter().any(|other| other == name);
+    TABLES.iter().filter(|table| wanted(table.call)).for_each(Table::measure);
+    if wanted("growth") {
+        growth::measure();
+    }
+    if wanted("memcpy") {
+        memcpy::measure();
     }
 }
 

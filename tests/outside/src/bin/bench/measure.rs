@@ -21,16 +21,21 @@ pub struct Times {
 impl Times {
     /// Measures one round more.
     pub fn measure(&mut self, engine: impl FnMut(), rust: impl FnMut()) {
-        let (mut engine, mut rust) = (Side::new(engine), Side::new(rust));
+        let (mut engine, mut rust) = (Side::new(engine, &self.engine), Side::new(rust, &self.rust));
         for _ in 0..TURNS {
             self.engine.push(engine.turn());
             self.rust.push(rust.turn());
         }
     }
 
+    /// The time of each side.
+    pub fn both(&self) -> [f64; 2] {
+        [low(&self.engine), low(&self.rust)]
+    }
+
     /// Both times, their ratio, and the least and the greatest ratio of a round, as cells of a table.
     pub fn cells(&self) -> String {
-        let (engine, rust) = (low(&self.engine), low(&self.rust));
+        let [engine, rust] = self.both();
         let rounds = self.engine.chunks(TURNS).zip(self.rust.chunks(TURNS));
         let mut ratios: Vec<f64> = rounds.map(|(engine, rust)| low(engine) / low(rust)).collect();
         ratios.sort_by(f64::total_cmp);
@@ -52,10 +57,15 @@ struct Side<F> {
 }
 
 impl<F: FnMut()> Side<F> {
-    fn new(call: F) -> Self {
+    /// Takes the time of a call from the rounds before or, in the first one, from some short turns.
+    fn new(call: F, before: &[f64]) -> Self {
         let mut side = Self { call, calls: 16 };
-        // the quickest of some short turns counts, as the others were disturbed
-        let call = (0..200).map(|_| side.turn()).fold(f64::INFINITY, f64::min);
+        let call = if before.is_empty() {
+            // the quickest counts, as the others were disturbed
+            (0..200).map(|_| side.turn()).fold(f64::INFINITY, f64::min)
+        } else {
+            low(before)
+        };
         side.calls = (TURN.as_secs_f64() * 1e9 / call).ceil() as u32;
         side
     }

@@ -23,11 +23,11 @@ pub enum Asked {
 }
 
 pub struct Row {
-    name: &'static str,
+    pub name: &'static str,
     asked: Asked,
     /// The number that is given, 0 for acceptance.
     number: u32,
-    times: Times,
+    pub times: Times,
 }
 
 impl Row {

@@ -5,8 +5,6 @@
 
 use inputs::{Batch, Store};
 
-use crate::row::Row;
-
 pub struct Sample {
     name: &'static str,
     pub store: Store,
@@ -17,19 +15,12 @@ pub struct Sample {
     pub broken_batch: Vec<u8>,
 }
 
-/// The rows of a table for the smallest, a middle and the largest size.
-pub fn each(rows: fn(&Sample) -> Vec<Row>) -> Vec<(&'static str, Vec<Row>)> {
+/// Something of each size: the smallest, a middle and the largest.
+pub fn each<T>(of: fn(&Sample) -> T) -> Vec<(&'static str, T)> {
     let sizes = [("1 record", 1, 1, 1), ("4 replicas, 8 ranges, 32 records", 4, 8, 32), ("largest", 16, 64, 256)];
     let samples = sizes.map(|(name, r, g, n)| {
         let store = Store::filled(r, g, n);
-        let mut other = store.clone();
-        // Half of its records are later than the store's.
-        for record in other.records.iter_mut().step_by(2) {
-            let known = |id: &[u8; 16]| store.knowledge.known(&record.item, id);
-            let latest = store.knowledge.replicas.iter().map(|id| (known(id), *id)).max().expect("there is a replica");
-            record.change = (latest.1, latest.0);
-        }
-        let (whole, whole_batch) = (store.bytes(), Batch::whole(&other).bytes());
+        let (whole, whole_batch) = (store.bytes(), batch(&store).bytes());
         let broken = |bytes: &[u8]| {
             let mut bytes = bytes.to_vec();
             let kind = bytes.len() - 89;
@@ -39,7 +30,18 @@ pub fn each(rows: fn(&Sample) -> Vec<Row>) -> Vec<(&'static str, Vec<Row>)> {
         let (broken, broken_batch) = (broken(&whole), broken(&whole_batch));
         Sample { name, store, whole, broken, whole_batch, broken_batch }
     });
-    samples.iter().map(|sample| (sample.name, rows(sample))).collect()
+    samples.iter().map(|sample| (sample.name, of(sample))).collect()
+}
+
+/// All that another replica knows whose store is as the given one, but half of its records are later.
+pub fn batch(store: &Store) -> Batch {
+    let mut other = store.clone();
+    for record in other.records.iter_mut().step_by(2) {
+        let known = |id: &[u8; 16]| store.knowledge.known(&record.item, id);
+        let latest = store.knowledge.replicas.iter().map(|id| (known(id), *id)).max().expect("there is a replica");
+        record.change = (latest.1, latest.0);
+    }
+    Batch::whole(&other)
 }
 
 /// An item behind those of the largest store.

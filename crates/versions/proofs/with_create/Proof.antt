@@ -1,0 +1,46 @@
+-- `versions::with_create` meets its contract: the create version is asked only where the first version is there, and only where it
+-- does not follow.
+use Rattle.versions.proofs.Versions.{create-lacks, create-there, create-asked}
+use Rattle.versions.proofs.with_create.Statement.{statement}
+use Rattle.versions.proofs.with_create.Tie as tie
+
+tick-in-requires : tie.Need-tick-in-requires
+tick-in-requires c κs = tt
+
+returns : tie.Need-returns
+returns c = create-lacks _ _ _ _ _ _ _ _ (c .before .tick-in .ensures) (c .if1 .left)
+
+create-replica-requires : tie.Need-create-replica-requires
+create-replica-requires c κs = tt
+
+create-tick-requires : tie.Need-create-tick-requires
+create-tick-requires c κs = tt
+
+no-later-requires : tie.Need-no-later-requires
+no-later-requires c κs = tt
+
+returns-2 : tie.Need-returns-2
+returns-2 c =
+    create-there _ _ _ _ _ _ _ _ (c .before .before .before .before .before .tick-in .ensures) (c .before .before .before .before .if1 .taken) _ _ _ (c .before .before .before .create-replica .ensures) (c .before .before .create-tick .ensures) _
+    (c .before .no-later .ensures) (c .if2 .taken)
+
+tick-in-requires-2 : tie.Need-tick-in-requires-2
+tick-in-requires-2 c κs = tt
+
+returns-3 : tie.Need-returns-3
+returns-3 c =
+    create-asked _ _ _ _ _ _ _ _ (c .before .before .before .before .before .before .tick-in .ensures) (c .before .before .before .before .before .if1 .taken) _ _ _ (c .before .before .before .before .create-replica .ensures) (c .before .before .before .create-tick .ensures) _
+    (c .tick-in2 .ensures)
+
+pub with-create-spec : {M : Type 1} → statement M
+with-create-spec =
+    tie.close
+    (tie.spec
+    tick-in-requires
+    returns
+    create-replica-requires
+    create-tick-requires
+    no-later-requires
+    returns-2
+    tick-in-requires-2
+    returns-3)
