@@ -1,7 +1,8 @@
 // Records asked of a knowledge: does it contain the versions of the record at a place.
 //
 // Every public function is total and goes by places: s has the records, and k, with r replicas, is the knowledge. For a valid record,
-// bytes that the check accepts and a cursor that was moved on to the record's item, the answers are those of containing.
+// bytes that the check accepts and a cursor that was moved on to the record's item, the answers are those of containing. Those that
+// look for a version take the knowledge's slice anew, so that it need not be copied in memory from call to call.
 use lookup::Cursor;
 ghost use mathlib.Core.Path.{_≡_};
 ghost use lib.Dec.{eqb, leb};
@@ -22,7 +23,7 @@ fn tick_in(k: &[u8], r: u32, vector: usize, p0: u64, p1: u64, tick: u64) -> bool
     ensures { λ b. ⌜ b ≡ tickIn (now (k .entry)) r vector (words2 p0 p1) tick ⌝ }
 {
     let key = lookup::key_of(k, r, p0, p1);
-    tick <= lookup::tick_at(k, vector, key)
+    tick <= lookup::tick_at(&k[..], vector, key)
 }
 
 // Is the second version, its replica q and its tick t, one of the first's replica with no later tick.
@@ -49,7 +50,7 @@ fn with_create(
 ) -> bool
     ensures { λ b. ⌜ b ≡ withCreate (now (s .entry)) at (now (k .entry)) r vector (words2 p0 p1) tick ⌝ }
 {
-    if tick_in(k, r, vector, p0, p1, tick) {} else {
+    if tick_in(&k[..], r, vector, p0, p1, tick) {} else {
         return false;
     }
     let q = records::create_replica(s, at);
@@ -57,7 +58,7 @@ fn with_create(
     if no_later(p0, p1, tick, q.high, q.low, t) {
         return true;
     }
-    tick_in(k, r, vector, q.high, q.low, t)
+    tick_in(&k[..], r, vector, q.high, q.low, t)
 }
 
 // Is the record's change version in the clock vector at a place.
