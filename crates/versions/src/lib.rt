@@ -67,7 +67,7 @@ pub fn change_in(s: &[u8], at: usize, k: &[u8], r: u32, vector: usize) -> bool
 {
     let p = records::change_replica(s, at);
     let t = records::change_tick(s, at);
-    tick_in(k, r, vector, p.high, p.low, t)
+    tick_in(&k[..], r, vector, p.high, p.low, t)
 }
 
 // Are its change version and its create version there.
