@@ -4,10 +4,10 @@
 // small where it has few ranges; all that can refuse the call is decided before the first byte is written. The records are looked
 // up in the given knowledge as it stands, which contains the same versions as its normal form.
 use codec::Answer;
-use sampling::Bound;
 use joining::Extent;
 use lookup::Opened;
 use preparing::Prepared;
+use sampling::Bound;
 use stores::KnowledgePart;
 use stores::OpenedStore;
 use tables::Sizes;
