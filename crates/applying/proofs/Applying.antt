@@ -10,7 +10,7 @@ use native.Mathlib.Omega.{arith}
 use lib.Dec.{leb}
 use lib.ListN.{length, take, drop}
 use Rattle.codec.specs.Number.{Bytes, beAt}
-use Rattle.codec.specs.Reply.{Reply, answer, after}
+use Rattle.codec.specs.Reply.{Reply}
 use Rattle.codec.specs.Total.{readAt, brought}
 use Rattle.codec.specs.Words.{words2, words3}
 use Rattle.codec.specs.declared.Answer.{Answer}
@@ -18,9 +18,8 @@ use Rattle.codec.specs.declared.Answer.the-variants as A
 use Rattle.codec.proofs.Total.{read-id2, read-id3, brought-within}
 use Rattle.layout.specs.declared.ReplicaKey.{ReplicaKey}
 use Rattle.layout.specs.Knowledge.{Limits, Knowledge, anyId}
-use Rattle.layout.specs.Permitted.{base, largestReplicas, largestRanges, largestRecords, within, rulesWithin}
+use Rattle.layout.specs.Permitted.{largestReplicas, largestRanges, largestRecords, within, rulesWithin}
 use Rattle.layout.specs.Decode.{decode}
-use Rattle.layout.proofs.Within.{base-within}
 use Rattle.ticks.specs.Meaning.{highest, known}
 use Rattle.ticks.specs.Operations.{covers, coversFor, ownAlike, merge}
 use Rattle.tables.specs.MethodWords.{Words}
@@ -336,12 +335,3 @@ module _ (a b n : ℕ) (s t : List ℕ) (o : OpenedStore) (e : o ≡ storeOpened
       carried = c;
       batch = sym g ∙ h;
     }
-
--- document 01's limits
-pub apply-base : (s t out u : List ℕ) (r : Answer)
-    → Ended (applyReply (within (base .replicas) (base .ranges) (base .records)) s t) out u r
-    → (r ≡ answer (applyReply base s t) (length out)) × (u ≡ after (applyReply base s t) out)
-apply-base s t out u r h =
-    let e : applyReply (within (base .replicas) (base .ranges) (base .records)) s t ≡ applyReply base s t =
-    ap (λ (L : Limits). applyReply L s t) base-within in
-    (h .answers ∙ ap (λ (x : Reply). answer x (length out)) e, h .leaves ∙ ap (λ (x : Reply). after x out) e)

@@ -11,7 +11,7 @@ use mathlib.Core.Option.{Option, none, some}
 use native.Mathlib.Omega.{arith}
 use lib.ListN.{length, take, drop, replicate}
 use Rattle.codec.specs.Number.{Bytes, beAt}
-use Rattle.codec.specs.Reply.{Reply, refuses, answer, after}
+use Rattle.codec.specs.Reply.{Reply, refuses}
 use Rattle.codec.specs.Total.{readAt, brought}
 use Rattle.codec.specs.Words.{words2, words3}
 use Rattle.codec.specs.Part.{placed}
@@ -22,7 +22,7 @@ use Rattle.codec.proofs.Total.{read-id2, read-id3, brought-within}
 use Rattle.layout.specs.Knowledge.{Limits, anyId, largestTick}
 use Rattle.layout.specs.Permitted.{base, within, largestRecords}
 use Rattle.layout.specs.Decode.{decode}
-use Rattle.layout.proofs.Within.{base-within, within-permitted}
+use Rattle.layout.proofs.Within.{within-permitted}
 use Rattle.ticks.specs.Meaning.{known}
 use Rattle.ticks.specs.Operations.{raise, largest}
 use Rattle.ticks.specs.Calls.{idOf}
@@ -434,11 +434,3 @@ module _ (a b n : ℕ) (s : List ℕ) (o : OpenedStore) (e : o ≡ storeOpened (
 pub zero-tag : words2 0 0 ≡ 0
 unfolding words2
 zero-tag = refl
-
--- document 01's limits
-pub ended-base : (call : Limits → Reply) (out u : List ℕ) (x : Answer)
-    → Ended (call (within (base .replicas) (base .ranges) (base .records))) out u x
-    → (x ≡ answer (call base) (length out)) × (u ≡ after (call base) out)
-ended-base call out u x h =
-    let e : call (within (base .replicas) (base .ranges) (base .records)) ≡ call base = ap call base-within in
-    (h .answers ∙ ap (λ (r : Reply). answer r (length out)) e, h .leaves ∙ ap (λ (r : Reply). after r out) e)

@@ -9,15 +9,15 @@ use native.Mathlib.Omega.{arith}
 use lib.ListN.{length, take, drop}
 use Rattle.codec.specs.Number.{Bytes}
 use Rattle.codec.specs.Parsed.{accepted}
-use Rattle.codec.specs.Reply.{Reply, refuses, answer, after}
+use Rattle.codec.specs.Reply.{Reply, refuses}
 use Rattle.codec.specs.declared.Answer.{Answer}
 use Rattle.codec.specs.declared.Answer.the-variants as A
 use Rattle.codec.proofs.Total.{brought-within}
-use Rattle.layout.specs.Knowledge.{Limits, Rules, Knowledge, anyId, basic}
-use Rattle.layout.specs.Permitted.{base, within, rulesWithin, largestRecords}
+use Rattle.layout.specs.Knowledge.{Limits, Rules, Knowledge, anyId}
+use Rattle.layout.specs.Permitted.{within, rulesWithin, largestRecords}
 use Rattle.layout.specs.Decode.{decode}
 use Rattle.layout.specs.Parse.{checkedBy, parse}
-use Rattle.layout.proofs.Within.{within-permitted, base-within}
+use Rattle.layout.proofs.Within.{within-permitted}
 use Rattle.ticks.specs.Calls.{idOf, wrongSpan}
 use Rattle.ticks.specs.Operations.{normalise, project}
 use Rattle.ticks.proofs.ForCalls.{span-right}
@@ -289,12 +289,3 @@ module _ (a b n : ℕ) (s k first last : List ℕ) (o : OpenedStore) (e : o ≡ 
           ranges = scratch-ranges R a b n refl k r c reads;
         };
       }
-
--- document 01's rules
-pub make-basic : (s k first last out u : List ℕ) (a : Answer)
-    → Ended (makeReply (anyId (within (base .replicas) (base .ranges) (base .records))) s k first last) out u a
-    → (a ≡ answer (makeReply basic s k first last) (length out)) × (u ≡ after (makeReply basic s k first last) out)
-make-basic s k first last out u a h =
-    let e : makeReply (anyId (within (base .replicas) (base .ranges) (base .records))) s k first last ≡ makeReply basic s k first last =
-    ap (λ (L : Limits). makeReply (anyId L) s k first last) base-within in
-    (h .answers ∙ ap (λ (r : Reply). answer r (length out)) e, h .leaves ∙ ap (λ (r : Reply). after r out) e)

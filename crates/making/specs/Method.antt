@@ -96,8 +96,8 @@ pub record Makes (s mine k : List ℕ) (w : Task) (out out' : List ℕ) (a : Ans
       → Ended (batchReply (within (w .replicas) (w .ranges) m) b) out out' a
 
 -- where the table of needed is ready
-pub record Learns (s mine k : List ℕ) (w : Task) (ids bounds t cols firsts numbers : List ℕ) (z : Sizes) (rows : ℕ) (out out' : List ℕ) (a : Answer)
-    : Type 0 where
+pub record Learns (s mine k : List ℕ) (w : Task) (ids bounds t cols firsts numbers : List ℕ) (z : Sizes) (rows : ℕ)
+    (out out' : List ℕ) (a : Answer) : Type 0 where
   pub is : (m : ℕ) (b : Batch) → Parts (within (w .replicas) (w .ranges) m) b s mine k w
       → Holds (resultReply (within (w .replicas) (w .ranges) m) (b .needed)) ids bounds t cols firsts numbers z rows
       → Ended (batchReply (within (w .replicas) (w .ranges) m) b) out out' a

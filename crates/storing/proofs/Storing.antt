@@ -16,6 +16,8 @@ use Rattle.codec.specs.declared.Answer.the-variants.{Written, Refused}
 use Rattle.codec.proofs.Writing.{placed-length}
 use Rattle.codec.proofs.Calls.{refused-answer, refused-after, short-answer, short-after, written-answer, written-after}
 use Rattle.layout.specs.Knowledge.{Limits, Knowledge, encode}
+use Rattle.layout.specs.Permitted.{base, within}
+use Rattle.layout.proofs.Within.{base-within}
 use Rattle.ticks.specs.Calls.{resultLines}
 use Rattle.tables.specs.declared.Sizes.{Sizes}
 use Rattle.tables.specs.MethodPlan.{lengthOf}
@@ -383,3 +385,13 @@ module _ (p : Prepared) (most : ℕ) (own : ℕ) (ids bounds t cols firsts numbe
         ∙ ap₂ (λ (n : ℕ) (x : List ℕ). leaves (storeKnowledge + lengthOf z + n) out x) i
         (ap₂ page j f
         ∙ sym (written-is own ids bounds t cols firsts numbers s other (fronted picks chosen-at) (length chosen-at) out z rows))))
+
+-- ---- document 01's limits
+
+-- a call that has ended under document 01's limits, given as numbers
+pub ended-base : (call : Limits → Reply) (out u : List ℕ) (x : Answer)
+    → Ended (call (within (base .replicas) (base .ranges) (base .records))) out u x
+    → (x ≡ answer (call base) (length out)) × (u ≡ after (call base) out)
+ended-base call out u x h =
+    let e : call (within (base .replicas) (base .ranges) (base .records)) ≡ call base = ap call base-within in
+    (h .answers ∙ ap (λ (r : Reply). answer r (length out)) e, h .leaves ∙ ap (λ (r : Reply). after r out) e)

@@ -1,5 +1,6 @@
 -- `applying::apply` meets its contract: document 01's limits are those of its three numbers.
-use Rattle.applying.proofs.Applying.{apply-base}
+use Rattle.replication.specs.Calls.{applyReply}
+use Rattle.storing.proofs.Storing.{ended-base}
 use borrow.Author.Needs.{needs}
 use Rattle.applying.proofs.apply.Statement.{statement}
 use Rattle.applying.proofs.apply.Tie as tie
@@ -11,7 +12,9 @@ same-length : tie.Need-same-length
 same-length c = search needs
 
 returns : tie.Need-returns
-returns c = apply-base _ _ _ _ _ (c .before .before .apply-within .ensures)
+returns c =
+    let a = c .before .before .before .before .before .before .before .args in
+    ended-base (λ L. applyReply L (a .store .now) (a .batch .now)) _ _ _ (c .before .before .apply-within .ensures)
 
 pub apply-spec : {M : Type 1} → statement M
 apply-spec = tie.close (tie.spec apply-within-requires same-length returns)

@@ -1,6 +1,6 @@
 -- `editing::delete` meets its contract: document 01's limits are those of its three numbers.
 use Rattle.replication.specs.Calls.{deleteReply}
-use Rattle.editing.proofs.Changing.{ended-base}
+use Rattle.storing.proofs.Storing.{ended-base}
 use borrow.Author.Needs.{needs}
 use Rattle.editing.proofs.delete.Statement.{statement}
 use Rattle.editing.proofs.delete.Tie as tie

@@ -1,7 +1,7 @@
 -- `editing::edit` meets its contract: document 01's limits are those of its three numbers.
 use Rattle.replication.specs.Calls.{editReply}
 use Rattle.replication.specs.MethodReplies.{brings}
-use Rattle.editing.proofs.Changing.{ended-base}
+use Rattle.storing.proofs.Storing.{ended-base}
 use borrow.Author.Needs.{needs}
 use Rattle.editing.proofs.edit.Statement.{statement}
 use Rattle.editing.proofs.edit.Tie as tie

@@ -1,5 +1,7 @@
 -- `making::make` meets its contract: document 01's limits are those of its three numbers.
-use Rattle.making.proofs.Steps.{make-basic}
+use Rattle.layout.specs.Knowledge.{anyId}
+use Rattle.replication.specs.Calls.{makeReply}
+use Rattle.storing.proofs.Storing.{ended-base}
 use borrow.Author.Needs.{needs}
 use Rattle.making.proofs.make.Statement.{statement}
 use Rattle.making.proofs.make.Tie as tie
@@ -18,7 +20,8 @@ returns c =
     let b2 = c .before .before in
     let b9 = b2 .before .before .before .before .before .before .before in
     let a = b9 .args in
-    make-basic (a .store .now) (a .knowledge .now) (a .first .now) (a .last .now) (a .out .now) _ _ (b2 .make-within .ensures)
+    ended-base (λ L. makeReply (anyId L) (a .store .now) (a .knowledge .now) (a .first .now) (a .last .now)) _ _ _
+    (b2 .make-within .ensures)
 
 pub make-spec : {M : Type 1} → statement M
 make-spec = tie.close (tie.spec make-within-requires same-length returns)
