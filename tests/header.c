@@ -6,6 +6,7 @@
 #include <string.h>
 
 #include "sync.h"
+#include "wrote.h"
 
 #define LENGTH 113
 
@@ -152,32 +153,6 @@ static const uint8_t part[] = {
 };
 
 static const uint8_t one[ITEM] = {0, 0, 0, 0, 0, 0, 0, 0, 0, 0, 0, 0, 0, 0, 0, 0, 0, 0, 0, 0, 0, 0, 0, 1};
-
-/* A buffer that is longer than all results here, and the length written. */
-#define ROOM 300
-static uint8_t out[ROOM];
-static uint64_t written;
-
-/* Forgets what was written. */
-static void forget(void)
-{
-    memset(out, 7, sizeof out);
-    written = 7;
-}
-
-/* Whether a call gave the number, and wrote these n bytes and no others; on a refusal n is 0. */
-static int wrote(const char *call, uint32_t given, uint32_t number, const uint8_t *wanted, size_t n)
-{
-    size_t place;
-    int right = given == number && written == (number == 0 ? n : 7) && memcmp(out, wanted, n) == 0;
-    for (place = n; place < ROOM; place++)
-        right = right && out[place] == 7;
-    if (!right)
-        fprintf(stderr, "header: %s: %" PRIu32 " and length %" PRIu64 ", not %" PRIu32 " and %zu bytes\n",
-                call, given, written, number, n);
-    forget();
-    return right;
-}
 
 static int writing(void)
 {

@@ -6,6 +6,7 @@
 #include <string.h>
 
 #include "sync.h"
+#include "wrote.h"
 
 #define NUMBER(n) 0, 0, 0, n
 #define TICK(n) NUMBER(0), NUMBER(n)
@@ -61,26 +62,6 @@ static const uint8_t p_twice[] = {STORE(P, 149, 2), KNOWS(P, 2), EDITED(1, P, 1)
 static const uint8_t batch_two[] = {BATCH(149, 149, 1), KNOWS(P, 1), KNOWS(P, 2), EDITED(2, P, 2)};
 static const uint8_t q_after_one[] = {STORE(Q, 149, 1), KNOWS(P, 1), EDITED(1, P, 1)};
 static const uint8_t q_after_two[] = {STORE(Q, 149, 2), KNOWS(P, 2), EDITED(1, P, 1), EDITED(2, P, 2)};
-
-/* The host's buffer, longer than all results here, and the length written. */
-#define ROOM 600
-static uint8_t out[ROOM];
-static uint64_t written;
-
-/* Whether a call gave the number, and wrote these n bytes and no others; on a refusal n is 0. Forgets what was written. */
-static int wrote(const char *call, uint32_t given, uint32_t number, const uint8_t *wanted, size_t n)
-{
-    size_t place;
-    int right = given == number && written == (number == 0 ? n : 7) && memcmp(out, wanted, n) == 0;
-    for (place = n; place < ROOM; place++)
-        right = right && out[place] == 7;
-    if (!right)
-        fprintf(stderr, "host: %s: %" PRIu32 " and length %" PRIu64 ", not %" PRIu32 " and these %zu bytes\n",
-                call, given, written, number, n);
-    memset(out, 7, sizeof out);
-    written = 7;
-    return right;
-}
 
 static int make(const uint8_t *store, size_t store_n, const uint8_t *knowledge, size_t knowledge_n, const uint8_t *wanted, size_t n)
 {
@@ -175,7 +156,6 @@ static int others(void)
 
 int main(void)
 {
-    memset(out, 7, sizeof out);
-    written = 7;
+    forget();
     return k9() && k10() && k11() && k12() && others() ? 0 : 1;
 }

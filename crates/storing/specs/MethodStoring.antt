@@ -55,8 +55,8 @@ finishedOut (P.Ready z rows) most count size out page =
     elim (ltb most count) [ true ↦ out | false ↦ leaves (storeKnowledge + lengthOf z + size) out (page z rows) ]
 
 -- header, page and the records at addresses
-unfoldable pub storeWritten : ℕ → List ℕ → List ℕ → List ℕ → List ℕ → List ℕ → List ℕ → List ℕ → List ℕ → List ℕ → ℕ
-    → List ℕ → Sizes → ℕ → List ℕ
+unfoldable pub storeWritten : ℕ → List ℕ → List ℕ → List ℕ → List ℕ → List ℕ → List ℕ → List ℕ → List ℕ
+    → List ℕ → ℕ → List ℕ → Sizes → ℕ → List ℕ
 storeWritten own ids bounds t cols firsts numbers s other picks count out z rows =
     copied s other (pageAt (placed out 0 (storeHead own (lengthOf z) count)) storeKnowledge z ids bounds t rows cols firsts numbers)
     (storeKnowledge + lengthOf z) (take count picks)
