@@ -3,6 +3,7 @@
 
 mod ending;
 mod generate;
+mod limits;
 pub mod list;
 mod machine;
 mod play;
@@ -16,6 +17,8 @@ use crate::changing::Engine;
 use crate::tally::{Ends, Tally};
 use crate::writing::WRITTEN;
 use ending::Ended;
+use generate::Style;
+use limits::{Limits, Reached};
 use list::List;
 
 /// How many lists a run has, and which.
@@ -53,6 +56,7 @@ pub struct Lists {
     middle: usize,
     long: usize,
     calls: Tally,
+    limits: Reached,
     ended: Ended,
     /// Lists with a pair of batches of which all four applies succeed and change the store.
     changing: usize,
@@ -63,8 +67,8 @@ impl fmt::Display for Lists {
         let Ended { pairs, taken, twice, twice_taken, .. } = self.ended;
         write!(
             f,
-            "{} lists, {} of 10 to 60 calls and {} of over 300; {}; ",
-            self.lists, self.middle, self.long, self.calls
+            "{} lists, {} of 10 to 60 calls and {} of over 300; {}; {}; ",
+            self.lists, self.middle, self.long, self.calls, self.limits
         )?;
         write!(f, "in either order × {pairs}, all taken × {taken}, in {} lists all changing; ", self.changing)?;
         write!(f, "twice × {twice}, both taken × {twice_taken}")
@@ -72,8 +76,9 @@ impl fmt::Display for Lists {
 }
 
 impl Lists {
-    fn add(&mut self, list: &List, ended: Ended) {
+    fn add(&mut self, list: &List, limits: &Limits, ended: Ended) {
         self.lists += 1;
+        self.limits.add(limits);
         self.middle += usize::from((10..=60).contains(&list.calls.len()));
         self.long += usize::from(list.calls.len() > 300);
         self.changing += usize::from(ended.changing > 0);
@@ -87,6 +92,7 @@ impl Lists {
     /// The error, where something that a run of many lists must have did not come up.
     fn complete(self) -> Result<Self, String> {
         self.calls.clone().complete(&ENDS)?;
+        self.limits.enough(self.lists)?;
         let enough = self.middle > self.lists / 2
             && self.long > self.lists / 200
             && self.ended.pairs >= 4 * self.lists
@@ -101,13 +107,23 @@ const MANY: usize = 2_000;
 
 /// Plays random lists. The error says what went wrong first, with the list made as small as possible; or what never came up.
 pub fn run(plan: &Plan, engine: &impl Engine, reference: &impl Engine) -> Result<Lists, String> {
+    run_styles(plan, generate::style, engine, reference)
+}
+
+/// The same with lists of styles that are drawn in another way.
+fn run_styles(
+    plan: &Plan,
+    draw: impl Fn(&mut SplitMix64) -> Style,
+    engine: &impl Engine,
+    reference: &impl Engine,
+) -> Result<Lists, String> {
     let mut lists = Lists::default();
     let random = &mut SplitMix64::new(plan.seed);
     for place in 0..plan.lists {
-        let style = generate::style(random);
+        let style = draw(random);
         let list = generate::list(random, style);
         match try_list(&list, engine, reference, &mut lists.calls) {
-            Ok(ended) => lists.add(&list, ended),
+            Ok((limits, ended)) => lists.add(&list, &limits, ended),
             Err(error) => {
                 let again = |list: &List| try_list(list, engine, reference, &mut Tally::default()).err();
                 let (list, error) = shrink::shrink(&list, error, again);
@@ -121,16 +137,17 @@ pub fn run(plan: &Plan, engine: &impl Engine, reference: &impl Engine) -> Result
     if plan.lists >= MANY { lists.complete() } else { Ok(lists) }
 }
 
-/// Plays one list, and looks at everything that holds after it.
+/// Plays one list, and looks at everything that holds after it. Gives the limits that it came to, and what was tried.
 pub fn try_list(
     list: &List,
     engine: &impl Engine,
     reference: &impl Engine,
     calls: &mut Tally,
-) -> Result<Ended, String> {
+) -> Result<(Limits, Ended), String> {
     let world = play::play(list, engine, reference, calls)?;
     ending::compare(list, &world)?;
-    ending::in_either_order(list, &world, engine, reference)
+    let ended = ending::in_either_order(list, &world, engine, reference)?;
+    Ok((world.limits, ended))
 }
 
 #[cfg(test)]

@@ -149,7 +149,8 @@ impl Engine for Wrong {
     }
 }
 
-fn changed(store: &Store, item: &ItemId, tag: Option<[u8; 16]>) -> Result<Store, u32> {
+/// A right change.
+pub fn changed(store: &Store, item: &ItemId, tag: Option<[u8; 16]>) -> Result<Store, u32> {
     tag.map_or_else(|| store.deleted(item), |tag| store.edited(item, &tag))
 }
 

@@ -1,8 +1,11 @@
 //! Random lists of calls.
 
-use inputs::{FIRST_ITEM, ItemId, Knowledge, LAST_ITEM, ReplicaId, Room, SplitMix64, faulty, next_item};
+mod full;
+
+use inputs::{Batch, FIRST_ITEM, ItemId, Knowledge, LAST_ITEM, ReplicaId, Room, SplitMix64, faulty, next_item};
 
 use super::list::{Call, Given, List};
+pub use full::Limit;
 
 const LARGEST_TICK: u64 = i64::MAX as u64;
 
@@ -19,6 +22,8 @@ pub enum Style {
     Records,
     /// Replicas that start with ticks far above those of others, or near the largest one.
     Ticks,
+    /// A replica that comes to a limit and goes on.
+    Full(Limit),
 }
 
 pub fn style(random: &mut SplitMix64) -> Style {
@@ -27,6 +32,10 @@ pub fn style(random: &mut SplitMix64) -> Style {
         2..=5 => Style::Replicas,
         6..=9 => Style::Ranges,
         10..=17 => Style::Ticks,
+        18..=22 => Style::Full(Limit::Replicas),
+        23..=27 => Style::Full(Limit::Ranges),
+        28..=31 => Style::Full(Limit::Records),
+        32..=34 => Style::Full(Limit::Both),
         _ => Style::Usual,
     }
 }
@@ -39,21 +48,24 @@ pub fn list(random: &mut SplitMix64, style: Style) -> List {
         Style::Replicas => random.between(15, 24),
         Style::Ranges => random.between(2, 4),
         Style::Records => random.between(2, 3),
+        Style::Full(limit) => limit.replicas(random),
     };
     let items = match style {
         Style::Usual | Style::Ticks => random.between(2, 7),
         Style::Replicas => random.between(2, 20),
         Style::Ranges => random.between(36, 48),
         Style::Records => random.between(259, 300),
+        Style::Full(limit) => limit.items(random),
     };
     let replicas = replica_ids(random, replicas).into_iter().map(|id| (id, start_tick(random, style))).collect();
-    let mut making =
-        Making { items: item_ids(random, items), list: List { replicas, calls: Vec::new() }, batches: 0, random };
+    let (items, list) = (item_ids(random, items), List { replicas, calls: Vec::new() });
+    let mut making = Making { items, list, batches: 0, careful: false, random };
     match style {
         Style::Usual | Style::Ticks => making.usual(),
         Style::Replicas => making.replicas(),
         Style::Ranges => making.ranges(),
         Style::Records => making.records(),
+        Style::Full(limit) => making.full(limit),
     }
     making.undelivered();
     making.list
@@ -123,6 +135,8 @@ struct Making<'a> {
     list: List,
     /// How many batches have a name.
     batches: usize,
+    /// Whether ids have their length and buffers are long enough.
+    careful: bool,
     random: &'a mut SplitMix64,
 }
 
@@ -136,12 +150,17 @@ impl Making<'_> {
             if self.random.once_in(25) {
                 self.in_parts(replica);
             }
-            match self.random.below(100) {
-                choice if choice < edits => self.edit(replica),
-                choice if choice < edits + 10 => self.delete(replica),
-                choice if choice < edits + 10 + (90 - edits) / 2 => self.make(replica),
-                _ => self.apply(replica),
-            }
+            self.any(replica, edits);
+        }
+    }
+
+    /// Any sort of call; so many in a hundred are edits.
+    fn any(&mut self, replica: usize, edits: usize) {
+        match self.random.below(100) {
+            choice if choice < edits => self.edit(replica),
+            choice if choice < edits + 10 => self.delete(replica),
+            choice if choice < edits + 10 + (90 - edits) / 2 => self.make(replica),
+            _ => self.apply(replica),
         }
     }
 
@@ -282,9 +301,10 @@ impl Making<'_> {
         *self.random.choose(&self.items)
     }
 
-    /// Mostly a buffer that is long enough, often just so.
+    /// Mostly a buffer that is long enough, often just so. A careful one may be so for a result beyond the limits too.
     fn room(&mut self) -> Room {
         match self.random.below(40) {
+            0..=2 if self.careful => Room::Bytes(Batch::LONGEST + 99),
             0 => Room::Bytes(self.random.below(400)),
             1 => Room::Less(1),
             2 => Room::Less(self.random.between(1, 100)),
@@ -296,7 +316,7 @@ impl Making<'_> {
     /// The id; seldom with another length.
     fn id(&mut self, id: &[u8]) -> Vec<u8> {
         let mut id = id.to_vec();
-        if self.random.once_in(60) {
+        if !self.careful && self.random.once_in(60) {
             id.resize(self.random.between(0, 40), 0);
         }
         id
@@ -315,6 +335,10 @@ impl Making<'_> {
 
     fn delete(&mut self, replica: usize) {
         let item = self.item();
+        self.delete_item(replica, item);
+    }
+
+    fn delete_item(&mut self, replica: usize, item: ItemId) {
         let (item, room) = (self.id(&item), self.room());
         self.list.calls.push(Call::Delete { replica, item, room });
     }

@@ -25,6 +25,17 @@ pub enum Call {
     Apply { replica: usize, batch: usize, room: Room },
 }
 
+impl Call {
+    /// The replica that it is on.
+    pub fn replica(&self) -> usize {
+        let (Self::Edit { replica, .. }
+        | Self::Delete { replica, .. }
+        | Self::Make { replica, .. }
+        | Self::Apply { replica, .. }) = self;
+        *replica
+    }
+}
+
 /// Replicas and calls. A replica starts with a new store, or with one that knows a tick of its own replica for all items and has no records.
 #[derive(Clone, Debug, PartialEq, Eq)]
 pub struct List {

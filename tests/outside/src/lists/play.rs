@@ -4,6 +4,7 @@ use std::collections::BTreeMap;
 
 use inputs::{Batch, ItemId, Knowledge, Store};
 
+use super::limits::Limits;
 use super::list::{Call, Given, List};
 use super::machine::Machine;
 use crate::buffer;
@@ -20,6 +21,7 @@ pub struct World {
     pub stores: Vec<Vec<Vec<u8>>>,
     pub batches: BTreeMap<usize, Vec<u8>>,
     pub machine: Machine,
+    pub limits: Limits,
 }
 
 impl World {
@@ -76,6 +78,7 @@ pub fn play(list: &List, engine: &impl Engine, reference: &impl Engine, tally: &
                 ));
             }
             tally.add(name, outcome);
+            world.limits.add(call.replica(), name, outcome);
         }
     }
     Ok(world)
@@ -100,7 +103,7 @@ fn start(list: &List, reference: &impl Engine) -> Result<World, String> {
         stores.push(vec![if *tick == 0 { new } else { prepared(id, *tick).bytes() }]);
     }
     let machine = Machine::new(&list.replicas, spans(list));
-    Ok(World { stores, batches: BTreeMap::new(), machine })
+    Ok(World { stores, batches: BTreeMap::new(), machine, limits: Limits::default() })
 }
 
 /// A store that knows a tick of its own replica for all items and has no records.

@@ -1,11 +1,12 @@
 //! A right engine passes, wrong ones are noticed, and a failing list is printed so that it can be pasted here.
 
-use inputs::Room;
+use inputs::{Room, Store};
 
+use super::generate::Limit;
 use super::list::{Call, Given};
 use super::*;
 use crate::stand_in::Reference;
-use crate::wrong::{APPLIES, CHANGES, MAKES, Wrong};
+use crate::wrong::{APPLIES, Apply, CHANGES, Change, MAKES, Wrong, changed};
 
 const PLAN: Plan = Plan { lists: 400, ..Plan::USUAL };
 
@@ -63,7 +64,7 @@ fn a_list_is_printed_as_it_is_written_here() {
 #[test]
 fn a_list_that_is_pasted_here_can_be_played() {
     let mut calls = Tally::default();
-    let ended = try_list(&k12().0, &Reference, &Reference, &mut calls).unwrap();
+    let (_, ended) = try_list(&k12().0, &Reference, &Reference, &mut calls).unwrap();
     assert_eq!((ended.pairs, ended.twice), (4, 4));
     let text = calls.to_string();
     assert_eq!(
@@ -132,6 +133,69 @@ fn lists_that_never_come_to_something_are_noticed() {
     let refuses = Wrong { apply: Some(|_, _| Err(18)), ..Wrong::default() };
     let plan = Plan { lists: MANY, ..PLAN };
     assert!(run(&plan, &refuses, &refuses).unwrap_err().starts_with("never occurred: apply: written"));
+}
+
+#[test]
+fn too_few_lists_at_a_limit_are_noticed() {
+    let plan = Plan { lists: MANY, ..PLAN };
+    let without = |limits: &[Limit]| {
+        let draw = |random: &mut SplitMix64| match generate::style(random) {
+            Style::Full(limit) if limits.contains(&limit) => Style::Usual,
+            style => style,
+        };
+        run_styles(&plan, draw, &Reference, &Reference).map(|lists| lists.to_string())
+    };
+    without(&[]).unwrap();
+    for (limit, number) in [(Limit::Replicas, 11), (Limit::Records, 13)] {
+        let error = without(&[limit, Limit::Both]).unwrap_err();
+        assert!(error.starts_with(&format!("too few: edit refused with {number} in ")), "{error}");
+    }
+}
+
+/// The store, unless it has as much of something as one may have; then the number that is right for more.
+fn less(after: Result<Store, u32>, number: u32) -> Result<Store, u32> {
+    let after = after?;
+    let (has, most) = match number {
+        11 => (after.knowledge.replicas.len(), 16),
+        12 => (after.knowledge.ranges.len(), 64),
+        _ => (after.records.len(), 256),
+    };
+    if has < most { Ok(after) } else { Err(number) }
+}
+
+/// Engines with a limit that is one too low, and ones that write on the refusal at a limit.
+fn wrong_at_limits() -> Vec<(Limit, Wrong)> {
+    let change = |change: Change| Wrong { change: Some(change), ..Wrong::default() };
+    let apply = |apply: Apply| Wrong { apply: Some(apply), ..Wrong::default() };
+    let mut engines = vec![
+        (Limit::Replicas, change(|store, item, tag| less(changed(store, item, tag), 11))),
+        (Limit::Records, change(|store, item, tag| less(changed(store, item, tag), 13))),
+        (Limit::Replicas, apply(|store, batch| less(store.applied(batch), 11))),
+        (Limit::Ranges, apply(|store, batch| less(store.applied(batch), 12))),
+        (Limit::Records, apply(|store, batch| less(store.applied(batch), 13))),
+    ];
+    for (limit, number) in [(Limit::Replicas, 11), (Limit::Ranges, 12), (Limit::Records, 13)] {
+        engines.push((limit, Wrong { byte_on: Some(number), ..Wrong::default() }));
+        engines.push((limit, Wrong { length_on: Some(number), ..Wrong::default() }));
+    }
+    engines
+}
+
+#[test]
+fn engines_that_are_wrong_at_a_limit_are_noticed() {
+    let noticed = |limit: Limit, engine: &Wrong| {
+        let random = &mut SplitMix64::new(1);
+        (0..10).any(|_| {
+            let list = generate::list(random, Style::Full(limit));
+            try_list(&list, engine, &Reference, &mut Tally::default()).is_err()
+        })
+    };
+    for (place, (limit, wrong)) in wrong_at_limits().iter().enumerate() {
+        assert!(noticed(*limit, wrong), "engine {place}, {limit:?}");
+    }
+    for limit in [Limit::Replicas, Limit::Ranges, Limit::Records, Limit::Both] {
+        assert!(!noticed(limit, &Wrong::default()), "{limit:?}");
+    }
 }
 
 #[test]
