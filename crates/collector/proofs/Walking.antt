@@ -9,10 +9,9 @@ use lib.ListN.{length, take, drop, getD}
 use Rattle.codec.proofs.Reading.{be-one}
 use Rattle.ticks.proofs.Lists.{less, same, more, order}
 use Rattle.replication.specs.Reading.{whole}
-use Rattle.replication.specs.Queries.{toGive}
+use Rattle.replication.specs.Queries.{toGive, lengthAt}
 use Rattle.replication.proofs.RecordBytes.{KnownKind, recSize, whole-exact}
 use Rattle.replication.proofs.QueriesWalk.{walk-step, walk-end}
-use Rattle.records.specs.Method.{lengthAt}
 use Rattle.records.proofs.Fields.{length-whole, length-stands, length-behind, length-ends}
 
 module _ (s : List ℕ) (at n : ℕ) (e : n ≡ lengthAt s at) where

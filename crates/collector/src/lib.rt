@@ -9,18 +9,16 @@ use ticks::Lead;
 ghost use mathlib.Core.Path.{_≡_};
 ghost use lib.ListN.{length};
 ghost use Rattle.codec.specs.Reply.{answer, after, numberOf, writtenOf};
-ghost use Rattle.layout.specs.Knowledge.{basic};
+ghost use Rattle.layout.specs.Knowledge.{basic, base};
 ghost use Rattle.layout.specs.Parse.{checkedBy};
 ghost use Rattle.layout.specs.Answer.{checkedNumber, checkedSizes};
 ghost use Rattle.ticks.specs.Calls.{containNumber, containValue, containAnswer, leadNumber, leadValue, leadAnswer};
 ghost use Rattle.ticks.specs.Calls.{coverNumber, coverValue, coverAnswer};
 ghost use Rattle.ticks.specs.Calls.{normaliseReply, mergeReply, projectReply};
 ghost use Rattle.replication.specs.Calls.{newReply, editReply, deleteReply, makeReply, applyReply};
-ghost use Rattle.replication.specs.MethodReplies.{brings};
-ghost use Rattle.layout.specs.Permitted.{base};
-ghost use Rattle.replication.specs.Queries.{partNumber, partSide, partAtPlace, partLength, winnerPart, learnedPart, knowledgePart};
+ghost use Rattle.replication.specs.Call.{brings};
+ghost use Rattle.replication.specs.Queries.{partNumber, partSide, partAtPlace, partLength, winnerPart, learnedPart, knowledgePart, lengthAt};
 ghost use Rattle.replication.specs.Queries.{coverageNumber, coverageContained, coverageAll, coverageThousandths, coverageAnswer};
-ghost use Rattle.records.specs.Method.{lengthAt};
 
 // Checks a knowledge: its sizes r, v, e and g, or the refusal's number, and then no size changes.
 #[no_mangle]

@@ -19,8 +19,8 @@ use Rattle.codec.specs.declared.Answer.{Answer}
 use Rattle.codec.specs.declared.Answer.the-variants.{Refused}
 use Rattle.codec.proofs.Numbers.{power-positive, be-below}
 use Rattle.codec.proofs.Total.{read-id2, read-id3, brought-within}
-use Rattle.layout.specs.Knowledge.{Limits, anyId, largestTick}
-use Rattle.layout.specs.Permitted.{base, within, largestRecords}
+use Rattle.layout.specs.Knowledge.{Limits, anyId, largestTick, base}
+use Rattle.layout.specs.Permitted.{within, largestRecords}
 use Rattle.layout.specs.Decode.{decode}
 use Rattle.layout.proofs.Within.{within-permitted}
 use Rattle.ticks.specs.Meaning.{known}
@@ -53,7 +53,8 @@ use Rattle.replication.specs.Valid.{LawfulRec, ContainedIn, LawfulStore}
 use Rattle.replication.specs.MethodRecords.{foundAt}
 use Rattle.replication.specs.MethodTable.{tableAt}
 use Rattle.replication.specs.MethodOpening.{storeAt}
-use Rattle.replication.specs.MethodReplies.{brings, changeReply, storeReply}
+use Rattle.replication.specs.Call.{brings}
+use Rattle.replication.specs.MethodReplies.{changeReply, storeReply}
 use Rattle.replication.specs.Calls.{gone, liveContent, tombstone, editReply, deleteReply}
 use Rattle.replication.proofs.PartBytes.{part-length}
 use Rattle.replication.proofs.RecordsInBytes.{whole-at}

@@ -1,11 +1,15 @@
 // Reads one knowledge on standard input and prints its sizes: the replicas, the clock vectors, the elements of all
 // vectors, the ranges, and the length in bytes; or `refused` and the number of the first fault.
 //
-// The longest knowledge within the limits has 14,933 bytes. The program reads at most one byte more: what is longer
-// gets the same answer for its first 14,934 bytes as for all of them (the law `prefix-base` of the crate layout).
+// The longest knowledge within the limits has 14,933 bytes. The program reads at most one byte more, and the contract of
+// `check_front` says that this decides the answer for all of the input.
 use layout::Checked;
 use libc::STDIN_FILENO;
 use libc::STDOUT_FILENO;
+ghost use mathlib.Core.Path.{_≡_};
+ghost use Prim.Native.Nat.{_≤_};
+ghost use lib.ListN.{length, take};
+ghost use Rattle.inspect.specs.Front.{DecidesAll};
 
 const ROOM: usize = 14934;
 
@@ -40,9 +44,17 @@ fn print_refusal(n: u32) {
     line_feed();
 }
 
-fn report(s: &[u8]) {
-    match reader::check(s) {
-        Checked::Accepted { r, v, e, g } => print_sizes(r, v, e, g, s.len()),
+// The check's answer for an input whose first bytes, at most 14,934 of them, are the first n of the buffer.
+fn check_front(buffer: &[u8], n: usize) -> Checked
+    requires { ⌜ (length (now buffer) ≡ 14934) × (n ≤ 14934) ⌝ }
+    ensures { λ r. ⌜ DecidesAll 14934 (take n (now (buffer .entry))) r ⌝ }
+{
+    reader::check(&buffer[..n])
+}
+
+fn report(answer: Checked, length: usize) {
+    match answer {
+        Checked::Accepted { r, v, e, g } => print_sizes(r, v, e, g, length),
         Checked::Refused(n) => print_refusal(n),
     }
 }
@@ -50,5 +62,6 @@ fn report(s: &[u8]) {
 fn main() {
     let mut buffer = [0u8; ROOM];
     let n = io::read_full(STDIN_FILENO, &mut buffer);
-    report(&buffer[..n]);
+    let answer = check_front(&buffer, n);
+    report(answer, n);
 }

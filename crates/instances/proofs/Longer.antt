@@ -10,13 +10,14 @@ use lib.ListN.{length, take}
 use Rattle.codec.specs.declared.Answer.the-variants.{Refused}
 use Rattle.codec.specs.Number.{Bytes, beFrom, beAt, put}
 use Rattle.codec.proofs.Numbers.{put-bytes}
-use Rattle.layout.specs.Knowledge.{basic, All, opening, beforeVectors, beforeElements, beforeRanges, closing, putFields, putIds, putElements, putVectors, putRanges, encode, keys, bounds}
-use Rattle.layout.specs.Permitted.{base}
+use Rattle.layout.specs.Knowledge.{basic, All, opening, beforeVectors, beforeElements, beforeRanges, closing, putFields, putIds, putElements, putVectors, putRanges, encode, keys, bounds, base}
 use Rattle.layout.proofs.Forward.{encode-bytes}
 use Rattle.replication.specs.Call.{Call, Given}
-use Rattle.replication.specs.Promise.{Promise, ends, machine}
+use Rattle.replication.specs.Promise.{Promise, ends, machine, storeAfter}
+use Rattle.replication.specs.Runner.{Number}
 use Rattle.replication.specs.Lists.{World, start, trace, writes, keep, run, outcome, batchNumber, applyTo, putAt}
 use Rattle.replication.proofs.PartBytes.{no-bytes}
+use Rattle.replication.proofs.Consumed.{either-exactly, twice-exactly}
 use Rattle.replication.proofs.Demand3.{demand3-basic}
 use Rattle.instances.specs.MethodLonger.{Ran, Seen, flagged, ranOnce, seen}
 use Rattle.instances.proofs.Lists.{item-bytes, tag-bytes}
@@ -81,6 +82,17 @@ longer-given =
 -- demand 3 of the list
 pub longer-promise : Promise basic longer
 longer-promise = demand3-basic longer longer-given
+
+-- either order and twice, from that promise: any of its batches, on any replica, into buffers of any lengths
+pub longer-either : (p m n r₁ r₂ r₃ r₄ : ℕ) (a b u v x y : List ℕ) → p < 256 ^ 16
+    → Number m (ends basic longer .batches) a → Number n (ends basic longer .batches) b
+    → outcome (applyReply base (storeAfter basic longer p) a) r₁ ≡ some u → outcome (applyReply base u b) r₂ ≡ some x
+    → outcome (applyReply base (storeAfter basic longer p) b) r₃ ≡ some v → outcome (applyReply base v a) r₄ ≡ some y → x ≡ y
+longer-either = either-exactly basic longer longer-promise
+
+pub longer-twice : (p n r₁ r₂ : ℕ) (a x y : List ℕ) → p < 256 ^ 16 → Number n (ends basic longer .batches) a
+    → outcome (applyReply base (storeAfter basic longer p) a) r₁ ≡ some x → outcome (applyReply base x a) r₂ ≡ some y → x ≡ y
+longer-twice = twice-exactly basic longer longer-promise
 
 -- flags and end of the list, computed in one run
 ran-is : (w : World) (cs : List Call) → ranOnce w cs ≡ record { flags = flags (trace basic w cs); ends = run basic w cs }

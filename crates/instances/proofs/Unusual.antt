@@ -8,8 +8,7 @@ use mathlib.Core.Bool.{Bool, true, false}
 use mathlib.Core.List.{List, [], _∷_}
 use Rattle.codec.specs.Number.{beFrom, beAt, put}
 use Rattle.codec.specs.Parsed.{accepted}
-use Rattle.layout.specs.Knowledge.{Element, Range, Knowledge, largestTick}
-use Rattle.layout.specs.Permitted.{base}
+use Rattle.layout.specs.Knowledge.{Element, Range, Knowledge, largestTick, base}
 use Rattle.layout.specs.Knowledge.{opening, beforeVectors, beforeElements, beforeRanges, closing, putFields, putIds, putElements, putVectors, putRanges, encode, bounds}
 use Rattle.layout.specs.Decode.{idsAt, elementsAt, vectorsAt, afterVectors, rangesAt, decode}
 use Rattle.layout.specs.Parse.{replicaMap, vectorCount, vectorList, rangeList, ended, checked, told, parse}

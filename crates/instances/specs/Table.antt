@@ -7,8 +7,7 @@ use lib.ListN.{length, take, drop}
 use Rattle.codec.specs.Reply.{Reply, gives, refuses}
 use Rattle.layout.specs.declared.Checked.{Checked}
 use Rattle.layout.specs.declared.Checked.the-variants.{Accepted, Refused}
-use Rattle.layout.specs.Knowledge.{basic, Knowledge, encode}
-use Rattle.layout.specs.Permitted.{base}
+use Rattle.layout.specs.Knowledge.{basic, Knowledge, encode, base}
 use Rattle.layout.specs.Parse.{checked, parse, checkedBy}
 use Rattle.ticks.specs.Meaning.{highest, known}
 use Rattle.ticks.specs.Calls.{containAnswer, leadAnswer, mergeReply, projectReply}

@@ -9,7 +9,7 @@ use lib.ListN.{length, take, drop, set}
 use lib.Seq.{sets, drop-nil, take-all, take-append-seam}
 use borrow.Author.Tests.{lt-ltb, le-ltb}
 use Rattle.replication.specs.Reading.{recAt}
-use Rattle.records.specs.Method.{lengthAt}
+use Rattle.replication.specs.Queries.{lengthAt}
 use Rattle.joining.specs.MethodJoin.{atAddress, recsFrom, sizeFrom, addresses, fronted}
 
 module _ {A : Type 0} (f : List ℕ → ℕ → A) (s t : List ℕ) where

@@ -20,7 +20,8 @@ use Rattle.replication.specs.Reading.{recAt, whole}
 use Rattle.replication.specs.Operate.{join}
 use Rattle.replication.specs.MethodTable.{tableAt}
 use Rattle.replication.proofs.RecordBytes.{recSize, kind-length, whole-back, rec-length, rec-append}
-use Rattle.records.specs.Method.{lengthAt, recordPart}
+use Rattle.replication.specs.Queries.{lengthAt}
+use Rattle.records.specs.Method.{recordPart}
 use Rattle.records.proofs.Fields.{length-whole, length-nothing, part-record}
 use Rattle.joining.specs.MethodJoin.{atAddress, recsFrom, sizeFrom, joinAt, fronted, copied}
 use Rattle.joining.proofs.Addresses.{at-first, at-later, recs-none, recs-more, recs-count, size-none, size-more, fronted-take}

@@ -14,7 +14,8 @@ use borrow.Author.Tests.{ltb-true, ltb-false, eqb-true, eqb-false}
 use Rattle.codec.specs.Total.{readAt}
 use Rattle.replication.specs.Reading.{behind, itemPlace, recAt, whole}
 use Rattle.replication.specs.Operate.{wins}
-use Rattle.records.specs.Method.{lengthAt, readRec}
+use Rattle.replication.specs.Queries.{lengthAt}
+use Rattle.records.specs.Method.{readRec}
 use Rattle.records.proofs.Fields.{length-ends, length-stands, length-behind, item-word, wins-whole}
 use Rattle.records.proofs.Finding.{length-at, length-inside}
 use Rattle.joining.specs.declared.Turned.{Turned}

@@ -6,8 +6,8 @@ use Rattle.codec.specs.Part.{placed}
 use Rattle.replication.specs.Record.{Rec}
 use Rattle.replication.specs.Reading.{recAt}
 use Rattle.replication.specs.Operate.{wins}
-use Rattle.replication.specs.Queries.{places}
-use Rattle.records.specs.Method.{lengthAt, recordPart}
+use Rattle.replication.specs.Queries.{places, lengthAt}
+use Rattle.records.specs.Method.{recordPart}
 use Rattle.joining.specs.declared.Turned.{Turned}
 
 -- ---- addresses

@@ -13,7 +13,8 @@ ghost use Rattle.codec.specs.Number.{put};
 ghost use Rattle.codec.specs.Part.{placed};
 ghost use Rattle.codec.specs.Words.{words2, words3};
 ghost use Rattle.replication.specs.Formats.{kindOf, putRec};
-ghost use Rattle.records.specs.Method.{lengthAt, recordPart};
+ghost use Rattle.replication.specs.Queries.{lengthAt};
+ghost use Rattle.records.specs.Method.{recordPart};
 ghost use Rattle.joining.specs.MethodJoin.{atAddress, sizeFrom, joinAt, Turns, fronted, copied};
 ghost use Rattle.joining.specs.MethodWritten.{recordOf, putVersion, Wrote};
 

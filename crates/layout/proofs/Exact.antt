@@ -13,8 +13,8 @@ use Rattle.codec.specs.Number.{Bytes}
 use Rattle.layout.specs.declared.Checked.{Checked}
 use Rattle.layout.specs.declared.Checked.the-variants.{Accepted, Refused}
 use lib.Dec.{lit≤}
-use Rattle.layout.specs.Knowledge.{Rules, largestTick, Knowledge, encode, Lawful, basic}
-use Rattle.layout.specs.Permitted.{Permitted, base, longest, mostVectors}
+use Rattle.layout.specs.Knowledge.{Rules, largestTick, Knowledge, encode, Lawful, basic, base}
+use Rattle.layout.specs.Permitted.{Permitted, longest, mostVectors}
 use Rattle.layout.specs.Answer.{elements}
 use Rattle.layout.specs.Parse.{checked, told, parse, checkedBy}
 use Rattle.layout.specs.Decode.{decode}

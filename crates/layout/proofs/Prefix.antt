@@ -21,8 +21,8 @@ use Rattle.layout.specs.declared.Got.{Got}
 use Rattle.layout.specs.declared.Got.the-variants.{Num, Fault}
 use Rattle.layout.specs.declared.Checked.{Checked}
 use Rattle.layout.specs.declared.Checked.the-variants.{Accepted, Refused}
-use Rattle.layout.specs.Permitted.{longest, mostVectors, base}
-use Rattle.layout.specs.Knowledge.{Rules, largestTick, basic, Field, opening, beforeVectors, beforeElements, beforeRanges, closing}
+use Rattle.layout.specs.Permitted.{longest, mostVectors}
+use Rattle.layout.specs.Knowledge.{Rules, largestTick, basic, Field, opening, beforeVectors, beforeElements, beforeRanges, closing, base}
 use Rattle.layout.specs.Read.{_▷_, repeat, number, same, fields, limit, empty, among, judged, replicaId, tick, element, firstVector, vector, index, range}
 use Rattle.layout.specs.Parse.{replicaMap, vectorCount, vectorList, rangeList, _▶_, ended, checked, checkedBy}
 

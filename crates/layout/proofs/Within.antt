@@ -6,8 +6,8 @@ use native.Mathlib.Nat.{mul-le-mul}
 use native.Mathlib.Omega.{arith}
 use Rattle.codec.specs.Total.{brought}
 use Rattle.codec.proofs.Total.{brought-within, brought-inside}
-use Rattle.layout.specs.Knowledge.{anyId, basic}
-use Rattle.layout.specs.Permitted.{base, longest, Permitted, largestReplicas, largestRanges, largestRecords, within, rulesWithin}
+use Rattle.layout.specs.Knowledge.{anyId, basic, base}
+use Rattle.layout.specs.Permitted.{longest, Permitted, largestReplicas, largestRanges, largestRecords, within, rulesWithin}
 
 pub within-permitted : (replicas ranges records : ℕ) → Permitted (within replicas ranges records)
 unfolding longest

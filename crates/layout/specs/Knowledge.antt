@@ -22,6 +22,9 @@ anyId L = record { limits = L; judge = λ id. 0 }
 abbrev pub basic : Rules
 basic = anyId (record { replicas = 16; ranges = 64; records = 256 })
 
+abbrev pub base : Limits  -- these limits alone, by which stores and batches are opened
+base = basic .limits
+
 abbrev pub largestTick : ℕ  -- 2^63 − 1
 largestTick = 9223372036854775807
 

@@ -3,10 +3,7 @@
 -- and rules are such (`base-within`, `basic-within`).
 use Rattle.codec.specs.Prelude.{ℕ, _+_, _*_, _≤_}
 use Rattle.codec.specs.Total.{brought}
-use Rattle.layout.specs.Knowledge.{Limits, Rules, anyId, basic}
-
-abbrev pub base : Limits
-base = basic .limits
+use Rattle.layout.specs.Knowledge.{Limits, Rules, anyId, base}
 
 -- one vector for each range, and vector 0
 abbrev pub mostVectors : Limits → ℕ

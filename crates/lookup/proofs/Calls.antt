@@ -18,8 +18,8 @@ use Rattle.codec.specs.Words.{words2, words3}
 use Rattle.codec.proofs.Total.{read-id2, read-id3}
 use Rattle.layout.specs.declared.Checked.{Checked}
 use Rattle.layout.specs.declared.Checked.the-variants as A
-use Rattle.layout.specs.Knowledge.{Rules, basic}
-use Rattle.layout.specs.Permitted.{base, Permitted, rulesWithin}
+use Rattle.layout.specs.Knowledge.{Rules, basic, base}
+use Rattle.layout.specs.Permitted.{Permitted, rulesWithin}
 use Rattle.layout.specs.Decode.{decode}
 use Rattle.layout.specs.MethodPlaces.{vectorsPlace, rangesPlace}
 use Rattle.layout.specs.Parse.{checkedBy}

@@ -16,8 +16,8 @@ use Rattle.codec.proofs.Order.{words2-be, words3-be}
 use Rattle.codec.proofs.Total.{brought-within}
 use Rattle.layout.specs.declared.Checked.{Checked}
 use Rattle.layout.specs.declared.Checked.the-variants.{Accepted, Refused}
-use Rattle.layout.specs.Knowledge.{Element, Rules, basic}
-use Rattle.layout.specs.Permitted.{mostCount, largestReplicas, largestRanges, base, rulesWithin}
+use Rattle.layout.specs.Knowledge.{Element, Rules, basic, base}
+use Rattle.layout.specs.Permitted.{mostCount, largestReplicas, largestRanges, rulesWithin}
 use Rattle.layout.specs.Decode.{elementsAt, rangesAt}
 use Rattle.layout.specs.MethodPlaces.{idsPlace, vectorsPlace, rangesPlace, wholeLength}
 use Rattle.layout.specs.Parse.{checked}

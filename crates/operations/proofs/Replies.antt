@@ -7,8 +7,8 @@ use mathlib.Core.List.{List}
 use lib.ListN.{length}
 use Rattle.codec.specs.Reply.{Reply, answer, after}
 use Rattle.codec.specs.declared.Answer.{Answer}
-use Rattle.layout.specs.Knowledge.{Rules, Knowledge, basic}
-use Rattle.layout.specs.Permitted.{base, rulesWithin}
+use Rattle.layout.specs.Knowledge.{Rules, Knowledge, basic, base}
+use Rattle.layout.specs.Permitted.{rulesWithin}
 use Rattle.layout.specs.Decode.{decode}
 use Rattle.layout.proofs.Within.{basic-within}
 use Rattle.ticks.specs.Operations.{normalise, merge, project}

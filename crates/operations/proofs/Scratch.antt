@@ -2,7 +2,8 @@
 use Prim.Native.Nat.{ℕ, _≤_}
 use mathlib.Core.Path.{refl}
 use mathlib.Core.List.{List}
-use Rattle.layout.specs.Permitted.{base, largestReplicas, largestRanges, rulesWithin}
+use Rattle.layout.specs.Knowledge.{base}
+use Rattle.layout.specs.Permitted.{largestReplicas, largestRanges, rulesWithin}
 use Rattle.lookup.specs.declared.Cursor.{Cursor}
 use Rattle.lookup.specs.Method.{Opens}
 use Rattle.sampling.proofs.Opening.{scratch-replicas, scratch-ranges}

@@ -12,8 +12,8 @@ use Rattle.codec.specs.Part.{placed}
 use Rattle.codec.specs.Words.{words2}
 use Rattle.codec.specs.declared.Answer.{Answer}
 use Rattle.codec.proofs.Replies.{None, First, fault-gives, fault-first}
-use Rattle.layout.specs.Knowledge.{Limits, Rules, Knowledge, encode}
-use Rattle.layout.specs.Permitted.{base, within, rulesWithin}
+use Rattle.layout.specs.Knowledge.{Limits, Rules, Knowledge, encode, base}
+use Rattle.layout.specs.Permitted.{within, rulesWithin}
 use Rattle.layout.specs.Decode.{decode}
 use Rattle.ticks.specs.Operations.{normalise, merge, project, raise, tooManyReplicas, tooManyRanges}
 use Rattle.ticks.specs.Calls.{idOf, wrongSpan, resultLines}

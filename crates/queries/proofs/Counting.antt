@@ -9,8 +9,8 @@ use native.Mathlib.Omega.{arith}
 use lib.ListN.{length}
 use Rattle.codec.specs.Number.{Bytes}
 use Rattle.codec.specs.Parsed.{accepted}
-use Rattle.layout.specs.Knowledge.{Limits, anyId, basic}
-use Rattle.layout.specs.Permitted.{base, within, rulesWithin}
+use Rattle.layout.specs.Knowledge.{Limits, anyId, basic, base}
+use Rattle.layout.specs.Permitted.{within, rulesWithin}
 use Rattle.layout.specs.Decode.{decode}
 use Rattle.layout.specs.Parse.{checkedBy}
 use Rattle.layout.proofs.Within.{within-permitted, base-within}

@@ -6,8 +6,8 @@ use native.Mathlib.Omega.{arith}
 use lib.ListN.{length}
 use Rattle.codec.specs.Number.{Bytes}
 use Rattle.codec.specs.Parsed.{Parsed, accepted, refused}
-use Rattle.layout.specs.Knowledge.{Limits}
-use Rattle.layout.specs.Permitted.{base, within}
+use Rattle.layout.specs.Knowledge.{Limits, base}
+use Rattle.layout.specs.Permitted.{within}
 use Rattle.layout.proofs.Within.{base-within}
 use Rattle.replication.specs.declared.Part.{Part}
 use Rattle.replication.specs.declared.Part.the-variants as P

@@ -15,8 +15,8 @@ use Rattle.codec.specs.Total.{readAt}
 use Rattle.codec.specs.Words.{words3}
 use Rattle.codec.proofs.Numbers.{be-below}
 use Rattle.codec.proofs.Total.{read-id3}
-use Rattle.layout.specs.Knowledge.{Limits}
-use Rattle.layout.specs.Permitted.{base, within}
+use Rattle.layout.specs.Knowledge.{Limits, base}
+use Rattle.layout.specs.Permitted.{within}
 use Rattle.layout.proofs.Within.{base-within}
 use Rattle.replication.specs.declared.Part.{Part}
 use Rattle.replication.specs.declared.Part.the-variants as P

@@ -10,8 +10,8 @@ use Rattle.layout.specs.declared.Got.{Got}
 use Rattle.layout.specs.declared.Got.the-variants.{Num, Fault}
 use Rattle.layout.specs.declared.Checked.{Checked}
 use Rattle.layout.specs.declared.Checked.the-variants.{Accepted, Refused}
-use Rattle.layout.specs.Knowledge.{Limits, basic, closing}
-use Rattle.layout.specs.Permitted.{base, largestReplicas, largestRanges}
+use Rattle.layout.specs.Knowledge.{Limits, basic, closing, base}
+use Rattle.layout.specs.Permitted.{largestReplicas, largestRanges}
 use Rattle.layout.specs.Read.{fields}
 use Rattle.layout.specs.Parse.{_▶_, replicaMap, ended, checked, checkedBy}
 use Rattle.layout.proofs.Within.{base-within}

@@ -26,7 +26,8 @@ use Rattle.replication.specs.Reading.{itemPlace, changeReplicaPlace, changeTick
 use Rattle.replication.specs.Reading.{recLength, behind, contentAt, recAt, whole}
 use Rattle.replication.specs.MethodRecords.{WholeAt}
 use Rattle.replication.proofs.RecordBytes.{recSize, kind-length, kind-known, whole-exact, whole-back, rec-part}
-use Rattle.records.specs.Method.{lengthAt, recordPart, readRec}
+use Rattle.replication.specs.Queries.{lengthAt}
+use Rattle.records.specs.Method.{recordPart, readRec}
 
 -- ---- lengths
 

@@ -11,12 +11,12 @@ use lib.ListN.{length}
 use borrow.Author.Tests.{eqb-true, eqb-false}
 use Rattle.codec.specs.Number.{beAt}
 use Rattle.replication.specs.Reading.{itemPlace, recAt}
-use Rattle.replication.specs.Queries.{places, placeOf}
+use Rattle.replication.specs.Queries.{places, placeOf, lengthAt}
 use Rattle.replication.proofs.RecordsInBytes.{whole-at}
 use Rattle.replication.proofs.RecordsTable.{place-end, place-found, place-on}
 use Rattle.records.specs.declared.Found.the-variants as F
 use Rattle.replication.specs.MethodRecords.{WholeAt}
-use Rattle.records.specs.Method.{lengthAt, foundPlace}
+use Rattle.records.specs.Method.{foundPlace}
 use Rattle.records.proofs.Fields.{whole-past, length-ends, length-stands, length-behind, item-at}
 
 pub found-at : (at : ℕ) → foundPlace (F.At at) ≡ some at

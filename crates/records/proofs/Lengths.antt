@@ -13,7 +13,8 @@ use Rattle.replication.specs.MethodRecords.{shapedAt, WholeAt}
 use Rattle.replication.proofs.RecordBytes.{KnownKind, kind-length}
 use Rattle.replication.proofs.RecordsInBytes.{whole-at, shaped-nil}
 use Rattle.replication.proofs.OpeningTables.{ordered-parts}
-use Rattle.records.specs.Method.{commonLength, lengthAt}
+use Rattle.replication.specs.Queries.{lengthAt}
+use Rattle.records.specs.Method.{commonLength}
 use Rattle.records.proofs.Fields.{length-most, length-there, length-stands, length-size}
 
 pub common-length : (kind : ℕ) → KnownKind kind → recLength kind ≡ commonLength

@@ -17,7 +17,8 @@ use Rattle.replication.specs.Record.{Content, Rec}
 use Rattle.replication.specs.Reading.{itemPlace, changeTickPlace, createTickPlace, tagPlace, recAt, both, whole, tagKept, validRec}
 use Rattle.replication.specs.MethodRecords.{shapedAt}
 use Rattle.replication.proofs.RecordsInBytes.{shaped-end, shaped-on, shaped-stop, shaped-low, shaped-invalid}
-use Rattle.records.specs.Method.{commonLength, lengthAt, least}
+use Rattle.replication.specs.Queries.{lengthAt}
+use Rattle.records.specs.Method.{commonLength, least}
 use Rattle.records.proofs.Fields.{length-ends, length-stands, length-behind, pair-read, item-at, change-tick-at, create-tick-at, tag-at, deleted-at}
 
 -- ---- the tag

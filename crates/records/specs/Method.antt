@@ -2,12 +2,11 @@
 -- record as an option, and the lower bound that a pass over rising items keeps. There is nothing to believe here: where a whole
 -- record stands, the law `part-record` says that the part is the bytes of `recAt`, and `read-whole` that the fields are those of `recAt`.
 use Rattle.codec.specs.Prelude.{ℕ, suc, _+_, List, Bool, true, false, Option, none, some, eqb}
-use Rattle.codec.specs.Number.{beAt}
 use Rattle.codec.specs.Part.{part}
 use Rattle.codec.specs.Total.{readAt}
 use Rattle.codec.specs.Words.{words3}
 use Rattle.replication.specs.Record.{Rec}
-use Rattle.replication.specs.Reading.{recLength, whole}
+use Rattle.replication.specs.Queries.{lengthAt}
 use Rattle.replication.specs.Reading.{itemPlace, changeReplicaPlace, changeTickPlace, createReplicaPlace, createTickPlace, tagPlace}
 use Rattle.records.specs.declared.Found.{Found}
 use Rattle.records.specs.declared.Found.the-variants as F
@@ -15,10 +14,6 @@ use Rattle.records.specs.declared.Found.the-variants as F
 -- the length of a record of either kind, by the law `common-length`
 abbrev pub commonLength : ℕ
 commonLength = 89
-
--- the length of the whole record of a known kind at a place, 0 where none stands there
-unfoldable pub lengthAt : List ℕ → ℕ → ℕ
-lengthAt s at = elim (whole s at) [ true ↦ recLength (beAt s 1 at) | false ↦ 0 ]
 
 -- its bytes, none where none stands there
 unfoldable pub recordPart : List ℕ → ℕ → List ℕ

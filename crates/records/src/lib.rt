@@ -13,10 +13,10 @@ ghost use Rattle.codec.specs.Total.{readAt};
 ghost use Rattle.codec.specs.Words.{words2, words3};
 ghost use Rattle.replication.specs.Reading.{recLength, behind, recAt, whole, tagKept, validRec};
 ghost use Rattle.replication.specs.Reading.{itemPlace, changeReplicaPlace, changeTickPlace, createReplicaPlace, createTickPlace, tagPlace};
-ghost use Rattle.replication.specs.Queries.{places, placeOf};
+ghost use Rattle.replication.specs.Queries.{places, placeOf, lengthAt};
 ghost use Rattle.replication.specs.Operate.{wins};
 ghost use Rattle.replication.specs.MethodRecords.{WholeAt, shapedAt};
-ghost use Rattle.records.specs.Method.{commonLength, lengthAt, recordPart, readRec, foundPlace, least};
+ghost use Rattle.records.specs.Method.{commonLength, recordPart, readRec, foundPlace, least};
 
 // the places of a record's fields, counted from its own
 const ITEM: usize = 1;

@@ -13,8 +13,8 @@ use Rattle.codec.specs.Reply.{Reply, gives, refuses, answer, numberOf}
 use Rattle.codec.specs.Parsed.{Parsed, accepted, refused}
 use Rattle.codec.proofs.Numbers.{be-below}
 use Rattle.codec.proofs.Replies.{number-fits, number-refused}
-use Rattle.layout.specs.Knowledge.{Limits, Rules, anyId, basic, Knowledge, encode, All}
-use Rattle.layout.specs.Permitted.{Permitted, base, longest}
+use Rattle.layout.specs.Knowledge.{Limits, Rules, anyId, basic, Knowledge, encode, All, base}
+use Rattle.layout.specs.Permitted.{Permitted, longest}
 use Rattle.layout.specs.Parse.{parse}
 use Rattle.layout.proofs.Runs.{run-length}
 use Rattle.layout.proofs.Lengths.{lawful-length}

@@ -52,6 +52,9 @@ pub mod RefusalsCounts
 pub mod RefusalsJoin
 pub mod RefusalsSettled
 pub mod Runner
+pub mod RunnerSettled
+pub mod Demand1
+pub mod Consumed
 pub mod RecordsInBytes
 pub mod RecordsTable
 pub mod Enough

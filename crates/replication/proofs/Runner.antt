@@ -1,8 +1,5 @@
--- What a list of calls does, call by call, said without the definitions that run it: the stores begin as new returns them and
--- the machine empty; a call writes bytes exactly where its reply of specs/Calls.antt gives them and they fit the buffer; then its
--- replica's bytes become these, or one batch joins at the end, and nothing else changes; where it writes nothing, nothing
--- changes; and the machine does the call in the first case and nothing in the second. This is said of one call after any list
--- of calls, so that it settles every list: there is no other way to begin and no other step.
+-- What specs/Runner.antt says of a list of calls, call by call, holds of `ends`, `machine` and `trace`: each is its own step for one call
+-- more, and `writes` gives bytes exactly where the call's reply gives them and they fit the buffer.
 use Prim.Native.Nat.{ℕ, zero, suc, _≤_, _<_, _^_}
 use mathlib.Core.Path.{_≡_, refl, sym, ap, _∙_, subst}
 use mathlib.Core.Logic.{_⊎_, inl, inr, _↔_}
@@ -21,96 +18,10 @@ use Rattle.replication.specs.Calls.{newReply, editReply, deleteReply, ma
 use Rattle.replication.specs.Lists.{World, start, outcome, batchNumber, applyTo, writes, keep, run, trace}
 use Rattle.replication.specs.Machine.{Remembered, State, initial, rememberedAt, acts, history}
 use Rattle.replication.specs.Promise.{ends, machine}
+use Rattle.replication.specs.Runner.{Number, Replies, roomOf, Writes, WritesNothing, Stored, Joined, Leaves, Told, one, Runner}
 use Rattle.replication.proofs.AgreeEdit.{put-same, put-other}
 use Rattle.replication.proofs.AgreeRun.{run-append, history-append}
 use Rattle.replication.proofs.Demand3.{begin}
-
--- ---- what is said
-
--- x has number n in a list, counted from 0: n others stand before it
-pub record Number {A : Type 0} (n : ℕ) (l : List A) (x : A) : Type 0 where
-  pub before : List A
-  pub behind : List A
-  pub is : l ≡ before ++ (x ∷ behind)
-  pub count : length before ≡ n
-
--- the call's reply gives bs. "Each call gets its replica's store bytes"; "An apply gets a batch just as an earlier make of the list
--- wrote it", by its number in the order made
-abbrev pub Replies : Rules → World → Call → List ℕ → Type 0
-Replies R w (edit who item brought room) bs = editReply (R .limits) (w .stores who) item brought ≡ gives bs
-Replies R w (delete who item room) bs = deleteReply (R .limits) (w .stores who) item ≡ gives bs
-Replies R w (make who knowledge first last room) bs = makeReply R (w .stores who) knowledge first last ≡ gives bs
-Replies R w (apply who which room) bs =
-    (t : List ℕ) × (Number which (w .batches) t × (applyReply (R .limits) (w .stores who) t ≡ gives bs))
-
-abbrev pub roomOf : Call → ℕ  -- the length of the call's output buffer
-roomOf (edit who item brought room) = room
-roomOf (delete who item room) = room
-roomOf (make who knowledge first last room) = room
-roomOf (apply who which room) = room
-
--- the call is not refused and writes bs
-pub record Writes (R : Rules) (w : World) (c : Call) (bs : List ℕ) : Type 0 where
-  pub reply : Replies R w c bs
-  pub room : length bs ≤ roomOf c
-
--- the call is refused, for whatever reason
-pub record WritesNothing (R : Rules) (w : World) (c : Call) : Type 0 where
-  pub nothing : (bs : List ℕ) → Writes R w c bs → ⊥
-
--- one replica's bytes are bs, and all else is as it was
-pub record Stored (who : ℕ) (bs : List ℕ) (w after : World) : Type 0 where
-  pub own : after .stores who ≡ bs
-  pub others : (q : ℕ) → (q ≡ who → ⊥) → after .stores q ≡ w .stores q
-  pub batches : after .batches ≡ w .batches
-
--- bs is one batch more, at the end, and all else is as it was
-pub record Joined (bs : List ℕ) (w after : World) : Type 0 where
-  pub stores : (q : ℕ) → after .stores q ≡ w .stores q
-  pub batches : after .batches ≡ w .batches ++ (bs ∷ [])
-
-abbrev pub Leaves : Call → List ℕ → World → World → Type 0  -- what a call that wrote bs leaves
-Leaves (edit who item brought room) bs w after = Stored who bs w after
-Leaves (delete who item room) bs w after = Stored who bs w after
-Leaves (make who knowledge first last room) bs w after = Joined bs w after
-Leaves (apply who which room) bs w after = Stored who bs w after
-
--- what the machine is told of a call: the call itself, and whether it was refused
-pub record Told (R : Rules) (w : World) (c : Call) (x : Fed) : Type 0 where
-  pub call : x .call ≡ c
-  pub refused : (x .refused ≡ true) ↔ WritesNothing R w c
-  pub done : (x .refused ≡ false) ↔ ((bs : List ℕ) × Writes R w c bs)
-
-abbrev pub one : Call → List Call
-one c = c ∷ []
-
-pub record Runner (R : Rules) : Type 0 where
-  -- "It starts from stores that new returned, each under an id of its own"; no batch was made, and the machine is empty
-  pub stores : (p : ℕ) → ReplicaId p → newReply (put 16 p []) ≡ gives (ends R [] .stores p)
-  pub batches : ends R [] .batches ≡ []
-  pub versions : machine R [] .versions ≡ []
-  pub ticks : (p i q : ℕ) → machine R [] .ticks p i q ≡ 0
-  pub remembered : machine R [] .batches ≡ []
-  -- "Each call gets its replica's store bytes as new or the last edit, delete or apply on that replica wrote them; a refused one leaves
-  -- them as they were. Nothing else writes them meanwhile."
-  pub written : (calls : List Call) (c : Call) (bs : List ℕ) → Writes R (ends R calls) c bs
-      → Leaves c bs (ends R calls) (ends R (calls ++ one c))
-  pub refused : (calls : List Call) (c : Call) → WritesNothing R (ends R calls) c → ends R (calls ++ one c) ≡ ends R calls
-  -- a call writes or is refused, and never two results
-  pub decided : (calls : List Call) (c : Call) → ((bs : List ℕ) × Writes R (ends R calls) c bs) ⊎ WritesNothing R (ends R calls) c
-  pub single : (calls : List Call) (c : Call) (bs cs : List ℕ) → Writes R (ends R calls) c bs → Writes R (ends R calls) c cs
-      → bs ≡ cs
-  -- "The machine is fed each call's replica and arguments, whether the call was refused, and for an apply which make wrote the batch";
-  -- "A refused call does nothing"
-  pub untold : trace R start [] ≡ []
-  pub told : (calls : List Call) (c : Call)
-      → (x : Fed) × (Told R (ends R calls) c x × (trace R start (calls ++ one c) ≡ trace R start calls ++ (x ∷ [])))
-  pub acted : (calls : List Call) (c : Call) (bs : List ℕ) → Writes R (ends R calls) c bs
-      → machine R (calls ++ one c) ≡ acts (machine R calls) c
-  pub idle : (calls : List Call) (c : Call) → WritesNothing R (ends R calls) c → machine R (calls ++ one c) ≡ machine R calls
-  -- batches by number in the order made, in the bytes and in the machine
-  pub numbered : (n : ℕ) (l : List (List ℕ)) (t : List ℕ) → (batchNumber n l ≡ some t) ↔ Number n l t
-  pub numbers : (n : ℕ) (l : List Remembered) (b : Remembered) → (rememberedAt n l ≡ some b) ↔ Number n l b
 
 -- ---- numbers of batches
 
@@ -421,7 +332,7 @@ module _ (R : Rules) where
   unfolding initial
   initial-empty = (refl, ((λ p i q. refl), refl))
 
-  pub runner : Runner R
+  pub runner : Runner R (ends R) (machine R) (trace R start)
   runner = record {
     stores = λ p small. begin p small ∙ ap (λ (w : World). gives (w .stores p)) (sym ends-start);
     batches = ap (λ (w : World). w .batches) ends-start ∙ start-batches;
@@ -431,7 +342,6 @@ module _ (R : Rules) where
     written = written-leaves;
     refused = refused-leaves;
     decided = λ calls c. writes-decided R (ends R calls) c;
-    single = λ calls c bs cs. writes-single R (ends R calls) c bs cs;
     untold = trace-start;
     told = told-more;
     acted = written-acts;

@@ -9,6 +9,9 @@ ReplicaId p = p < 256 ^ 16
 pub record Brought : Type 0 where  -- what an edit brings beside the item, as bytes of any number
   pub tag : List ℕ
 
+abbrev pub brings : List ℕ → Brought  -- the tag's bytes
+brings tag = record { tag = tag }
+
 -- a call: its replica's id, its arguments as bytes, for an apply the number of the batch in the order in which the list made them, and
 -- the length of the output buffer
 pub data Call : Type 0 where

@@ -20,3 +20,5 @@ pub mod Machine
 pub mod Lists
 pub mod Promise
 pub mod Batches
+pub mod Runner
+pub mod Demand1

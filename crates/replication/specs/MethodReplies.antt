@@ -6,15 +6,10 @@ use Rattle.codec.specs.Parsed.{line}
 use Rattle.layout.specs.Knowledge.{Limits, encode}
 use Rattle.ticks.specs.Calls.{resultLines}
 use Rattle.replication.specs.Record.{Content}
-use Rattle.replication.specs.Call.{Brought}
 use Rattle.replication.specs.Formats.{Store, encodeStore}
 use Rattle.replication.specs.BatchFormat.{Batch, encodeBatch}
 use Rattle.replication.specs.Operate.{changed}
 use Rattle.replication.specs.Calls.{then, exhausted, storeLines, tooManyRecords}
-
--- what an edit brings, from the bytes of its tag
-abbrev pub brings : List ℕ → Brought
-brings tag = record { tag = tag }
 
 -- of a call that writes a store: 11, 12 and 13, and else its bytes
 unfoldable pub storeReply : Limits → Store → Reply

@@ -53,6 +53,10 @@ partLength (P.OfStore at n) old = n
 partLength (P.OfBatch at n) old = n
 partLength (P.Refused k) old = old
 
+-- beyond document 01: the length of the whole record of a known kind at a place, 0 where none stands there
+unfoldable pub lengthAt : List ℕ → ℕ → ℕ
+lengthAt s at = elim (whole s at) [ true ↦ recLength (beAt s 1 at) | false ↦ 0 ]
+
 -- the places of the records that a walker goes through from a place on; "it ends where no whole record of a known kind follows". A
 -- record has at least one byte, so the table's length bounds how many there can be
 unfoldable pub placesFrom : ℕ → List ℕ → ℕ → List ℕ

@@ -13,8 +13,8 @@ use Rattle.codec.specs.Number.{beAt}
 use Rattle.codec.specs.Total.{readAt}
 use Rattle.codec.specs.Words.{words3}
 use Rattle.codec.proofs.Total.{read-id3}
-use Rattle.layout.specs.Knowledge.{Rules, basic}
-use Rattle.layout.specs.Permitted.{base, rulesWithin}
+use Rattle.layout.specs.Knowledge.{Rules, basic, base}
+use Rattle.layout.specs.Permitted.{rulesWithin}
 use Rattle.layout.specs.Decode.{decode}
 use Rattle.layout.proofs.Within.{basic-within}
 use Rattle.ticks.specs.Operations.{lacking, isNowhere}

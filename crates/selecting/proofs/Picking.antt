@@ -13,9 +13,8 @@ use borrow.Author.Tests.{ltb-true, ltb-false}
 use Rattle.codec.specs.Total.{readAt}
 use Rattle.codec.specs.Words.{words3}
 use Rattle.replication.specs.Reading.{behind, itemPlace, recAt}
-use Rattle.replication.specs.Queries.{places}
+use Rattle.replication.specs.Queries.{places, lengthAt}
 use Rattle.replication.proofs.QueriesPlaces.{places-step, places-end}
-use Rattle.records.specs.Method.{lengthAt}
 use Rattle.records.proofs.Fields.{length-ends, length-stands, length-behind, item-word}
 use Rattle.records.proofs.Finding.{length-at, length-inside}
 use Rattle.lookup.specs.declared.Cursor.{Cursor}

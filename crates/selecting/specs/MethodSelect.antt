@@ -2,8 +2,7 @@
 -- `selected-size` and `selected-copied` say what these are in the terms of `replication`, for a table that rises.
 use Rattle.codec.specs.Prelude.{ℕ, _+_, _-_, _≤_, _≡_, true, false, List, [], _∷_, ltb, length}
 use Rattle.replication.specs.Reading.{recAt}
-use Rattle.replication.specs.Queries.{places}
-use Rattle.records.specs.Method.{lengthAt}
+use Rattle.replication.specs.Queries.{places, lengthAt}
 use Rattle.lookup.specs.declared.Cursor.{Cursor}
 use Rattle.versions.specs.Method.{movedTo, changeIn}
 use Rattle.selecting.specs.declared.Pick.{Pick}

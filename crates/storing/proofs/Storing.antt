@@ -15,8 +15,8 @@ use Rattle.codec.specs.declared.Answer.{Answer}
 use Rattle.codec.specs.declared.Answer.the-variants.{Written, Refused}
 use Rattle.codec.proofs.Writing.{placed-length}
 use Rattle.codec.proofs.Calls.{refused-answer, refused-after, short-answer, short-after, written-answer, written-after}
-use Rattle.layout.specs.Knowledge.{Limits, Knowledge, encode}
-use Rattle.layout.specs.Permitted.{base, within}
+use Rattle.layout.specs.Knowledge.{Limits, Knowledge, encode, base}
+use Rattle.layout.specs.Permitted.{within}
 use Rattle.layout.proofs.Within.{base-within}
 use Rattle.ticks.specs.Calls.{resultLines}
 use Rattle.tables.specs.declared.Sizes.{Sizes}

@@ -30,3 +30,5 @@ pub mod Results
 pub mod ForCode
 pub mod ForRows
 pub mod Told
+pub mod Demand1
+pub mod Consumed

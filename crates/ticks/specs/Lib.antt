@@ -7,5 +7,6 @@ pub mod Calls
 pub mod Answers
 pub mod Demand2
 pub mod Results
+pub mod Demand1
 pub mod MethodLookup
 pub mod MethodRows

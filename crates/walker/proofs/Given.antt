@@ -9,9 +9,9 @@ use native.Mathlib.Omega.{arith}
 use lib.ListN.{length, take, drop}
 use Rattle.codec.specs.Number.{beAt}
 use Rattle.replication.specs.Reading.{recLength, behind, whole}
-use Rattle.replication.specs.Queries.{toGive}
+use Rattle.replication.specs.Queries.{toGive, lengthAt}
 use Rattle.replication.proofs.QueriesWalk.{give-step, give-end}
-use Rattle.records.specs.Method.{lengthAt, recordPart}
+use Rattle.records.specs.Method.{recordPart}
 use Rattle.records.proofs.Fields.{length-whole, length-size, length-stands, length-ends, length-behind, part-whole, part-nothing, part-length}
 use Rattle.records.proofs.Finding.{length-inside}
 use Rattle.walker.specs.Method.{afterAt}

@@ -1,6 +1,6 @@
 -- `editing::edit` meets its contract: document 01's limits are those of its three numbers.
 use Rattle.replication.specs.Calls.{editReply}
-use Rattle.replication.specs.MethodReplies.{brings}
+use Rattle.replication.specs.Call.{brings}
 use Rattle.storing.proofs.Storing.{ended-base}
 use borrow.Author.Needs.{needs}
 use Rattle.editing.proofs.edit.Statement.{statement}

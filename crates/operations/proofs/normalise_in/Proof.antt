@@ -1,7 +1,8 @@
 -- `operations::normalise_in` meets its contract: the table samples the ticks of the result, so the call ends as the result's reply says.
 use mathlib.Core.Path.{refl}
 use native.Mathlib.Omega.{arith}
-use Rattle.layout.specs.Permitted.{base, rulesWithin}
+use Rattle.layout.specs.Knowledge.{base}
+use Rattle.layout.specs.Permitted.{rulesWithin}
 use Rattle.preparing.proofs.Ready.{normalise-sheet, sheet-ended}
 use Rattle.operations.proofs.Replies.{normalise-says}
 use borrow.Author.Needs.{needs}

@@ -1,5 +1,5 @@
 -- `queries::learned` meets its contract: the part told is inside, and it is what is handed out.
-use Rattle.layout.specs.Permitted.{base}
+use Rattle.layout.specs.Knowledge.{base}
 use Rattle.queries.proofs.Parts.{handed-as}
 use Rattle.queries.proofs.Handed.{learned-inside}
 use borrow.Author.Needs.{needs}

@@ -1,0 +1,28 @@
+-- `inspect::check_front` meets its contract: it checks the bytes that were read, and the first 14,934 bytes decide (`prefix-base`).
+use mathlib.Core.Path.{sym, ap, _∙_}
+use native.Mathlib.Omega.{arith}
+use lib.ListN.{length-take}
+use Rattle.layout.specs.Knowledge.{basic}
+use Rattle.layout.specs.Parse.{checkedBy}
+use Rattle.layout.proofs.Prefix.{prefix-base}
+use borrow.Author.Needs.{needs}
+use Rattle.inspect.proofs.check_front.Statement.{statement}
+use Rattle.inspect.proofs.check_front.Tie as tie
+use Rattle.inspect.proofs.check_front.Reads as reads
+use Rattle.inspect.proofs.check_front.Lts as lts
+use Rattle.reader.proofs.check.Reads as check-reads
+
+slice-aggregate-check : tie.Need-slice-aggregate-check
+slice-aggregate-check c =
+    let a = c .before .before .args in
+    let p = c .before .before .pre in
+    omega (arith, p .0, p .1, length-take (a .n) (a .buffer .now))
+
+check-requires : tie.Need-check-requires
+check-requires c κs = search needs
+
+returns : tie.Need-returns
+returns c = λ input e. c .check .ensures ∙ (ap (checkedBy basic) (sym e) ∙ prefix-base input)
+
+pub check-front-spec : {M : Type 1} → statement M
+check-front-spec = tie.close (tie.spec slice-aggregate-check check-requires returns)

@@ -1,0 +1,5 @@
+-- The C functions make the calls of a list, and demand 3 holds of the bytes that a program keeps.
+pub mod Steps
+pub mod OnCode
+pub mod Every
+pub mod Consumed

@@ -1,0 +1,23 @@
+-- `joined::apply_step` meets its contract: the equations are those of the C function, and by them it makes the call of a list.
+use Rattle.joined.proofs.Steps.{called-of, apply-called}
+use borrow.Author.Needs.{needs}
+use Rattle.joined.proofs.apply_step.Statement.{statement}
+use Rattle.joined.proofs.apply_step.Tie as tie
+use Rattle.joined.proofs.apply_step.Reads as reads
+use Rattle.joined.proofs.apply_step.Lts as lts
+use Rattle.collector.proofs.sync_apply.Reads as sync-apply-reads
+
+sync-apply-requires : tie.Need-sync-apply-requires
+sync-apply-requires c κs = search needs
+
+same-length : tie.Need-same-length
+same-length c = search needs
+
+returns : tie.Need-returns
+returns c =
+    let e = c .before .before .sync-apply .ensures in
+    let k = called-of _ _ _ _ _ _ (e .0) (e .1 .0) (e .1 .1) in
+    (k, apply-called _ _ _ _ _ _ _ k)
+
+pub apply-step-spec : {M : Type 1} → statement M
+apply-step-spec = tie.close (tie.spec sync-apply-requires same-length returns)

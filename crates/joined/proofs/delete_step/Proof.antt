@@ -1,0 +1,23 @@
+-- `joined::delete_step` meets its contract: the equations are those of the C function, and by them it makes the call of a list.
+use Rattle.joined.proofs.Steps.{called-of, delete-called}
+use borrow.Author.Needs.{needs}
+use Rattle.joined.proofs.delete_step.Statement.{statement}
+use Rattle.joined.proofs.delete_step.Tie as tie
+use Rattle.joined.proofs.delete_step.Reads as reads
+use Rattle.joined.proofs.delete_step.Lts as lts
+use Rattle.collector.proofs.sync_delete.Reads as sync-delete-reads
+
+sync-delete-requires : tie.Need-sync-delete-requires
+sync-delete-requires c κs = search needs
+
+same-length : tie.Need-same-length
+same-length c = search needs
+
+returns : tie.Need-returns
+returns c =
+    let e = c .before .before .sync-delete .ensures in
+    let k = called-of _ _ _ _ _ _ (e .0) (e .1 .0) (e .1 .1) in
+    (k, delete-called _ _ _ _ _ _ _ k)
+
+pub delete-step-spec : {M : Type 1} → statement M
+delete-step-spec = tie.close (tie.spec sync-delete-requires same-length returns)

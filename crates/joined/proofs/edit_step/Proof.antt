@@ -1,0 +1,23 @@
+-- `joined::edit_step` meets its contract: the equations are those of the C function, and by them it makes the call of a list.
+use Rattle.joined.proofs.Steps.{called-of, edit-called}
+use borrow.Author.Needs.{needs}
+use Rattle.joined.proofs.edit_step.Statement.{statement}
+use Rattle.joined.proofs.edit_step.Tie as tie
+use Rattle.joined.proofs.edit_step.Reads as reads
+use Rattle.joined.proofs.edit_step.Lts as lts
+use Rattle.collector.proofs.sync_edit.Reads as sync-edit-reads
+
+sync-edit-requires : tie.Need-sync-edit-requires
+sync-edit-requires c κs = search needs
+
+same-length : tie.Need-same-length
+same-length c = search needs
+
+returns : tie.Need-returns
+returns c =
+    let e = c .before .before .sync-edit .ensures in
+    let k = called-of _ _ _ _ _ _ (e .0) (e .1 .0) (e .1 .1) in
+    (k, edit-called _ _ _ _ _ _ _ _ k)
+
+pub edit-step-spec : {M : Type 1} → statement M
+edit-step-spec = tie.close (tie.spec sync-edit-requires same-length returns)

@@ -1,0 +1,23 @@
+-- `joined::make_step` meets its contract: the equations are those of the C function, and by them it makes the call of a list.
+use Rattle.joined.proofs.Steps.{called-of, make-called}
+use borrow.Author.Needs.{needs}
+use Rattle.joined.proofs.make_step.Statement.{statement}
+use Rattle.joined.proofs.make_step.Tie as tie
+use Rattle.joined.proofs.make_step.Reads as reads
+use Rattle.joined.proofs.make_step.Lts as lts
+use Rattle.collector.proofs.sync_make.Reads as sync-make-reads
+
+sync-make-requires : tie.Need-sync-make-requires
+sync-make-requires c κs = search needs
+
+same-length : tie.Need-same-length
+same-length c = search needs
+
+returns : tie.Need-returns
+returns c =
+    let e = c .before .before .sync-make .ensures in
+    let k = called-of _ _ _ _ _ _ (e .0) (e .1 .0) (e .1 .1) in
+    (k, make-called _ _ _ _ _ _ _ _ _ k)
+
+pub make-step-spec : {M : Type 1} → statement M
+make-step-spec = tie.close (tie.spec sync-make-requires same-length returns)

@@ -1,0 +1,23 @@
+-- `joined::new_step` meets its contract: the equations are those of the C function, and by them it makes the call of a list.
+use Rattle.joined.proofs.Steps.{called-of, new-called}
+use borrow.Author.Needs.{needs}
+use Rattle.joined.proofs.new_step.Statement.{statement}
+use Rattle.joined.proofs.new_step.Tie as tie
+use Rattle.joined.proofs.new_step.Reads as reads
+use Rattle.joined.proofs.new_step.Lts as lts
+use Rattle.collector.proofs.sync_new.Reads as sync-new-reads
+
+sync-new-requires : tie.Need-sync-new-requires
+sync-new-requires c κs = search needs
+
+same-length : tie.Need-same-length
+same-length c = search needs
+
+returns : tie.Need-returns
+returns c =
+    let e = c .before .before .sync-new .ensures in
+    let k = called-of _ _ _ _ _ _ (e .0) (e .1 .0) (e .1 .1) in
+    (k, new-called _ _ _ _ _ _ k)
+
+pub new-step-spec : {M : Type 1} → statement M
+new-step-spec = tie.close (tie.spec sync-new-requires same-length returns)

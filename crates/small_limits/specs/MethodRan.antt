@@ -1,0 +1,47 @@
+-- Nothing to believe: flags, answers and end of a list of calls in one run, so that each list is computed once.
+use Prim.Native.Nat.{ℕ}
+use mathlib.Core.Bool.{Bool, true, false}
+use mathlib.Core.List.{List, [], _∷_}
+use mathlib.Core.Option.{Option, none, some}
+use lib.ListN.{getD}
+use Rattle.codec.specs.declared.Answer.{Answer}
+use Rattle.codec.specs.declared.Answer.the-variants.{Refused}
+use Rattle.codec.specs.Reply.{answer}
+use Rattle.layout.specs.Knowledge.{Rules}
+use Rattle.replication.specs.Call.{Call, apply}
+use Rattle.replication.specs.Lists.{World, outcome, keep}
+use Rattle.replication.specs.Runner.{roomOf}
+use Rattle.small_limits.specs.Small.{storesOf}
+use Rattle.small_limits.specs.Answers.{replied}
+
+-- call k of a list and the answer to it
+abbrev pub callAt : List Call → ℕ → Call
+callAt cs k = getD cs k (apply 0 0 0)
+
+abbrev pub answerAt : List Answer → ℕ → Answer
+answerAt xs k = getD xs k (Refused 0)
+
+pub record Ran : Type 0 where
+  pub flags : List Bool
+  pub answers : List Answer
+  pub ends : World
+
+unfoldable pub noted : Answer → Option (List ℕ) → Ran → Ran
+noted a o r =
+    record { flags = elim o [ none ↦ true | some bs ↦ false ] ∷ r .flags; answers = a ∷ r .answers; ends = r .ends }
+
+unfoldable pub ranOnce : Rules → World → List Call → Ran
+ranOnce R w [] = record { flags = []; answers = []; ends = w }
+ranOnce R w (c ∷ cs) =
+    let r = replied R w c in
+    let o = outcome r (roomOf c) in
+    noted (answer r (roomOf c)) o (ranOnce R (keep w c o) cs)
+
+pub record Seen : Type 0 where
+  pub flags : List Bool
+  pub answers : List Answer
+  pub stores : List (List ℕ)
+  pub batches : List (List ℕ)
+
+unfoldable pub seen : List ℕ → Ran → Seen
+seen ps r = record { flags = r .flags; answers = r .answers; stores = storesOf ps (r .ends); batches = r .ends .batches }
