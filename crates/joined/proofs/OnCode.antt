@@ -107,6 +107,10 @@ begun-gives p s b =
     let o = zero-exactly (b .number) (b .old) (b .written) (b .out) (b .left) (outcome reply (length (b .out))) (b .called) .0 (b .fine) in
     outcome-exact reply (length (b .out)) bs .0 o .0 ∙ ap gives (sym (b .taken))
 
+-- and that is the store that a list begins with
+pub begun-start : (p : ℕ) (s : List ℕ) → ReplicaId p → Begun p s → s ≡ start .stores p
+begun-start p s small b = gave s (start .stores p) (newReply (put 16 p [])) (begun-gives p s b) (begin p small)
+
 start-here : (w : World) → ((p : ℕ) → ReplicaId p → Begun p (w .stores p)) → w .batches ≡ [] → Here [] w
 start-here w b e = record {
   given = tt;
