@@ -3,6 +3,7 @@ pub mod Instances
 pub mod NotNormal
 pub mod Broken
 pub mod Unusual
+pub mod OneRun
 pub mod Lists
 pub mod Longer
 pub mod FirstFault

@@ -5,5 +5,7 @@ pub mod Table
 pub mod NotNormal
 pub mod Broken
 pub mod Listed
+pub mod Answers
 pub mod Longer
-pub mod MethodLonger
+pub mod MethodRan
+pub mod MethodFitting

@@ -4,10 +4,12 @@ use Prim.Native.Nat.{ℕ, _+_, _*_, _^_}
 use mathlib.Core.Bool.{Bool, true, false}
 use mathlib.Core.List.{List, [], _∷_}
 use lib.ListN.{drop}
+use Rattle.codec.specs.declared.Answer.{Answer}
+use Rattle.codec.specs.declared.Answer.the-variants.{Written, Refused}
 use Rattle.codec.specs.Number.{put}
 use Rattle.layout.specs.Knowledge.{Knowledge, encode}
 use Rattle.ticks.specs.Meaning.{highest}
-use Rattle.replication.specs.Call.{Call, edit, delete, make, apply, Fed}
+use Rattle.replication.specs.Call.{Call, edit, delete, make, apply}
 use Rattle.replication.specs.Lists.{World}
 use Rattle.instances.specs.Given.{smallest, itemBytes, tagged, el, ran, two, p1, q1}
 
@@ -71,10 +73,6 @@ unfoldable pub allBytes : World → List (List ℕ)
 allBytes w = w .stores p1 ∷ w .stores q1 ∷ w .stores s1 ∷ w .stores t1 ∷ w .batches
 
 -- was each call refused
-unfoldable pub flags : List Fed → List Bool
-flags [] = []
-flags (x ∷ xs) = x .refused ∷ flags xs
-
 unfoldable pub longerFlags : List Bool
 longerFlags =
     false ∷ false ∷ false ∷ false ∷ true ∷ false ∷ true ∷
@@ -82,6 +80,16 @@ longerFlags =
     false ∷ false ∷ false ∷ false ∷ false ∷
     false ∷ true ∷ false ∷ false ∷
     false ∷ false ∷ true ∷ false ∷
+    []
+
+-- what each call answers: the length that it wrote, or the number of its refusal
+unfoldable pub longerAnswers : List Answer
+longerAnswers =
+    Written 263 ∷ Written 352 ∷ Written 441 ∷ Written 441 ∷ Refused 19 ∷ Written 441 ∷ Refused 17 ∷
+    Written 263 ∷ Written 263 ∷ Written 352 ∷ Written 557 ∷ Refused 14 ∷ Written 501 ∷
+    Written 408 ∷ Written 634 ∷ Written 352 ∷ Written 634 ∷ Written 634 ∷
+    Written 558 ∷ Refused 19 ∷ Written 558 ∷ Written 558 ∷
+    Written 1015 ∷ Written 504 ∷ Refused 18 ∷ Written 558 ∷
     []
 
 -- P's store, with a tombstone of item 3; Q knows the same and holds the same table

@@ -11,14 +11,15 @@ use Rattle.replication.specs.Call.{Given}
 use Rattle.replication.specs.Promise.{Promise, ends}
 use Rattle.replication.proofs.Demand3.{demand3}
 use Rattle.instances.specs.Given.{emptyValue, itemBytes, tagBytes, tagged, one, p1, q1}
-use Rattle.instances.specs.Longer.{s1, t1, flags}
-use Rattle.instances.proofs.Lists.{item-bytes, tag-bytes}
-use Rattle.small_limits.specs.Small.{small, smallRules, room, spelled, storesOf}
-use Rattle.small_limits.specs.Answers.{appliedTo, replied, answers}
-use Rattle.small_limits.specs.MethodRan.{noted, ranOnce, seen}
+use Rattle.instances.specs.Answers.{appliedTo, replied, answers, flags, storesOf}
+use Rattle.instances.specs.Longer.{s1, t1}
+use Rattle.instances.specs.MethodRan.{noted, ranOnce, seen}
+use Rattle.instances.proofs.Lists.{item-bytes, tag-bytes, small-ids, also}
+use Rattle.instances.proofs.OneRun.{flags-are, answers-are, stores-are, batches-are, answer-is, apply-is}
+use Rattle.small_limits.specs.Small.{small, smallRules, room, spelled}
 use Rattle.small_limits.specs.ReplicasFull.{replicasFull, replicasFullFlags, replicasFullAnswers, bytesP, bytesQ, bytesS, bytesT, bytesBatch0}
 use Rattle.small_limits.specs.ReplicasFull.{bytesBatch1, bytesBatch2, bytesBatch3}
-use Rattle.small_limits.proofs.Small.{small-permitted, small-ids, also, flags-are, answers-are, stores-are, batches-are, answer-is, apply-is}
+use Rattle.small_limits.proofs.Small.{small-permitted}
 use Rattle.codec.specs.Number.{Bytes, beFrom, beAt, put}
 use Rattle.codec.specs.Parsed.{ownFault, readOr}
 use Rattle.codec.specs.Reply.{answer, firstFault}

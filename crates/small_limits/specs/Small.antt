@@ -4,7 +4,6 @@ use Prim.Native.Nat.{ℕ}
 use mathlib.Core.List.{List, [], _∷_}
 use Rattle.codec.specs.Number.{put}
 use Rattle.layout.specs.Knowledge.{Limits, Rules, anyId}
-use Rattle.replication.specs.Lists.{World}
 
 abbrev pub small : Limits
 small = record { replicas = 2; ranges = 3; records = 2 }
@@ -20,8 +19,3 @@ room = 1000
 unfoldable pub spelled : List (ℕ × ℕ) → List ℕ
 spelled [] = []
 spelled (f ∷ fs) = put (f .0) (f .1) (spelled fs)
-
--- the bytes of the stores of the given replicas
-unfoldable pub storesOf : List ℕ → World → List (List ℕ)
-storesOf [] w = []
-storesOf (p ∷ ps) w = w .stores p ∷ storesOf ps w

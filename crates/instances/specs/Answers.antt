@@ -1,11 +1,13 @@
--- What each call of a list answers, from the bytes as the calls before it left them: the length that it wrote, or the number of its refusal.
+-- What is asked of a list of calls: what each call answers, from the bytes as the calls before it left them, which is the length that it
+-- wrote or the number of its refusal; which calls were refused; and the bytes of the stores.
 use Prim.Native.Nat.{ℕ}
+use mathlib.Core.Bool.{Bool}
 use mathlib.Core.List.{List, [], _∷_}
 use mathlib.Core.Option.{Option, none, some}
 use Rattle.codec.specs.declared.Answer.{Answer}
 use Rattle.codec.specs.Reply.{Reply, refuses, answer}
 use Rattle.layout.specs.Knowledge.{Limits, Rules}
-use Rattle.replication.specs.Call.{Call, edit, delete, make, apply}
+use Rattle.replication.specs.Call.{Call, edit, delete, make, apply, Fed}
 use Rattle.replication.specs.Calls.{editReply, deleteReply, makeReply, applyReply}
 use Rattle.replication.specs.Lists.{World, batchNumber, writes, keep}
 use Rattle.replication.specs.Runner.{roomOf}
@@ -25,3 +27,13 @@ replied R w (apply who which room) = appliedTo (R .limits) (w .stores who) (batc
 unfoldable pub answers : Rules → World → List Call → List Answer
 answers R w [] = []
 answers R w (c ∷ cs) = answer (replied R w c) (roomOf c) ∷ answers R (keep w c (writes R w c)) cs
+
+-- was each call refused
+unfoldable pub flags : List Fed → List Bool
+flags [] = []
+flags (x ∷ xs) = x .refused ∷ flags xs
+
+-- the bytes of the stores of the given replicas
+unfoldable pub storesOf : List ℕ → World → List (List ℕ)
+storesOf [] w = []
+storesOf (p ∷ ps) w = w .stores p ∷ storesOf ps w

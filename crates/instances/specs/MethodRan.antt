@@ -1,18 +1,19 @@
--- Nothing to believe: flags, answers and end of a list of calls in one run, so that each list is computed once.
-use Prim.Native.Nat.{ℕ}
+-- Nothing to believe: flags, answers and end of a list of calls in one run, so that each list is computed once; and when a store stays.
+use Prim.Native.Nat.{ℕ, zero, suc}
+use mathlib.Core.Path.{_≡_}
 use mathlib.Core.Bool.{Bool, true, false}
 use mathlib.Core.List.{List, [], _∷_}
 use mathlib.Core.Option.{Option, none, some}
+use lib.Dec.{eqb}
 use lib.ListN.{getD}
 use Rattle.codec.specs.declared.Answer.{Answer}
 use Rattle.codec.specs.declared.Answer.the-variants.{Refused}
 use Rattle.codec.specs.Reply.{answer}
 use Rattle.layout.specs.Knowledge.{Rules}
-use Rattle.replication.specs.Call.{Call, apply}
+use Rattle.replication.specs.Call.{Call, edit, delete, make, apply}
 use Rattle.replication.specs.Lists.{World, outcome, keep}
 use Rattle.replication.specs.Runner.{roomOf}
-use Rattle.small_limits.specs.Small.{storesOf}
-use Rattle.small_limits.specs.Answers.{replied}
+use Rattle.instances.specs.Answers.{replied, storesOf}
 
 -- call k of a list and the answer to it
 abbrev pub callAt : List Call → ℕ → Call
@@ -45,3 +46,17 @@ pub record Seen : Type 0 where
 
 unfoldable pub seen : List ℕ → Ran → Seen
 seen ps r = record { flags = r .flags; answers = r .answers; stores = storesOf ps (r .ends); batches = r .ends .batches }
+
+abbrev pub callerOf : Call → ℕ
+callerOf (edit who item brought room) = who
+callerOf (delete who item room) = who
+callerOf (make who knowledge first last room) = who
+callerOf (apply who which room) = who
+
+-- from call k on, each call is by another replica than p, or was refused
+abbrev pub Idle : ℕ → ℕ → List Call → List Bool → Type 0
+Idle k p [] fs = Unit {0}
+Idle k p (c ∷ cs) [] = Unit {0}
+Idle zero p (c ∷ cs) (true ∷ fs) = Idle zero p cs fs
+Idle zero p (c ∷ cs) (false ∷ fs) = (eqb p (callerOf c) ≡ false) × Idle zero p cs fs
+Idle (suc k) p (c ∷ cs) (f ∷ fs) = Idle k p cs fs
