@@ -1,23 +1,119 @@
--- What `OnCode` says, taken from the statement alone and said of what a program does: two programs that made the same calls keep the same
--- bytes; its stores know and hold what the machine says; batches applied by it in either order, and one twice, end in the same bytes; equal
--- knowledge means equal tables. Each law has `OnCode` as a hypothesis, not its proof, and speaks of any replica and any batches, so a
--- statement that says less no longer gives it.
+-- What is said of the running code, taken from the statements alone. From the contracts (`NewStep` and so on): the number is the reply's own
+-- for every refusal, 14 where the buffer is too short, and 0 where the bytes were written. From `OnCode`: two programs that made the same
+-- calls keep the same bytes; its stores know and hold what the machine says; batches applied by it in either order, and one twice, end in
+-- the same bytes; equal knowledge means equal tables. Each law has a statement as a hypothesis, not its proof, and speaks of any arguments,
+-- so a statement that says less no longer gives it.
 use Prim.Native.Nat.{ℕ, _≤_, _<_, _^_}
 use mathlib.Core.Path.{_≡_, refl, sym, ap, _∙_, subst}
-use mathlib.Core.List.{List}
-use mathlib.Core.Option.{Option, some}
-use lib.ListN.{take}
-use Rattle.layout.specs.Knowledge.{basic, base, Knowledge}
+use mathlib.Core.List.{List, [], _∷_, _++_}
+use mathlib.Core.Option.{Option, none, some}
+use lib.ListN.{length, take, drop}
+use Rattle.codec.specs.Number.{put}
+use Rattle.codec.specs.Reply.{Reply, gives, refuses, answer, after, numberOf, writtenOf}
+use Rattle.codec.proofs.Replies.{number-fits, number-short, number-refused, after-fits, after-short}
+use Rattle.layout.specs.Knowledge.{basic, base, Knowledge, All}
 use Rattle.layout.proofs.Exact.{base-permitted}
 use Rattle.ticks.specs.Meaning.{highest, known, contains}
-use Rattle.replication.specs.Call.{ReplicaId, Call, apply}
+use Rattle.replication.specs.Call.{ReplicaId, brings, Call, apply, Given}
+use Rattle.replication.specs.Calls.{newReply, editReply, deleteReply, makeReply, applyReply}
 use Rattle.replication.specs.Formats.{Store, find}
 use Rattle.replication.specs.Lists.{World, batchNumber}
 use Rattle.replication.specs.Machine.{greatest}
 use Rattle.replication.specs.Promise.{machine, IsStore, Agrees}
+use Rattle.replication.specs.Runner.{one, Leaves}
 use Rattle.replication.proofs.Demand3.{store-one}
-use Rattle.joined.specs.Program.{Makes, Keeps}
+use Rattle.joined.specs.Step.{Called, NewStep, EditStep, DeleteStep, MakeStep, ApplyStep}
+use Rattle.joined.specs.Program.{Makes, Keeps, Reached, begun, called, passed}
 use Rattle.joined.specs.OnCode.{Applied, OnCode}
+use Rattle.joined.proofs.OnCode.{demand3-on-code}
+use Rattle.joined.proofs.Every.{reached-every}
+
+-- ---- what a C function returned and left
+
+-- by its reply: refused; written into a buffer that is too short; written
+pub record TellsReply (reply : Reply) (number old written : ℕ) (out left : List ℕ) : Type 0 where
+  pub refused : (n : ℕ) → reply ≡ refuses n → (number ≡ n) × ((written ≡ old) × (left ≡ out))
+  pub short : (bs : List ℕ) → reply ≡ gives bs → length out < length bs → (number ≡ 14) × ((written ≡ old) × (left ≡ out))
+  pub wrote : (bs : List ℕ) → reply ≡ gives bs → length bs ≤ length out
+      → (number ≡ 0) × ((written ≡ length bs) × (left ≡ bs ++ drop (length bs) out))
+
+refuses-after : (n : ℕ) (out : List ℕ) → after (refuses n) out ≡ out
+unfolding after
+refuses-after n out = refl
+
+tells : (reply : Reply) (number old written : ℕ) (out left : List ℕ) → Called reply number old written out left
+    → TellsReply reply number old written out left
+tells reply number old written out left c = record {
+  refused = λ n e.
+      let m = number-refused n (length out) old in
+      (told-number e ∙ m .0, (told-written e ∙ m .1, told-buffer e ∙ refuses-after n out));
+  short = λ bs e l.
+      let m = number-short bs (length out) old l in
+      (told-number e ∙ m .0, (told-written e ∙ m .1, told-buffer e ∙ after-short bs out l));
+  wrote = λ bs e l.
+      let m = number-fits bs (length out) old l in
+      (told-number e ∙ m .0, (told-written e ∙ m .1, told-buffer e ∙ after-fits bs out l));
+}
+  where
+    told-number : {x : Reply} → reply ≡ x → number ≡ numberOf (answer x (length out))
+    told-number e = c .returned ∙ ap (λ (r : Reply). numberOf (answer r (length out))) e
+
+    told-written : {x : Reply} → reply ≡ x → written ≡ writtenOf (answer x (length out)) old
+    told-written e = c .told ∙ ap (λ (r : Reply). writtenOf (answer r (length out)) old) e
+
+    told-buffer : {x : Reply} → reply ≡ x → left ≡ after x out
+    told-buffer e = c .buffer ∙ ap (λ (r : Reply). after r out) e
+
+module _ (number old written : ℕ) (out left : List ℕ) where
+  pub new-tells : (own : List ℕ) → NewStep own number old written out left → TellsReply (newReply own) number old written out left
+  new-tells own s = tells (newReply own) number old written out left (s .equations)
+
+  pub edit-tells : (store item tag : List ℕ) → EditStep store item tag number old written out left
+      → TellsReply (editReply base store item (brings tag)) number old written out left
+  edit-tells store item tag s = tells (editReply base store item (brings tag)) number old written out left (s .equations)
+
+  pub delete-tells : (store item : List ℕ) → DeleteStep store item number old written out left
+      → TellsReply (deleteReply base store item) number old written out left
+  delete-tells store item s = tells (deleteReply base store item) number old written out left (s .equations)
+
+  pub make-tells : (store knowledge first last : List ℕ) → MakeStep store knowledge first last number old written out left
+      → TellsReply (makeReply basic store knowledge first last) number old written out left
+  make-tells store knowledge first last s =
+      tells (makeReply basic store knowledge first last) number old written out left (s .equations)
+
+  pub apply-tells : (store batch : List ℕ) → ApplyStep store batch number old written out left
+      → TellsReply (applyReply base store batch) number old written out left
+  apply-tells store batch s = tells (applyReply base store batch) number old written out left (s .equations)
+
+-- ---- what a program does leads on: any call with any buffer, and any beginning
+
+pub begins-with : (w : World) (number old written : ℕ → ℕ) (out left : ℕ → List ℕ)
+    → ((p : ℕ) → ReplicaId p → NewStep (put 16 p []) (number p) (old p) (written p) (out p) (left p))
+    → ((p : ℕ) → ReplicaId p → number p ≡ 0) → ((p : ℕ) → ReplicaId p → w .stores p ≡ take (written p) (left p)) → w .batches ≡ []
+    → Reached [] w
+begins-with w number old written out left c f t e =
+    begun w (λ p small. record {
+      number = number p;
+      old = old p;
+      written = written p;
+      out = out p;
+      left = left p;
+      called = c p small;
+      fine = f p small;
+      taken = t p small;
+    }) e
+
+pub leads-on : (calls : List Call) (w next : World) (c : Call) (number old written : ℕ) (out left : List ℕ) → Reached calls w → Given c
+    → Makes w c number old written out left → (number ≡ 0 → Leaves c (take written left) w next) → ((number ≡ 0 → ⊥) → next ≡ w)
+    → Reached (calls ++ one c) next
+leads-on calls w next c number old written out left r g m a b =
+    called calls w next c number old written out left r g m (record { taken = a; same = b })
+
+pub passes-on : (calls : List Call) (w : World) (who which room : ℕ) → Reached calls w → ReplicaId who
+    → batchNumber which (w .batches) ≡ none → Reached (calls ++ one (apply who which room)) w
+passes-on = passed
+
+-- ---- what a program keeps
 
 -- the program applied batch n on replica p, and it was not refused
 pub record Applies (p n : ℕ) (w next : World) : Type 0 where
@@ -107,3 +203,9 @@ module _ (calls : List Call) (w : World) (C : OnCode calls w) where
 pub programs-same : (calls : List Call) (w v : World) → OnCode calls w → OnCode calls v
     → ((p : ℕ) → ReplicaId p → w .stores p ≡ v .stores p) × (w .batches ≡ v .batches)
 programs-same calls w v C D = ((λ p small. C .stores p small ∙ sym (D .stores p small)), C .batches ∙ sym (D .batches))
+
+-- for every list of calls there is a program that made it, and the statement holds of what it keeps: no hypothesis is left
+pub every-list : (calls : List Call) → All Given calls → (w : World) × (Reached calls w × OnCode calls w)
+every-list calls g =
+    let r = reached-every calls g in
+    (r .0, (r .1, demand3-on-code calls (r .0) (r .1)))

@@ -3,3 +3,4 @@ pub mod Steps
 pub mod OnCode
 pub mod Every
 pub mod Consumed
+pub mod Contracts

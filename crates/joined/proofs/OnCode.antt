@@ -48,14 +48,14 @@ zero-or n = elim (order n 0) [ less l ↦ absurd (omega arith) | same e ↦ inl 
 pub makes-step : (w : World) (c : Call) (number old written : ℕ) (out left : List ℕ) → Makes w c number old written out left
     → Step number old written out left (writes basic w c)
 makes-step w (edit who item brought room) number old written out left m =
-    subst (λ (n : ℕ). Step number old written out left (writes basic w (edit who item brought n))) (m .0) (m .1 w who refl)
+    subst (λ (n : ℕ). Step number old written out left (writes basic w (edit who item brought n))) (m .0) (m .1 .lists w who refl)
 makes-step w (delete who item room) number old written out left m =
-    subst (λ (n : ℕ). Step number old written out left (writes basic w (delete who item n))) (m .0) (m .1 w who refl)
+    subst (λ (n : ℕ). Step number old written out left (writes basic w (delete who item n))) (m .0) (m .1 .lists w who refl)
 makes-step w (make who knowledge first last room) number old written out left m =
-    subst (λ (n : ℕ). Step number old written out left (writes basic w (make who knowledge first last n))) (m .0) (m .1 w who refl)
+    subst (λ (n : ℕ). Step number old written out left (writes basic w (make who knowledge first last n))) (m .0) (m .1 .lists w who refl)
 makes-step w (apply who which room) number old written out left m =
     subst (λ (n : ℕ). Step number old written out left (writes basic w (apply who which n))) (m .0)
-    (m .1 .1 .1 w who which refl (m .1 .1 .0))
+    (m .1 .1 .1 .lists w who which refl (m .1 .1 .0))
 
 nothing-none : (w : World) (c : Call) → writes basic w c ≡ none → WritesNothing basic w c
 nothing-none w c o = record { nothing = λ bs x. clash bs (sym (writes-exact basic w c bs .1 x) ∙ o) }
@@ -104,7 +104,7 @@ begun-gives : (p : ℕ) (s : List ℕ) → Begun p s → newReply (put 16 p []) 
 begun-gives p s b =
     let reply = newReply (put 16 p []) in
     let bs = take (b .written) (b .left) in
-    let o = zero-exactly (b .number) (b .old) (b .written) (b .out) (b .left) (outcome reply (length (b .out))) (b .called) .0 (b .fine) in
+    let o = zero-exactly (b .number) (b .old) (b .written) (b .out) (b .left) (outcome reply (length (b .out))) (b .called .lists) .0 (b .fine) in
     outcome-exact reply (length (b .out)) bs .0 o .0 ∙ ap gives (sym (b .taken))
 
 -- and that is the store that a list begins with

@@ -8,7 +8,7 @@ use mathlib.Core.List.{List, [], _∷_, _++_}
 use mathlib.Core.Option.{Option, none, some}
 use native.Mathlib.Omega.{arith}
 use lib.ListN.{length, take, drop}
-use lib.Seq.{take-append-seam}
+use lib.Seq.{take-append-seam, drop-append-seam}
 use Rattle.codec.specs.Reply.{Reply, gives, answer, after, numberOf, writtenOf}
 use Rattle.codec.proofs.Replies.{number-fits}
 use Rattle.layout.specs.Knowledge.{basic, base}
@@ -35,6 +35,13 @@ zero-exactly number old written out left _ (refused n a l) = (
   (λ e. absurd (omega (arith, n, e))),
   λ e. let z : _≡_ {A = ℕ} 0 1 = cc in absurd (omega arith),
 )
+
+-- the rest of the buffer is as it was
+pub zero-rest : (number old written : ℕ) (out left : List ℕ) (o : Option (List ℕ)) → Step number old written out left o → number ≡ 0
+    → drop written left ≡ drop written out
+zero-rest number old written out left _ (wrote bs n a l) e =
+    ap (λ (k : ℕ). drop k left) a ∙ (ap (drop (length bs)) l ∙ (drop-append-seam bs (drop (length bs) out) ∙ ap (λ (k : ℕ). drop k out) (sym a)))
+zero-rest number old written out left _ (refused n a l) e = absurd (omega (arith, n, e))
 
 pub other-none : (number old written : ℕ) (out left : List ℕ) (o : Option (List ℕ)) → Step number old written out left o
     → (number ≡ 0 → ⊥) → o ≡ none
@@ -81,28 +88,57 @@ batch-first b = refl
 
 module _ (number old written : ℕ) (out left : List ℕ) where
   pub new-called : (own : List ℕ) → Called (newReply own) number old written out left → NewStep own number old written out left
-  new-called own c = step-of (newReply own) number old written out left c (demand1-basic .new own out old)
+  new-called own c = record {
+    equations = c;
+    lists = step-of (newReply own) number old written out left c (demand1-basic .new own out old);
+  }
+
+  edit-there : (s item tag : List ℕ) → Step number old written out left (outcome (editReply base s item (brings tag)) (length out))
+      → (w : World) (who : ℕ) → w .stores who ≡ s → Step number old written out left (writes basic w (edit who item (brings tag) (length out)))
+  unfolding writes
+  edit-there s item tag h w who e =
+      subst (λ (t : List ℕ). Step number old written out left (outcome (editReply base t item (brings tag)) (length out))) (sym e) h
 
   pub edit-called : (s item tag : List ℕ) → Called (editReply base s item (brings tag)) number old written out left
       → EditStep s item tag number old written out left
+  edit-called s item tag c = record {
+    equations = c;
+    lists =
+        edit-there s item tag
+        (step-of (editReply base s item (brings tag)) number old written out left c (demand1-basic .edit s item (brings tag) out old));
+  }
+
+  delete-there : (s item : List ℕ) → Step number old written out left (outcome (deleteReply base s item) (length out))
+      → (w : World) (who : ℕ) → w .stores who ≡ s → Step number old written out left (writes basic w (delete who item (length out)))
   unfolding writes
-  edit-called s item tag c w who e =
-      subst (λ (t : List ℕ). Step number old written out left (outcome (editReply base t item (brings tag)) (length out))) (sym e)
-      (step-of (editReply base s item (brings tag)) number old written out left c (demand1-basic .edit s item (brings tag) out old))
+  delete-there s item h w who e =
+      subst (λ (t : List ℕ). Step number old written out left (outcome (deleteReply base t item) (length out))) (sym e) h
 
   pub delete-called : (s item : List ℕ) → Called (deleteReply base s item) number old written out left
       → DeleteStep s item number old written out left
+  delete-called s item c = record {
+    equations = c;
+    lists =
+        delete-there s item (step-of (deleteReply base s item) number old written out left c (demand1-basic .delete s item out old));
+  }
+
+  make-there : (s knowledge first last : List ℕ)
+      → Step number old written out left (outcome (makeReply basic s knowledge first last) (length out))
+      → (w : World) (who : ℕ) → w .stores who ≡ s
+      → Step number old written out left (writes basic w (make who knowledge first last (length out)))
   unfolding writes
-  delete-called s item c w who e =
-      subst (λ (t : List ℕ). Step number old written out left (outcome (deleteReply base t item) (length out))) (sym e)
-      (step-of (deleteReply base s item) number old written out left c (demand1-basic .delete s item out old))
+  make-there s knowledge first last h w who e =
+      subst (λ (t : List ℕ). Step number old written out left (outcome (makeReply basic t knowledge first last) (length out))) (sym e) h
 
   pub make-called : (s knowledge first last : List ℕ) → Called (makeReply basic s knowledge first last) number old written out left
       → MakeStep s knowledge first last number old written out left
-  unfolding writes
-  make-called s knowledge first last c w who e =
-      subst (λ (t : List ℕ). Step number old written out left (outcome (makeReply basic t knowledge first last) (length out))) (sym e)
-      (step-of (makeReply basic s knowledge first last) number old written out left c (demand1-basic .make s knowledge first last out old))
+  make-called s knowledge first last c = record {
+    equations = c;
+    lists =
+        make-there s knowledge first last
+        (step-of (makeReply basic s knowledge first last) number old written out left c
+        (demand1-basic .make s knowledge first last out old));
+  }
 
   apply-outcome : (w : World) (who which room : ℕ) (s batch : List ℕ) → w .stores who ≡ s → batchNumber which (w .batches) ≡ some batch
       → writes basic w (apply who which room) ≡ outcome (applyReply base s batch) room
@@ -113,9 +149,12 @@ module _ (number old written : ℕ) (out left : List ℕ) where
 
   pub apply-called : (s batch : List ℕ) → Called (applyReply base s batch) number old written out left
       → ApplyStep s batch number old written out left
-  apply-called s batch c w who which e f =
-      subst (λ (o : Option (List ℕ)). Step number old written out left o) (sym (apply-outcome w who which (length out) s batch e f))
-      (step-of (applyReply base s batch) number old written out left c (demand1-basic .apply s batch out old))
+  apply-called s batch c = record {
+    equations = c;
+    lists = λ w who which e f.
+        subst (λ (o : Option (List ℕ)). Step number old written out left o) (sym (apply-outcome w who which (length out) s batch e f))
+        (step-of (applyReply base s batch) number old written out left c (demand1-basic .apply s batch out old));
+  }
 
   -- from a step back: an apply with the number 0 wrote what its reply gives
   pub apply-wrote : (s batch : List ℕ) → ApplyStep s batch number old written out left → number ≡ 0
@@ -124,4 +163,4 @@ module _ (number old written : ℕ) (out left : List ℕ) where
       let w : World = record { stores = λ p. s; batches = batch ∷ [] } in
       let f : batchNumber 0 (w .batches) ≡ some batch = batch-first batch in
       sym (apply-outcome w 0 0 (length out) s batch refl f)
-      ∙ zero-exactly number old written out left (writes basic w (apply 0 0 (length out))) (a w 0 0 refl f) .0 fine
+      ∙ zero-exactly number old written out left (writes basic w (apply 0 0 (length out))) (a .lists w 0 0 refl f) .0 fine

@@ -14,31 +14,37 @@ use lib.Seq.{drop-length}
 use Rattle.codec.specs.Number.{Bytes, beAt, put}
 use Rattle.codec.specs.Reply.{Reply, gives, answer, after, numberOf, writtenOf}
 use Rattle.codec.proofs.Numbers.{be-below, put-back}
-use Rattle.layout.specs.Knowledge.{Rules, basic, Knowledge, All, Lawful, encode}
+use Rattle.layout.specs.Knowledge.{Rules, basic, base, Knowledge, All, Lawful, encode}
 use Rattle.layout.specs.Permitted.{Permitted}
 use Rattle.ticks.specs.Meaning.{highest, known}
 use Rattle.ticks.specs.Calls.{containNumber, containValue, containAnswer, leadNumber, leadValue, leadAnswer}
 use Rattle.ticks.specs.Calls.{coverNumber, coverValue, coverAnswer, normaliseReply, mergeReply, projectReply}
+use Rattle.ticks.specs.Demand1.{SaysOrRefuses}
 use Rattle.ticks.specs.Demand2.{SameVersions}
 use Rattle.ticks.proofs.Algebra.{versions-ticks}
 use Rattle.ticks.proofs.Consumed.{WritesAtZero, writes-at-zero, SaysAtZero, says-at-zero, ChecksAtZero, checks-at-zero}
 use Rattle.ticks.proofs.ForCover.{covers-for-exact}
 use Rattle.replication.specs.Record.{Rec}
-use Rattle.replication.specs.Call.{Brought, Call, apply, Given}
+use Rattle.replication.specs.Call.{Brought, Call, apply, Given, Fed}
 use Rattle.replication.specs.Formats.{Store, encodeStore, find}
 use Rattle.replication.specs.BatchFormat.{Batch, encodeBatch}
 use Rattle.replication.specs.Valid.{LawfulStore}
 use Rattle.replication.specs.ValidBatch.{LawfulBatch}
 use Rattle.replication.specs.Calls.{newReply, editReply, deleteReply, makeReply, applyReply, ownAhead}
 use Rattle.replication.specs.Demand1.{partValues, coverageValues, Demand1}
-use Rattle.replication.specs.Queries.{partNumber, winnerPart, learnedPart, knowledgePart, coverageNumber, coverageAnswer}
+use Rattle.replication.specs.declared.Part.{Part}
+use Rattle.replication.specs.declared.Coverage.{Coverage}
+use Rattle.replication.specs.Queries.{partNumber, partSide, partAtPlace, partLength, winnerPart, learnedPart, knowledgePart}
+use Rattle.replication.specs.Queries.{coverageNumber, coverageContained, coverageAll, coverageThousandths, coverageAnswer}
 use Rattle.replication.specs.Lists.{World, start, outcome, batchNumber, trace}
-use Rattle.replication.specs.Machine.{Remembered, State, greatest}
+use Rattle.replication.specs.Machine.{Remembered, State, greatest, acts}
 use Rattle.replication.specs.Promise.{ends, machine, storeAfter, IsStore, Agrees, Twofold, Promise}
 use Rattle.replication.specs.Batches.{IsBatch, BatchMade, BatchAgrees, asked, Batches}
+use Rattle.replication.proofs.Demand1.{demand1-basic}
 use Rattle.replication.proofs.Demand3.{store-one, batch-one, demand3-basic, demand3-batches-basic}
-use Rattle.replication.specs.Runner.{Number, Writes, Stored, one, Runner}
+use Rattle.replication.specs.Runner.{Number, Writes, WritesNothing, Stored, Leaves, one, Runner}
 use Rattle.replication.proofs.Runner.{runner, outcome-exact, batch-exact-number}
+use Rattle.replication.proofs.RunnerSettled.{runner-only}
 
 no-more : (n : ℕ) (s : List ℕ) → length s ≡ n → drop n s ≡ []
 no-more n s e = ap (λ (k : ℕ). drop k s) (sym e) ∙ drop-length s
@@ -109,6 +115,14 @@ module _ (R : Rules) (calls : List Call) (P : Promise R calls) where
         → Stored p x (ends R before) (ends R (before ++ one (apply p n r)))
     apply-left before p n r x h = W .written before (apply p n r) x h
 
+    -- the batch of a number is the one with as many made before it, and every such is found
+    pub number-exactly : (n : ℕ) (a b : List (List ℕ)) (t : List ℕ) → length a ≡ n → batchNumber n (a ++ (t ∷ b)) ≡ some t
+    number-exactly n a b t e = W .numbered n (a ++ (t ∷ b)) t .1 (record { before = a; behind = b; is = refl; count = e })
+
+    pub number-found : (n : ℕ) (l : List (List ℕ)) (t : List ℕ) → batchNumber n l ≡ some t
+        → (a : List (List ℕ)) × ((b : List (List ℕ)) × ((l ≡ a ++ (t ∷ b)) × (length a ≡ n)))
+    number-found n l t e = let k = W .numbered n l t .0 e in (k .before, (k .behind, (k .is, k .count)))
+
     number-one : (n : ℕ) (l : List (List ℕ)) (a b : List ℕ) → Number n l a → Number n l b → a ≡ b
     number-one n l a b x y = some-same a b (batchNumber n l) (W .numbered n l a .1 x) (W .numbered n l b .1 y)
 
@@ -159,6 +173,29 @@ module _ (R : Rules) (calls : List Call) (P : Promise R calls) where
         ∙ (sym (twice-exactly p n r₁ r₂ a x y small na (apply-first p n r₁ x a na e) (apply-second p n n r₁ r₂ x y a na e f))
         ∙ sym (apply-left calls p n r₁ x e .own))
 
+-- what runs the calls as `Runner` says: it begins empty; one call more, and only that, is what the machine is told; it acts where the call
+-- writes, and nothing changes where it does not
+module _ (R : Rules) (w : List Call → World) (m : List Call → State) (t : List Call → List Fed) (W : Runner R w m t) where
+  pub first-exactly : ((p : ℕ) → p < 256 ^ 16 → newReply (put 16 p []) ≡ gives (w [] .stores p))
+      × ((w [] .batches ≡ []) × ((m [] .versions ≡ []) × (((p i q : ℕ) → m [] .ticks p i q ≡ 0) × ((m [] .batches ≡ []) × (t [] ≡ [])))))
+  first-exactly = (W .stores, (W .batches, (W .versions, (W .ticks, (W .remembered, W .untold)))))
+
+  pub acts-exactly : (calls : List Call) (c : Call) (bs : List ℕ) → Writes R (w calls) c bs
+      → Leaves c bs (w calls) (w (calls ++ one c)) × (m (calls ++ one c) ≡ acts (m calls) c)
+  acts-exactly calls c bs h = (W .written calls c bs h, W .acted calls c bs h)
+
+  pub idle-exactly : (calls : List Call) (c : Call) → WritesNothing R (w calls) c
+      → (w (calls ++ one c) ≡ w calls) × (m (calls ++ one c) ≡ m calls)
+  idle-exactly calls c h = (W .refused calls c h, W .idle calls c h)
+
+  -- "whether the call was refused", both ways
+  pub told-exactly : (calls : List Call) (c : Call)
+      → (x : Fed) × ((t (calls ++ one c) ≡ t calls ++ (x ∷ [])) × ((x .call ≡ c) × (((x .refused ≡ true) ↔ WritesNothing R (w calls) c)
+      × ((x .refused ≡ false) ↔ ((bs : List ℕ) × Writes R (w calls) c bs)))))
+  told-exactly calls c =
+      let x = W .told calls c in
+      (x .0, (x .1 .1, (x .1 .0 .call, (x .1 .0 .refused, x .1 .0 .done))))
+
 module _ (R : Rules) (calls : List Call) (B : Batches R calls) where
   -- every batch made is valid, under whatever number, and was made for a lawful knowledge that the list gave
   pub batches-exactly : (n : ℕ) (s : List ℕ) → Number n (ends R calls .batches) s
@@ -186,6 +223,41 @@ module _ (R : Rules) (calls : List Call) (B : Batches R calls) where
       }))
 
 -- ---- demand 1: what a caller knows that tests the number for 0, of every call
+
+-- three values, each behind a pointer of its own
+three : (x y : ℕ × (ℕ × ℕ)) → x ≡ y → (x .0 ≡ y .0) × ((x .1 .0 ≡ y .1 .0) × (x .1 .1 ≡ y .1 .1))
+three x y e = (ap (λ (t : ℕ × (ℕ × ℕ)). t .0) e, (ap (λ (t : ℕ × (ℕ × ℕ)). t .1 .0) e, ap (λ (t : ℕ × (ℕ × ℕ)). t .1 .1) e))
+
+-- side, place and length of a part
+pub record PartAtZero (p : Part) : Type 0 where
+  pub zero : partNumber p ≡ 0 → (a b c x y z : ℕ)
+      → (partSide p a ≡ partSide p x) × ((partAtPlace p b ≡ partAtPlace p y) × (partLength p c ≡ partLength p z))
+  pub other : (partNumber p ≡ 0 → ⊥) → (a b c : ℕ) → (partSide p a ≡ a) × ((partAtPlace p b ≡ b) × (partLength p c ≡ c))
+
+part-at-zero : (p : Part) → SaysOrRefuses partNumber partValues p → PartAtZero p
+unfolding partValues
+part-at-zero p s =
+    let d = says-at-zero partNumber partValues p s in
+    record {
+      zero = λ n a b c x y z. three (partValues p (a, (b, c))) (partValues p (x, (y, z))) (d .zero n (a, (b, c)) (x, (y, z)));
+      other = λ n a b c. three (partValues p (a, (b, c))) (a, (b, c)) (d .other n (a, (b, c)));
+    }
+
+-- the three numbers of a coverage
+pub record CoverageAtZero (c : Coverage) : Type 0 where
+  pub zero : coverageNumber c ≡ 0 → (i j k x y z : ℕ) → (coverageContained c i ≡ coverageContained c x)
+      × ((coverageAll c j ≡ coverageAll c y) × (coverageThousandths c k ≡ coverageThousandths c z))
+  pub other : (coverageNumber c ≡ 0 → ⊥) → (i j k : ℕ)
+      → (coverageContained c i ≡ i) × ((coverageAll c j ≡ j) × (coverageThousandths c k ≡ k))
+
+coverage-at-zero : (c : Coverage) → SaysOrRefuses coverageNumber coverageValues c → CoverageAtZero c
+unfolding coverageValues
+coverage-at-zero c s =
+    let d = says-at-zero coverageNumber coverageValues c s in
+    record {
+      zero = λ n i j k x y z. three (coverageValues c (i, (j, k))) (coverageValues c (x, (y, z))) (d .zero n (i, (j, k)) (x, (y, z)));
+      other = λ n i j k. three (coverageValues c (i, (j, k))) (i, (j, k)) (d .other n (i, (j, k)));
+    }
 
 module _ (R : Rules) (D : Demand1 R) where
   pub check-zero : (s : List ℕ) → ChecksAtZero R s
@@ -225,19 +297,19 @@ module _ (R : Rules) (D : Demand1 R) where
   pub apply-zero : (s batch out : List ℕ) (old : ℕ) → WritesAtZero (applyReply (R .limits) s batch) out old
   apply-zero s batch out old = writes-at-zero (applyReply (R .limits) s batch) out old (D .apply s batch out old)
 
-  pub winner-zero : (s batch item : List ℕ) → SaysAtZero partNumber partValues (winnerPart (R .limits) s batch item)
-  winner-zero s batch item = says-at-zero partNumber partValues (winnerPart (R .limits) s batch item) (D .winner s batch item)
+  pub winner-zero : (s batch item : List ℕ) → PartAtZero (winnerPart (R .limits) s batch item)
+  winner-zero s batch item = part-at-zero (winnerPart (R .limits) s batch item) (D .winner s batch item)
 
-  pub learned-zero : (batch : List ℕ) → SaysAtZero partNumber partValues (learnedPart (R .limits) batch)
-  learned-zero batch = says-at-zero partNumber partValues (learnedPart (R .limits) batch) (D .learned batch)
+  pub learned-zero : (batch : List ℕ) → PartAtZero (learnedPart (R .limits) batch)
+  learned-zero batch = part-at-zero (learnedPart (R .limits) batch) (D .learned batch)
 
-  pub knowledge-zero : (s : List ℕ) → SaysAtZero partNumber partValues (knowledgePart (R .limits) s)
-  knowledge-zero s = says-at-zero partNumber partValues (knowledgePart (R .limits) s) (D .knowledge s)
+  pub knowledge-zero : (s : List ℕ) → PartAtZero (knowledgePart (R .limits) s)
+  knowledge-zero s = part-at-zero (knowledgePart (R .limits) s) (D .knowledge s)
 
-  pub coverage-zero : (s knowledge : List ℕ) → SaysAtZero coverageNumber coverageValues (coverageAnswer R s knowledge)
-  coverage-zero s knowledge = says-at-zero coverageNumber coverageValues (coverageAnswer R s knowledge) (D .coverage s knowledge)
+  pub coverage-zero : (s knowledge : List ℕ) → CoverageAtZero (coverageAnswer R s knowledge)
+  coverage-zero s knowledge = coverage-at-zero (coverageAnswer R s knowledge) (D .coverage s knowledge)
 
--- ---- with document 01's limits, for every list of calls, and no hypothesis left
+-- ---- with document 01's limits, for every list of calls, and no hypothesis left: the statements hold
 
 pub either-basic : (calls : List Call) → All Given calls → (p m n r₁ r₂ r₃ r₄ : ℕ) (u x v y : List ℕ) → p < 256 ^ 16
     → Writes basic (ends basic calls) (apply p m r₁) u → Writes basic (ends basic (calls ++ one (apply p m r₁))) (apply p n r₂) x
@@ -250,3 +322,14 @@ pub ahead-basic : (calls : List Call) → All Given calls → (p n : ℕ) (s : L
     → Number n (ends basic calls .batches) s → IsStore (basic .limits) (storeAfter basic calls p) st → IsBatch (basic .limits) s b
     → ownAhead st b ≡ false
 ahead-basic calls given = ahead-exactly basic calls (demand3-batches-basic calls given)
+
+pub winner-basic : (s batch item : List ℕ) → PartAtZero (winnerPart base s batch item)
+winner-basic = winner-zero basic demand1-basic
+
+-- whatever runs the calls as `Runner` says keeps stores that agree with its machine
+pub agrees-run : (w : List Call → World) (m : List Call → State) (t : List Call → List Fed) → Runner basic w m t
+    → (calls : List Call) → All Given calls → (p : ℕ) → p < 256 ^ 16 → Agrees base (w calls .stores p) (m calls) p
+agrees-run w m t W calls given p small =
+    let s = runner-only basic w m t W calls given in
+    subst (λ (x : List ℕ). Agrees base x (m calls) p) (sym (s .world .stores p small))
+    (subst (λ (x : State). Agrees base (storeAfter basic calls p) x p) (sym (s .machine)) (demand3-basic calls given .agrees p small))

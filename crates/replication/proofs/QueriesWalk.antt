@@ -1,6 +1,7 @@
 -- The walker over a lent table. At a place where a whole record of kind 1 or 2 stands it gives that part of the bytes and goes on behind it;
 -- anywhere else it has nothing to give. In plain bytes: where the bytes from the place on are those of a lawful record and anything behind
--- them, it gives that record's bytes. Over the table of a store or batch that opens it gives the bytes of its records, in their order.
+-- them, it gives that record's bytes. Over the table of a store or batch that opens it gives the bytes of its records, in their order. The
+-- length at a place tells the same in numbers.
 use Prim.Native.Nat.{ℕ, _+_, _-_, _≤_, _<_}
 use mathlib.Core.Path.{_≡_, refl, sym, ap, ap₂, _∙_}
 use mathlib.Core.Bool.{Bool, true, false}
@@ -20,9 +21,9 @@ use Rattle.replication.specs.Valid.{LawfulRec}
 use Rattle.replication.specs.Reading.{recLength, behind, recAt, whole}
 use Rattle.replication.specs.OpenStore.{storeTable, openStore}
 use Rattle.replication.specs.OpenBatch.{batchTable, openBatch}
-use Rattle.replication.specs.Queries.{places, partsAt, toGive}
+use Rattle.replication.specs.Queries.{lengthAt, places, partsAt, toGive}
 use Rattle.replication.specs.MethodTable.{recsOf, tableAt}
-use Rattle.replication.proofs.RecordBytes.{KnownKind, recSize, whole-back, whole-exact, rec-length, rec-whole, rec-reads, rec-part}
+use Rattle.replication.proofs.RecordBytes.{KnownKind, recSize, kind-length, whole-back, whole-exact, rec-length, rec-whole, rec-reads, rec-part}
 use Rattle.replication.proofs.ContentsValid.{rec-fits}
 use Rattle.replication.proofs.QueriesPlaces.{places-step, places-end, places-whole, store-table, batch-table}
 
@@ -35,6 +36,40 @@ give-step s at e = ap (partsAt s) (places-step s at e)
 pub give-end : (s : List ℕ) (at : ℕ) → whole s at ≡ false → toGive s at ≡ []
 unfolding toGive partsAt
 give-end s at e = ap (partsAt s) (places-end s at e)
+
+-- the length at a place (`lengthAt`) tells what the walker gives there: where it is not 0, a part that long and then what is given behind
+-- it; where it is 0, nothing
+length-whole : (s : List ℕ) (at : ℕ) → whole s at ≡ true → lengthAt s at ≡ recLength (beAt s 1 at)
+unfolding lengthAt
+length-whole s at e = rw (e, lengthAt)
+
+length-none : (s : List ℕ) (at : ℕ) → whole s at ≡ false → lengthAt s at ≡ 0
+unfolding lengthAt
+length-none s at e = rw (e, lengthAt)
+
+behind-length : (s : List ℕ) (at : ℕ) → whole s at ≡ true → behind s at ≡ at + lengthAt s at
+unfolding behind
+behind-length s at e = ap (λ (n : ℕ). at + n) (sym (length-whole s at e))
+
+pub length-gives : (s : List ℕ) (at : ℕ) → (lengthAt s at ≡ 0 → ⊥)
+    → toGive s at ≡ take (lengthAt s at) (drop at s) ∷ toGive s (at + lengthAt s at)
+length-gives s at h = go (whole s at) refl
+  where
+    go : (t : Bool) → whole s at ≡ t → toGive s at ≡ take (lengthAt s at) (drop at s) ∷ toGive s (at + lengthAt s at)
+    go true e =
+        give-step s at e
+        ∙ ap₂ {C = List (List ℕ)} (λ (n p : ℕ). take n (drop at s) ∷ toGive s p) (sym (length-whole s at e)) (behind-length s at e)
+    go false e = absurd (h (length-none s at e))
+
+pub length-ends : (s : List ℕ) (at : ℕ) → lengthAt s at ≡ 0 → toGive s at ≡ []
+length-ends s at z = go (whole s at) refl
+  where
+    go : (t : Bool) → whole s at ≡ t → toGive s at ≡ []
+    go false e = give-end s at e
+    go true e =
+        let k = whole-exact s at .0 e in
+        let n : recLength (beAt s 1 at) ≡ recSize = kind-length (beAt s 1 at) (k .0) in
+        absurd (omega (arith, z, length-whole s at e, n))
 
 -- where a whole record of a known kind stands, the walker gives it and goes on behind it
 pub walk-step : (s : List ℕ) (at : ℕ) → KnownKind (getD s at 0) → at + recSize ≤ length s → toGive s at ≡ take (recLength (beAt s 1 at)) (drop at s) ∷ toGive s (behind s at)

@@ -5,7 +5,7 @@ use Prim.Native.Nat.{ℕ, _≤_, _<_, _^_}
 use mathlib.Core.Path.{_≡_, refl, sym, ap, _∙_, subst, fun-ext}
 use mathlib.Core.Logic.{_⊎_, inl, inr, _↔_}
 use mathlib.Core.Bool.{Bool, true, false}
-use mathlib.Core.List.{List, [], _∷_, _++_}
+use mathlib.Core.List.{List, [], _∷_, _++_, append-assoc, append-nil}
 use native.Mathlib.Omega.{arith}
 use Rattle.codec.specs.Number.{put}
 use Rattle.codec.specs.Reply.{Reply, gives}
@@ -47,14 +47,6 @@ fed-same x y a b =
 
 gave : (x y : List ℕ) (r : Reply) → r ≡ gives x → r ≡ gives y → x ≡ y
 gave x y r e f = cc
-
-append-one : (a : List Call) (c : Call) (cs : List Call) → (a ++ one c) ++ cs ≡ a ++ (c ∷ cs)
-append-one [] c cs = refl
-append-one (x ∷ a) c cs = ap (λ (l : List Call). x ∷ l) (append-one a c cs)
-
-append-none : (a : List Call) → a ++ [] ≡ a
-append-none [] = refl
-append-none (x ∷ a) = ap (λ (l : List Call). x ∷ l) (append-none a)
 
 module _ (R : Rules) where
   -- a call writes the same bytes in both worlds
@@ -160,9 +152,9 @@ module _ (R : Rules) (w v : List Call → World) (m n : List Call → State) (t 
     more-same = elim (A .decided calls c) [ inl x ↦ wrote-same (x .0) (x .1) | inr h ↦ nothing-same h ]
 
   after-same : (before calls : List Call) → All Given calls → Same before → Same (before ++ calls)
-  after-same before [] g s = subst Same (sym (append-none before)) s
+  after-same before [] g s = subst Same (sym (append-nil before)) s
   after-same before (c ∷ cs) g s =
-      subst Same (append-one before c cs) (after-same (before ++ one c) cs (g .1) (more-same before c (g .0) s))
+      subst Same (append-assoc before (one c) cs) (after-same (before ++ one c) cs (g .1) (more-same before c (g .0) s))
 
   pub runner-settled : (calls : List Call) → All Given calls → Same calls
   runner-settled calls g = after-same [] calls g begins-same

@@ -26,7 +26,7 @@ use Rattle.ticks.specs.Calls.{containNumber, containValue, containAnswer
 use Rattle.ticks.specs.Calls.{idOf, normaliseReply, mergeReply, projectReply}
 use Rattle.ticks.specs.Demand2.{SameVersions, NormalBytes, Normalised, Merged, Decides, Demand2}
 use Rattle.ticks.specs.Results.{Projected, Results}
-use Rattle.ticks.specs.Answers.{ProperIds, ProperSpan, AtLeast, Difference, ContainSays, LeadSays, CoverSays, Answers}
+use Rattle.ticks.specs.Answers.{RefusedWith, ProperIds, ProperSpan, AtLeast, Difference, ContainSays, LeadSays, CoverSays, Answers}
 use Rattle.ticks.specs.Demand1.{WritesOrRefuses, it-refuses, it-writes, SaysOrRefuses, says-nothing, says-values}
 use Rattle.ticks.specs.Demand1.{ChecksOrRefuses, checks-nothing, checks-sizes}
 use Rattle.ticks.proofs.Algebra.{contains-exact}
@@ -43,6 +43,21 @@ use Rattle.ticks.proofs.Results.{results-basic}
 
 abbrev pub Holds : Rules → List ℕ → List ℕ → List ℕ → ℕ → Type 0
 Holds R s item replica t = containValue (containAnswer R s item replica t) 0 ≡ 1
+
+-- an answer says whether P holds, 1 or 0, over whatever was there; it is refused with n, and what was there stays
+abbrev pub Says : {A : Type 0} → (A → ℕ) → (A → ℕ → ℕ) → A → Type 0 → ℕ → Type 0
+Says number value x P old = (number x ≡ 0) × (((value x old ≡ 1) ↔ P) × ((value x old ≡ 0) ↔ (P → ⊥)))
+
+abbrev pub Refuses : {A B : Type 0} → (A → ℕ) → (A → B → B) → A → ℕ → B → Type 0
+Refuses number value x n old = (number x ≡ n) × (value x old ≡ old)
+
+decided : {A : Type 0} {number : A → ℕ} {value : A → ℕ → ℕ} {x : A} {P : Type 0} → Decides number value x P → (old : ℕ)
+    → Says number value x P old
+decided d old = (d .fine, (d .yes old, d .no old))
+
+refused-with : {A B : Type 0} {number : A → ℕ} {value : A → B → B} {x : A} {n : ℕ} → RefusedWith number value x n → (old : B)
+    → Refuses number value x n old
+refused-with r old = (r .told, r .stays old)
 
 -- an item id and a replica id, as bytes
 pub record Ids (item replica : List ℕ) : Type 0 where
@@ -85,9 +100,15 @@ module _ (R : Rules) (D : Demand2 R) where
   lawful-accepted : (s : List ℕ) (k : Knowledge) → Bytes s → s ≡ encode k → Lawful R k → parse R s ≡ accepted k
   lawful-accepted s k b e l = D .layout s k b .1 (e, l)
 
+  -- "and contain exactly the versions it says": what contain says, over whatever was there
+  pub contain-exactly : (s item replica : List ℕ) (t : ℕ) (k : Knowledge) → parse R s ≡ accepted k → ProperIds item replica → (old : ℕ)
+      → Says containNumber containValue (containAnswer R s item replica t)
+      ((1 ≤ t) × (t ≤ known k (beAt item 24 0) (beAt replica 16 0))) old
+  contain-exactly s item replica t k e proper old = decided (D .versions s item replica t k e (proper .0) (proper .1)) old
+
   ticks-held : (s item replica : List ℕ) (t : ℕ) (k : Knowledge) → parse R s ≡ accepted k → ProperIds item replica
       → Holds R s item replica t ↔ ((1 ≤ t) × (t ≤ known k (beAt item 24 0) (beAt replica 16 0)))
-  ticks-held s item replica t k e proper = D .versions s item replica t k e (proper .0) (proper .1) .yes 0
+  ticks-held s item replica t k e proper = contain-exactly s item replica t k e proper 0 .1 .0
 
   same-equal : (s t : List ℕ) (a b : Knowledge) → NormalBytes R s a → NormalBytes R t b → SameVersions a b → s ≡ t
   same-equal s t a b x y v =
@@ -267,7 +288,7 @@ module _ (R : Rules) (D : Demand2 R) (Q : Results R) where
             | more l ↦ ((omega arith, omega arith), x .1 (g .0, omega (arith, g .1, t, inside-yes lo hi k i p low (omega arith))))
           ]
 
--- ---- the numbers of contain, lead and cover: a knowledge's own fault, the first's before the second's, then 17, else 0
+-- ---- what contain, lead and cover answer, refused or not: a knowledge's own fault, the first's before the second's, then 17, else 0
 
 module _ (R : Rules) (A : Answers R) where
   contain-stated : (s item replica : List ℕ) (t : ℕ) → ContainSays R s item replica t (containAnswer R s item replica t)
@@ -279,49 +300,59 @@ module _ (R : Rules) (A : Answers R) where
   cover-stated : (s t first last : List ℕ) → CoverSays R s t first last (coverAnswer R s t first last)
   cover-stated s t first last = A .covers s t first last
 
-  pub contain-number : (s item replica : List ℕ) (t : ℕ)
-      → ((n : ℕ) → parse R s ≡ refused n → containNumber (containAnswer R s item replica t) ≡ n)
+  pub contain-answers : (s item replica : List ℕ) (t old : ℕ)
+      → ((n : ℕ) → parse R s ≡ refused n → Refuses containNumber containValue (containAnswer R s item replica t) n old)
       × ((k : Knowledge) → parse R s ≡ accepted k
-      → ((ProperIds item replica → ⊥) → containNumber (containAnswer R s item replica t) ≡ 17)
-      × (ProperIds item replica → containNumber (containAnswer R s item replica t) ≡ 0))
-  contain-number s item replica t =
-      let c = contain-stated s item replica t in
-      (λ n e. c .own n e .told, λ k e. (λ w. c .ids k e w .told, λ w. c .found k e w .fine))
+      → ((ProperIds item replica → ⊥) → Refuses containNumber containValue (containAnswer R s item replica t) 17 old)
+      × (ProperIds item replica → Says containNumber containValue (containAnswer R s item replica t)
+      ((1 ≤ t) × (t ≤ known k (beAt item 24 0) (beAt replica 16 0))) old))
+  contain-answers s item replica t old =
+      let c = contain-stated s item replica t in (
+        (λ n e. refused-with (c .own n e) old),
+        λ k e. (λ w. refused-with (c .ids k e w) old, λ w. decided (c .found k e w) old),
+      )
 
-  pub lead-number : (s t item replica : List ℕ)
-      → ((n : ℕ) → parse R s ≡ refused n → leadNumber (leadAnswer R s t item replica) ≡ n)
+  pub lead-answers : (s t item replica : List ℕ) (old : ℤ)
+      → ((n : ℕ) → parse R s ≡ refused n → Refuses leadNumber leadValue (leadAnswer R s t item replica) n old)
       × ((a : Knowledge) → parse R s ≡ accepted a
-      → ((n : ℕ) → parse R t ≡ refused n → leadNumber (leadAnswer R s t item replica) ≡ n)
+      → ((n : ℕ) → parse R t ≡ refused n → Refuses leadNumber leadValue (leadAnswer R s t item replica) n old)
       × ((b : Knowledge) → parse R t ≡ accepted b
-      → ((ProperIds item replica → ⊥) → leadNumber (leadAnswer R s t item replica) ≡ 17)
+      → ((ProperIds item replica → ⊥) → Refuses leadNumber leadValue (leadAnswer R s t item replica) 17 old)
       × (ProperIds item replica → leadNumber (leadAnswer R s t item replica) ≡ 0)))
-  lead-number s t item replica =
+  lead-answers s t item replica old =
       let c = lead-stated s t item replica in (
-        (λ n e. c .one n e .told),
-        λ a e. ((λ n f. c .other a n e f .told), λ b f. (λ w. c .ids a b e f w .told, λ w. c .found a b e f w .fine)),
+        (λ n e. refused-with (c .one n e) old),
+        λ a e. (
+          (λ n f. refused-with (c .other a n e f) old),
+          λ b f. (λ w. refused-with (c .ids a b e f w) old, λ w. c .found a b e f w .fine),
+        ),
       )
 
-  pub cover-number : (s t first last : List ℕ) → Bytes t
-      → ((n : ℕ) → parse R s ≡ refused n → coverNumber (coverAnswer R s t first last) ≡ n)
+  pub cover-answers : (s t first last : List ℕ) (old : ℕ) → Bytes t
+      → ((n : ℕ) → parse R s ≡ refused n → Refuses coverNumber coverValue (coverAnswer R s t first last) n old)
       × ((a : Knowledge) → parse R s ≡ accepted a
-      → ((n : ℕ) → parse R t ≡ refused n → coverNumber (coverAnswer R s t first last) ≡ n)
+      → ((n : ℕ) → parse R t ≡ refused n → Refuses coverNumber coverValue (coverAnswer R s t first last) n old)
       × ((b : Knowledge) → parse R t ≡ accepted b
-      → ((ProperSpan first last → ⊥) → coverNumber (coverAnswer R s t first last) ≡ 17)
-      × (ProperSpan first last → coverNumber (coverAnswer R s t first last) ≡ 0)))
-  cover-number s t first last z =
+      → ((ProperSpan first last → ⊥) → Refuses coverNumber coverValue (coverAnswer R s t first last) 17 old)
+      × (ProperSpan first last → Says coverNumber coverValue (coverAnswer R s t first last)
+      (AtLeast a b (beAt first 24 0) (beAt last 24 0)) old)))
+  cover-answers s t first last old z =
       let c = cover-stated s t first last in (
-        (λ n e. c .one n e .told),
-        λ a e. ((λ n f. c .other a n e f .told), λ b f. (λ w. c .span a b e f w .told, λ w. c .found a b z e f w .fine)),
+        (λ n e. refused-with (c .one n e) old),
+        λ a e. (
+          (λ n f. refused-with (c .other a n e f) old),
+          λ b f. (λ w. refused-with (c .span a b e f w) old, λ w. decided (c .found a b z e f w) old),
+        ),
       )
+
+-- "does one knowledge know at least as much as another throughout a span": it holds every version of the span that the other holds
+pub record HoldsAll (R : Rules) (s t first last : List ℕ) : Type 0 where
+  pub each : (item replica : List ℕ) (v : ℕ) → Ids item replica → beAt first 24 0 ≤ beAt item 24 0 → beAt item 24 0 ≤ beAt last 24 0
+      → Holds R t item replica v → Holds R s item replica v
 
 module _ (R : Rules) (D : Demand2 R) (A : Answers R) where
-  -- "does one knowledge know at least as much as another throughout a span": it holds every version of the span that the other holds
-  pub record HoldsAll (s t first last : List ℕ) : Type 0 where
-    pub each : (item replica : List ℕ) (v : ℕ) → Ids item replica → beAt first 24 0 ≤ beAt item 24 0 → beAt item 24 0 ≤ beAt last 24 0
-        → Holds R t item replica v → Holds R s item replica v
-
   covers-exactly : (s t first last : List ℕ) (a b : Knowledge) → Bytes last → parse R s ≡ accepted a → parse R t ≡ accepted b
-      → AtLeast a b (beAt first 24 0) (beAt last 24 0) ↔ HoldsAll s t first last
+      → AtLeast a b (beAt first 24 0) (beAt last 24 0) ↔ HoldsAll R s t first last
   covers-exactly s t first last a b ends e f = (
     (λ l. record {
       each = λ item replica v w low high h.
@@ -332,7 +363,7 @@ module _ (R : Rules) (D : Demand2 R) (A : Answers R) where
     λ h. record { known = λ i p low high small. go h i p low high small },
   )
     where
-      go : HoldsAll s t first last → (i p : ℕ) → beAt first 24 0 ≤ i → i ≤ beAt last 24 0 → p < 256 ^ 16 → known b i p ≤ known a i p
+      go : HoldsAll R s t first last → (i p : ℕ) → beAt first 24 0 ≤ i → i ≤ beAt last 24 0 → p < 256 ^ 16 → known b i p ≤ known a i p
       go h i p low high small =
           let top : i ≤ highest = le-trans high (item-below last ends) in
           let ei : i ≡ beAt (put 24 i []) 24 0 = sym (put-be 24 i [] (top-below i top)) in
@@ -349,11 +380,11 @@ module _ (R : Rules) (D : Demand2 R) (A : Answers R) where
 
   cover-told : (s t first last : List ℕ) (a b : Knowledge) → Bytes t → parse R s ≡ accepted a → parse R t ≡ accepted b → ProperSpan first last
       → (coverValue (coverAnswer R s t first last) 0 ≡ 1) ↔ AtLeast a b (beAt first 24 0) (beAt last 24 0)
-  cover-told s t first last a b c e f span = cover-stated R A s t first last .found a b c e f span .yes 0
+  cover-told s t first last a b c e f span = cover-answers R A s t first last 0 c .1 a e .1 b f .1 span .1 .0
 
   -- the call says so
   pub cover-exactly : (s t first last : List ℕ) (a b : Knowledge) → Bytes t → Bytes last → parse R s ≡ accepted a
-      → parse R t ≡ accepted b → ProperSpan first last → (coverValue (coverAnswer R s t first last) 0 ≡ 1) ↔ HoldsAll s t first last
+      → parse R t ≡ accepted b → ProperSpan first last → (coverValue (coverAnswer R s t first last) 0 ≡ 1) ↔ HoldsAll R s t first last
   cover-exactly s t first last a b c ends e f span =
       let d = cover-told s t first last a b c e f span in
       let l = covers-exactly s t first last a b ends e f in
@@ -402,8 +433,8 @@ module _ (R : Rules) (D : Demand2 R) (A : Answers R) where
 -- of a call that writes: at 0 the bytes stand in front, as many as it says, and the rest is as it was; else nothing changed
 pub record WritesAtZero (reply : Reply) (out : List ℕ) (old : ℕ) : Type 0 where
   pub zero : numberOf (answer reply (length out)) ≡ 0
-      → (bs : List ℕ) × ((reply ≡ gives bs) × ((writtenOf (answer reply (length out)) old ≡ length bs)
-      × ((take (length bs) (after reply out) ≡ bs) × (drop (length bs) (after reply out) ≡ drop (length bs) out))))
+      → (bs : List ℕ) × ((reply ≡ gives bs) × ((length bs ≤ length out) × ((writtenOf (answer reply (length out)) old ≡ length bs)
+      × ((take (length bs) (after reply out) ≡ bs) × (drop (length bs) (after reply out) ≡ drop (length bs) out)))))
   pub other : (numberOf (answer reply (length out)) ≡ 0 → ⊥)
       → (writtenOf (answer reply (length out)) old ≡ old) × (after reply out ≡ out)
 
@@ -415,10 +446,13 @@ writes-at-zero reply out old (it-writes bs g l n w a) = record {
     (
       g,
       (
-        w,
+        l,
         (
-          ap (take (length bs)) a ∙ take-append-seam bs (drop (length bs) out),
-          ap (drop (length bs)) a ∙ drop-append-seam bs (drop (length bs) out),
+          w,
+          (
+            ap (take (length bs)) a ∙ take-append-seam bs (drop (length bs) out),
+            ap (drop (length bs)) a ∙ drop-append-seam bs (drop (length bs) out),
+          ),
         ),
       ),
     ),
@@ -445,8 +479,18 @@ pub checks-at-zero : (R : Rules) (s : List ℕ) → ChecksOrRefuses R s → Chec
 checks-at-zero R s (checks-nothing n c) = record { zero = λ e. absurd (omega (arith, n, e)); other = λ e. c }
 checks-at-zero R s (checks-sizes n c) = record { zero = λ e. c; other = λ e. absurd (e n) }
 
--- ---- with document 01's limits, and no hypothesis left
+-- ---- with document 01's limits, and no hypothesis left: the statements hold
 
-pub merged-basic : (s t bs : List ℕ) → Bytes s → Bytes t → mergeReply basic s t ≡ gives bs → (item replica : List ℕ) (v : ℕ) → Ids item replica
-    → Holds basic bs item replica v ↔ (Holds basic s item replica v ⊎ Holds basic t item replica v)
+pub merged-basic : (s t bs : List ℕ) → Bytes s → Bytes t → mergeReply basic s t ≡ gives bs → (item replica : List ℕ) (v : ℕ)
+    → Ids item replica → Holds basic bs item replica v ↔ (Holds basic s item replica v ⊎ Holds basic t item replica v)
 merged-basic = merged-exactly basic demand2-basic
+
+pub projected-basic : (s first last bs : List ℕ) → Bytes s → projectReply basic s first last ≡ gives bs → (item replica : List ℕ) (v : ℕ)
+    → Ids item replica → Holds basic bs item replica v
+    ↔ (((beAt first 24 0 ≤ beAt item 24 0) × (beAt item 24 0 ≤ beAt last 24 0)) × Holds basic s item replica v)
+projected-basic = projected-exactly basic demand2-basic results-basic
+
+pub cover-basic : (s t first last : List ℕ) (a b : Knowledge) → Bytes t → Bytes last → parse basic s ≡ accepted a
+    → parse basic t ≡ accepted b → ProperSpan first last
+    → (coverValue (coverAnswer basic s t first last) 0 ≡ 1) ↔ HoldsAll basic s t first last
+cover-basic = cover-exactly basic demand2-basic answers-basic

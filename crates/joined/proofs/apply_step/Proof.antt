@@ -16,8 +16,7 @@ same-length c = search needs
 returns : tie.Need-returns
 returns c =
     let e = c .before .before .sync-apply .ensures in
-    let k = called-of _ _ _ _ _ _ (e .0) (e .1 .0) (e .1 .1) in
-    (k, apply-called _ _ _ _ _ _ _ k)
+    apply-called _ _ _ _ _ _ _ (called-of _ _ _ _ _ _ (e .0) (e .1 .0) (e .1 .1))
 
 pub apply-step-spec : {M : Type 1} → statement M
 apply-step-spec = tie.close (tie.spec sync-apply-requires same-length returns)

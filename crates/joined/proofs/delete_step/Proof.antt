@@ -16,8 +16,7 @@ same-length c = search needs
 returns : tie.Need-returns
 returns c =
     let e = c .before .before .sync-delete .ensures in
-    let k = called-of _ _ _ _ _ _ (e .0) (e .1 .0) (e .1 .1) in
-    (k, delete-called _ _ _ _ _ _ _ k)
+    delete-called _ _ _ _ _ _ _ (called-of _ _ _ _ _ _ (e .0) (e .1 .0) (e .1 .1))
 
 pub delete-step-spec : {M : Type 1} → statement M
 delete-step-spec = tie.close (tie.spec sync-delete-requires same-length returns)

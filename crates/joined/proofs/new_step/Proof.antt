@@ -16,8 +16,7 @@ same-length c = search needs
 returns : tie.Need-returns
 returns c =
     let e = c .before .before .sync-new .ensures in
-    let k = called-of _ _ _ _ _ _ (e .0) (e .1 .0) (e .1 .1) in
-    (k, new-called _ _ _ _ _ _ k)
+    new-called _ _ _ _ _ _ (called-of _ _ _ _ _ _ (e .0) (e .1 .0) (e .1 .1))
 
 pub new-step-spec : {M : Type 1} → statement M
 new-step-spec = tie.close (tie.spec sync-new-requires same-length returns)

@@ -1,0 +1,2 @@
+-- What the first bytes of an input decide.
+pub mod Front
