@@ -14,6 +14,7 @@ use Rattle.codec.proofs.Replies.{number-fits, number-short, number-refused, aft
 use Rattle.layout.specs.Knowledge.{basic, base, Knowledge, All}
 use Rattle.layout.proofs.Exact.{base-permitted}
 use Rattle.ticks.specs.Meaning.{highest, known, contains}
+use Rattle.ticks.proofs.Demand1.{refuses-after}
 use Rattle.replication.specs.Call.{ReplicaId, brings, Call, apply, Given}
 use Rattle.replication.specs.Calls.{newReply, editReply, deleteReply, makeReply, applyReply}
 use Rattle.replication.specs.Formats.{Store, find}
@@ -36,10 +37,6 @@ pub record TellsReply (reply : Reply) (number old written : ℕ) (out left : Lis
   pub short : (bs : List ℕ) → reply ≡ gives bs → length out < length bs → (number ≡ 14) × ((written ≡ old) × (left ≡ out))
   pub wrote : (bs : List ℕ) → reply ≡ gives bs → length bs ≤ length out
       → (number ≡ 0) × ((written ≡ length bs) × (left ≡ bs ++ drop (length bs) out))
-
-refuses-after : (n : ℕ) (out : List ℕ) → after (refuses n) out ≡ out
-unfolding after
-refuses-after n out = refl
 
 tells : (reply : Reply) (number old written : ℕ) (out left : List ℕ) → Called reply number old written out left
     → TellsReply reply number old written out left

@@ -27,7 +27,8 @@ pub record OnCode (calls : List Call) (w : World) : Type 0 where
   pub agrees : (p : ℕ) → ReplicaId p → Agrees base (w .stores p) (machine basic calls) p
   -- "applying two batches of that list in either order ends in the same store bytes, and one batch twice as once, wherever none of these
   -- applies is refused"
-  pub eitherOrder : (p m n : ℕ) (a b u v x y : List ℕ) → ReplicaId p → batchNumber m (w .batches) ≡ some a → batchNumber n (w .batches) ≡ some b
+  pub eitherOrder : (p m n : ℕ) (a b u v x y : List ℕ) → ReplicaId p → batchNumber m (w .batches) ≡ some a
+      → batchNumber n (w .batches) ≡ some b
       → Applied (w .stores p) a u → Applied u b x → Applied (w .stores p) b v → Applied v a y → x ≡ y
   pub twice : (p n : ℕ) (a x y : List ℕ) → ReplicaId p → batchNumber n (w .batches) ≡ some a → Applied (w .stores p) a x → Applied x a y
       → x ≡ y

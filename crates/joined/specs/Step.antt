@@ -16,7 +16,8 @@ pub record Called (reply : Reply) (number old written : ℕ) (out left : List �
 -- what a call of a list writes, as the C function tells it: at number 0 the bytes stand in front of the buffer, as many as told, and the
 -- rest is as it was; at any other number the call wrote nothing, and nothing changed
 pub data Step (number old written : ℕ) (out left : List ℕ) : Option (List ℕ) → Type 0 where
-  wrote : (bs : List ℕ) → number ≡ 0 → written ≡ length bs → left ≡ bs ++ drop (length bs) out → Step number old written out left (some bs)
+  wrote : (bs : List ℕ) → number ≡ 0 → written ≡ length bs → left ≡ bs ++ drop (length bs) out
+      → Step number old written out left (some bs)
   refused : 1 ≤ number → written ≡ old → left ≡ out → Step number old written out left none
 
 -- what the contract of each function says: the equations of its C function, and, for every world in which the bytes handed over are the

@@ -81,7 +81,7 @@ gives-writing bs out old = go (leb (length bs) (length out)) refl
         let n = number-short bs (length out) old l in
         it-refuses (omega (arith, n .0)) (n .1) (after-short bs out l)
 
-refuses-after : (n : ℕ) (out : List ℕ) → after (refuses n) out ≡ out
+pub refuses-after : (n : ℕ) (out : List ℕ) → after (refuses n) out ≡ out
 unfolding after
 refuses-after n out = refl
 

@@ -25,5 +25,6 @@ pub data SaysOrRefuses {A B : Type 0} (number : A → ℕ) (values : A → B →
 pub data ChecksOrRefuses (R : Rules) (s : List ℕ) : Type 0 where
   checks-nothing : 1 ≤ checkedNumber (checkedBy R s) → ((old : List ℕ) → checkedSizes (checkedBy R s) old ≡ old) → ChecksOrRefuses R s
   checks-sizes : checkedNumber (checkedBy R s) ≡ 0
-      → ((old other : List ℕ) → length old ≡ 4 → length other ≡ 4 → checkedSizes (checkedBy R s) old ≡ checkedSizes (checkedBy R s) other)
+      → ((old other : List ℕ) → length old ≡ 4 → length other ≡ 4
+      → checkedSizes (checkedBy R s) old ≡ checkedSizes (checkedBy R s) other)
       → ChecksOrRefuses R s
