@@ -3,9 +3,9 @@
 -- calls keep the same bytes; its stores know and hold what the machine says; batches applied by it in either order, and one twice, end in
 -- the same bytes; equal knowledge means equal tables. Each law has a statement as a hypothesis, not its proof, and speaks of any arguments,
 -- so a statement that says less no longer gives it.
-use Prim.Native.Nat.{ℕ, _≤_, _<_, _^_}
-use mathlib.Core.Path.{_≡_, refl, sym, ap, _∙_, subst}
-use mathlib.Core.List.{List, [], _∷_, _++_}
+use Prim.Native.Nat.{ℕ, _≤_, _<_}
+use mathlib.Core.Path.{_≡_, sym, ap, _∙_, subst}
+use mathlib.Core.List.{List, [], _++_}
 use mathlib.Core.Option.{Option, none, some}
 use lib.ListN.{length, take, drop}
 use Rattle.codec.specs.Number.{put}

@@ -2,7 +2,6 @@
 -- of what it is given, and tells for any arguments the number, the values behind the pointers and the buffer that are stated here once more.
 -- So a C function whose contract was changed along with it, its arguments exchanged or its inputs narrowed, is refused here.
 use mathlib.Core.Path.{_≡_}
-use lib.ListN.{length}
 use contract.Lifetimes.{Lfts}
 use denote.Ref.{now}
 use denote.Triple.Clauses.{AtExit}

@@ -1,9 +1,9 @@
 -- Every list of given calls is one that a program can make (`reached-every`), so `Reached` leaves out no list, no replica, no batch and no
 -- buffer: what `demand3-on-code` says of reached worlds is said of all. It holds because a C function tells something whatever it is given:
 -- the three equations of its contract say what.
-use Prim.Native.Nat.{ℕ, _≤_, _<_, _^_}
+use Prim.Native.Nat.{ℕ, _≤_}
 use mathlib.Core.Path.{_≡_, refl, sym, ap, _∙_, subst}
-use mathlib.Core.Logic.{_⊎_, inl, inr, _↔_}
+use mathlib.Core.Logic.{inl, inr}
 use mathlib.Core.List.{List, [], _∷_, _++_, append-assoc, append-nil}
 use mathlib.Core.Option.{Option, none, some}
 use native.Mathlib.Omega.{arith}
@@ -13,10 +13,10 @@ use Rattle.codec.specs.Number.{put}
 use Rattle.codec.specs.Reply.{Reply, answer, after, numberOf, writtenOf, gives}
 use Rattle.codec.proofs.Replies.{number-fits, after-fits}
 use Rattle.layout.specs.Knowledge.{basic, base, All}
-use Rattle.replication.specs.Call.{ReplicaId, brings, Call, edit, delete, make, apply, Given}
+use Rattle.replication.specs.Call.{ReplicaId, Call, edit, delete, make, apply, Given}
 use Rattle.replication.specs.Calls.{newReply, editReply, deleteReply, makeReply, applyReply}
 use Rattle.replication.specs.Lists.{World, start, batchNumber, keep}
-use Rattle.replication.specs.Runner.{Leaves, one}
+use Rattle.replication.specs.Runner.{one}
 use Rattle.replication.proofs.Demand3.{begin}
 use Rattle.replication.proofs.Runner.{keep-leaves}
 use Rattle.joined.specs.Step.{Called}

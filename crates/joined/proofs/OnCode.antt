@@ -5,9 +5,9 @@
 --
 -- It holds because each step is the list's: the contract of the C function says what the call writes in the program's own world, the number
 -- tells the program whether it wrote, and so the program keeps just what the list keeps.
-use Prim.Native.Nat.{ℕ, _≤_, _<_, _^_}
+use Prim.Native.Nat.{ℕ}
 use mathlib.Core.Path.{_≡_, refl, sym, ap, _∙_, subst}
-use mathlib.Core.Logic.{_⊎_, inl, inr, _↔_}
+use mathlib.Core.Logic.{_⊎_, inl, inr}
 use mathlib.Core.List.{List, [], _∷_, _++_}
 use mathlib.Core.Option.{Option, none, some}
 use native.Mathlib.Omega.{arith}
@@ -16,11 +16,11 @@ use Rattle.codec.specs.Number.{put}
 use Rattle.codec.specs.Reply.{Reply, gives}
 use Rattle.layout.specs.Knowledge.{basic, base, All}
 use Rattle.ticks.proofs.Lists.{less, same, more, order}
-use Rattle.replication.specs.Call.{ReplicaId, brings, Call, edit, delete, make, apply, Given}
+use Rattle.replication.specs.Call.{ReplicaId, Call, edit, delete, make, apply, Given}
 use Rattle.replication.specs.Calls.{newReply, applyReply}
 use Rattle.replication.specs.Lists.{World, start, outcome, batchNumber, applyTo, writes}
 use Rattle.replication.specs.Promise.{ends, machine, IsStore, Agrees, Promise}
-use Rattle.replication.specs.Runner.{Number, Writes, WritesNothing, Leaves, one, Runner}
+use Rattle.replication.specs.Runner.{Number, Writes, WritesNothing, one}
 use Rattle.replication.proofs.Consumed.{either-exactly, twice-exactly, tables-exactly}
 use Rattle.replication.proofs.Demand3.{begin, demand3-basic}
 use Rattle.replication.proofs.Runner.{runner, outcome-exact, writes-exact, batch-exact-number}

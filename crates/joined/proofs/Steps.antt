@@ -1,10 +1,10 @@
 -- A C function makes the call of a list: what its contract says of number, length and buffer is what `writes` of lists says of the call.
 -- The number is 0 exactly where the call wrote, because a refusal's number is at least 1 (demand 1), so a program that tests it for 0 knows
 -- which it is, and finds the bytes at the front of the buffer.
-use Prim.Native.Nat.{ℕ, _≤_, _<_}
+use Prim.Native.Nat.{ℕ, _≤_}
 use mathlib.Core.Path.{_≡_, refl, sym, ap, _∙_, subst}
 use mathlib.Core.Logic.{_↔_}
-use mathlib.Core.List.{List, [], _∷_, _++_}
+use mathlib.Core.List.{List, [], _∷_}
 use mathlib.Core.Option.{Option, none, some}
 use native.Mathlib.Omega.{arith}
 use lib.ListN.{length, take, drop}
@@ -12,11 +12,9 @@ use lib.Seq.{take-append-seam, drop-append-seam}
 use Rattle.codec.specs.Reply.{Reply, gives, answer, after, numberOf, writtenOf}
 use Rattle.codec.proofs.Replies.{number-fits}
 use Rattle.layout.specs.Knowledge.{basic, base}
-use Rattle.layout.proofs.Exact.{base-permitted}
 use Rattle.ticks.specs.Demand1.{WritesOrRefuses, it-refuses, it-writes}
 use Rattle.replication.specs.Call.{brings, edit, delete, make, apply}
 use Rattle.replication.specs.Calls.{newReply, editReply, deleteReply, makeReply, applyReply}
-use Rattle.replication.specs.Demand1.{Demand1}
 use Rattle.replication.specs.Lists.{World, outcome, batchNumber, applyTo, writes}
 use Rattle.replication.proofs.Demand1.{demand1-basic}
 use Rattle.replication.proofs.Runner.{outcome-exact}

@@ -264,7 +264,7 @@ ranges-bytes [] t b = b
 ranges-bytes (x ∷ xs) t b =
     put-bytes 24 (x .bound) (put 4 (x .index .0) (putRanges xs t)) (put-bytes 4 (x .index .0) (putRanges xs t) (ranges-bytes xs t b))
 
-no-bytes : Bytes []
+pub no-bytes : Bytes []
 no-bytes = record { below = λ i. omega arith }
 
 pub encode-bytes : (k : Knowledge) → Bytes (encode k)

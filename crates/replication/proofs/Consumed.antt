@@ -1,18 +1,18 @@
 -- The sentences of demands 1 and 3, from their statements alone. Each law takes `Promise`, `Batches`, `Runner` or `Demand1` as a
--- hypothesis, never its proof, and gives one sentence for all arguments: any replica, any two batches, buffers of any lengths, any call. So a statement
--- that says less than the demand no longer gives its sentence here. Each field is used in one place. At the end stand two of the sentences
--- with document 01's limits, for every list of calls and with no hypothesis.
+-- hypothesis, never its proof, and gives one sentence for all arguments: any replica, any two batches, buffers of any lengths, any call.
+-- So a statement that says less than the demand no longer gives its sentence here. At the end the statements' own proofs are put in, with
+-- document 01's limits and for every list of calls.
 use Prim.Native.Nat.{ℕ, _≤_, _<_, _^_}
 use mathlib.Core.Path.{_≡_, refl, sym, ap, _∙_, subst}
-use mathlib.Core.Logic.{_⊎_, inl, inr, ⊎-elim, _↔_}
-use mathlib.Core.Bool.{Bool, true, false, not}
+use mathlib.Core.Logic.{_⊎_, ⊎-elim, _↔_}
+use mathlib.Core.Bool.{true, false, not}
 use mathlib.Core.List.{List, [], _∷_, _++_}
-use mathlib.Core.Option.{Option, none, some}
+use mathlib.Core.Option.{Option, some}
 use native.Mathlib.Omega.{arith}
 use lib.ListN.{length, drop}
 use lib.Seq.{drop-length}
 use Rattle.codec.specs.Number.{Bytes, beAt, put}
-use Rattle.codec.specs.Reply.{Reply, gives, answer, after, numberOf, writtenOf}
+use Rattle.codec.specs.Reply.{gives}
 use Rattle.codec.proofs.Numbers.{be-below, put-back}
 use Rattle.layout.specs.Knowledge.{Rules, basic, base, Knowledge, All, Lawful, encode}
 use Rattle.layout.specs.Permitted.{Permitted}
@@ -24,12 +24,10 @@ use Rattle.ticks.specs.Demand2.{SameVersions}
 use Rattle.ticks.proofs.Algebra.{versions-ticks}
 use Rattle.ticks.proofs.Consumed.{WritesAtZero, writes-at-zero, SaysAtZero, says-at-zero, ChecksAtZero, checks-at-zero}
 use Rattle.ticks.proofs.ForCover.{covers-for-exact}
-use Rattle.replication.specs.Record.{Rec}
 use Rattle.replication.specs.Call.{Brought, Call, apply, Given, Fed}
 use Rattle.replication.specs.Formats.{Store, encodeStore, find}
-use Rattle.replication.specs.BatchFormat.{Batch, encodeBatch}
+use Rattle.replication.specs.BatchFormat.{Batch}
 use Rattle.replication.specs.Valid.{LawfulStore}
-use Rattle.replication.specs.ValidBatch.{LawfulBatch}
 use Rattle.replication.specs.Calls.{newReply, editReply, deleteReply, makeReply, applyReply, ownAhead}
 use Rattle.replication.specs.Demand1.{partValues, coverageValues, Demand1}
 use Rattle.replication.specs.declared.Part.{Part}
@@ -38,10 +36,10 @@ use Rattle.replication.specs.Queries.{partNumber, partSide, partAtPlace,
 use Rattle.replication.specs.Queries.{coverageNumber, coverageContained, coverageAll, coverageThousandths, coverageAnswer}
 use Rattle.replication.specs.Lists.{World, start, outcome, batchNumber, trace}
 use Rattle.replication.specs.Machine.{Remembered, State, greatest, acts}
-use Rattle.replication.specs.Promise.{ends, machine, storeAfter, IsStore, Agrees, Twofold, Promise}
-use Rattle.replication.specs.Batches.{IsBatch, BatchMade, BatchAgrees, asked, Batches}
+use Rattle.replication.specs.Promise.{ends, machine, storeAfter, IsStore, Agrees, Promise}
+use Rattle.replication.specs.Batches.{IsBatch, BatchAgrees, asked, Batches}
 use Rattle.replication.proofs.Demand1.{demand1-basic}
-use Rattle.replication.proofs.Demand3.{store-one, batch-one, demand3-basic, demand3-batches-basic}
+use Rattle.replication.proofs.Demand3.{store-one, demand3-basic, demand3-batches-basic}
 use Rattle.replication.specs.Runner.{Number, Writes, WritesNothing, Stored, Leaves, one, Runner}
 use Rattle.replication.proofs.Runner.{runner, outcome-exact, batch-exact-number}
 use Rattle.replication.proofs.RunnerSettled.{runner-only}

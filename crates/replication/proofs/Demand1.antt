@@ -1,7 +1,7 @@
 -- Demand 1 holds of every call, for any permitted limits: each answer is its table of refusals, whose numbers are at least 1, and else
 -- what was found, whose number is 0. For the calls on knowledge that was shown in `ticks`.
-use Prim.Native.Nat.{ℕ, _≤_}
-use mathlib.Core.Path.{_≡_, refl, sym, ap, _∙_, subst}
+use Prim.Native.Nat.{ℕ}
+use mathlib.Core.Path.{_≡_, refl}
 use mathlib.Core.List.{List, [], _∷_}
 use mathlib.Core.Option.{Option, none, some}
 use mathlib.Core.Bool.{Bool, true, false}
@@ -12,7 +12,7 @@ use Rattle.layout.specs.Knowledge.{Limits, Rules, basic, All}
 use Rattle.layout.specs.Permitted.{Permitted}
 use Rattle.layout.proofs.Exact.{base-permitted}
 use Rattle.ticks.specs.Demand1.{WritesOrRefuses, SaysOrRefuses}
-use Rattle.ticks.proofs.Demand1.{Positive, Ends, table-ends, number-positive, fault-positive, parse-positive, result-positive, ends-writing, ends-saying}
+use Rattle.ticks.proofs.Demand1.{Positive, table-ends, number-positive, fault-positive, parse-positive, result-positive, ends-writing, ends-saying}
 use Rattle.ticks.proofs.Demand1.{check-checking, contain-saying, lead-saying, cover-saying, normalise-writing, merge-writing, project-writing}
 use Rattle.replication.specs.Call.{Brought}
 use Rattle.replication.specs.Calls.{then, storeLines, newReply, editLines, editReply, deleteLines, deleteReply, makeLines, makeReply, applyLines, applyReply}
@@ -24,7 +24,6 @@ use Rattle.replication.specs.Operate.{wins}
 use Rattle.replication.specs.Reading.{recAt}
 use Rattle.replication.specs.declared.Part.{Part}
 use Rattle.replication.specs.declared.Part.the-variants as P
-use Rattle.replication.specs.declared.Coverage.{Coverage}
 use Rattle.replication.specs.declared.Coverage.the-variants as G
 use Rattle.replication.specs.Queries.{ofStore, ofBatch, winnerAt, winnerPart, learnedPart, knowledgePart, partNumber, partSide, partAtPlace, partLength}
 use Rattle.replication.specs.Queries.{coverageNumber, coverageContained, coverageAll, coverageThousandths, coverageAnswer}

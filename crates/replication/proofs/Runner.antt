@@ -10,15 +10,15 @@ use native.Mathlib.Omega.{arith}
 use lib.Dec.{leb}
 use lib.ListN.{length}
 use borrow.Author.Tests.{leb-true, le-leb}
-use Rattle.codec.specs.Number.{Bytes, put}
+use Rattle.codec.specs.Number.{Bytes}
 use Rattle.codec.specs.Reply.{Reply, gives, refuses}
 use Rattle.layout.specs.Knowledge.{Rules}
-use Rattle.replication.specs.Call.{ReplicaId, Brought, Call, edit, delete, make, apply, Given, Fed}
-use Rattle.replication.specs.Calls.{newReply, editReply, deleteReply, makeReply, applyReply}
+use Rattle.replication.specs.Call.{Brought, Call, edit, delete, make, apply, Given, Fed}
+use Rattle.replication.specs.Calls.{editReply, deleteReply, makeReply, applyReply}
 use Rattle.replication.specs.Lists.{World, start, outcome, batchNumber, applyTo, writes, keep, run, trace}
 use Rattle.replication.specs.Machine.{Remembered, State, initial, rememberedAt, acts, history}
 use Rattle.replication.specs.Promise.{ends, machine}
-use Rattle.replication.specs.Runner.{Number, Replies, roomOf, Writes, WritesNothing, Stored, Joined, Leaves, Told, one, Runner}
+use Rattle.replication.specs.Runner.{Number, Writes, WritesNothing, Leaves, Told, one, Runner}
 use Rattle.replication.proofs.AgreeEdit.{put-same, put-other}
 use Rattle.replication.proofs.AgreeRun.{run-append, history-append}
 use Rattle.replication.proofs.Demand3.{begin}

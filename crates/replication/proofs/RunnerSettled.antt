@@ -1,23 +1,23 @@
 -- `Runner` (specs/Runner.antt) settles what it speaks of: two worlds, machines and lists of what the machine was told that meet it are the
 -- same after every list of given calls, for every replica id of 16 bytes. They begin alike, and one call more writes the same bytes in
 -- both or nothing in both, and leaves the same. `ends`, `machine` and `trace` meet it, so nothing else does.
-use Prim.Native.Nat.{ℕ, _≤_, _<_, _^_}
-use mathlib.Core.Path.{_≡_, refl, sym, ap, _∙_, subst, fun-ext}
-use mathlib.Core.Logic.{_⊎_, inl, inr, _↔_}
-use mathlib.Core.Bool.{Bool, true, false}
+use Prim.Native.Nat.{ℕ, _<_, _^_}
+use mathlib.Core.Path.{_≡_, sym, ap, _∙_, subst, fun-ext}
+use mathlib.Core.Logic.{inl, inr}
+use mathlib.Core.Bool.{Bool}
 use mathlib.Core.List.{List, [], _∷_, _++_, append-assoc, append-nil}
 use native.Mathlib.Omega.{arith}
 use Rattle.codec.specs.Number.{put}
 use Rattle.codec.specs.Reply.{Reply, gives}
 use Rattle.layout.specs.Knowledge.{Rules, All}
 use Rattle.ticks.proofs.Lists.{less, same, more, order}
-use Rattle.replication.specs.Call.{ReplicaId, Brought, Call, edit, delete, make, apply, Given, Fed}
+use Rattle.replication.specs.Call.{Call, edit, delete, make, apply, Given, Fed}
 use Rattle.replication.specs.Calls.{newReply, editReply, deleteReply, makeReply, applyReply}
 use Rattle.replication.specs.Lists.{World, start, trace}
 use Rattle.replication.specs.Machine.{Ticks, Remembered, State, acts}
 use Rattle.replication.specs.Promise.{ends, machine}
 use Rattle.replication.specs.Record.{Rec}
-use Rattle.replication.specs.Runner.{Number, Writes, WritesNothing, Stored, Joined, Leaves, Told, one, Runner}
+use Rattle.replication.specs.Runner.{Number, Writes, WritesNothing, Stored, Leaves, Told, one, Runner}
 use Rattle.replication.proofs.Runner.{runner}
 
 -- the same bytes under every id of 16 bytes, and the same batches

@@ -1,7 +1,7 @@
 -- The sentences of demands 1 and 2, from their statements alone. Each law takes `Demand2`, `Results`, `Answers` or a shape of demand 1 as a
 -- hypothesis, never its proof, and gives one sentence for all arguments, in terms of the calls on bytes: a version is held where contain
--- says 1. So a statement that says less than the demand, of fewer inputs or in one direction only, no longer gives its sentence here. Each
--- field is used in one place, and the laws stand on that.
+-- says 1. So a statement that says less than the demand, of fewer inputs or in one direction only, no longer gives its sentence here. At the
+-- end the statements' own proofs are put in, with document 01's limits.
 use Prim.Native.Nat.{ℕ, _^_, _≤_, _<_}
 use mathlib.Core.Path.{_≡_, refl, sym, _∙_, ap, subst}
 use mathlib.Core.Logic.{_⊎_, inl, inr, _↔_}
@@ -19,7 +19,7 @@ use Rattle.codec.proofs.Numbers.{be-below, put-length, put-be, put-bytes}
 use Rattle.layout.specs.Knowledge.{Rules, basic, Knowledge, Lawful, encode}
 use Rattle.layout.specs.Parse.{parse, checkedBy}
 use Rattle.layout.specs.Answer.{checkedNumber, checkedSizes}
-use Rattle.layout.proofs.Forward.{encode-bytes}
+use Rattle.layout.proofs.Forward.{encode-bytes, no-bytes}
 use Rattle.ticks.specs.Meaning.{highest, known, contains, Normal}
 use Rattle.ticks.specs.Operations.{knownInside}
 use Rattle.ticks.specs.Calls.{containNumber, containValue, containAnswer, leadNumber, leadValue, leadAnswer, coverNumber, coverValue, coverAnswer}
@@ -32,12 +32,12 @@ use Rattle.ticks.specs.Demand1.{ChecksOrRefuses, checks-nothing, checks-
 use Rattle.ticks.proofs.Algebra.{contains-exact}
 use Rattle.ticks.proofs.Answers.{answers-basic, sub-ahead, sub-behind}
 use Rattle.ticks.proofs.Demand2.{not-refused, demand2-basic}
-use Rattle.ticks.proofs.Equality.{clash}
 use Rattle.ticks.proofs.ForCalls.{id-is}
 use Rattle.ticks.proofs.LawfulResults.{below-top, top-below}
 use Rattle.ticks.proofs.Lists.{less, same, more, order}
 use Rattle.ticks.proofs.Operations.{inside-yes, inside-low, inside-high}
 use Rattle.ticks.proofs.Results.{results-basic}
+use Rattle.ticks.proofs.Settled.{same-truth}
 
 -- ---- by the calls: bytes hold the version of an item, a replica and a tick where contain puts 1 over a 0
 
@@ -68,15 +68,6 @@ pub record Ids (item replica : List ℕ) : Type 0 where
 -- two byte strings hold the same versions
 pub record SameHeld (R : Rules) (s t : List ℕ) : Type 0 where
   pub both : (item replica : List ℕ) (v : ℕ) → Ids item replica → Holds R s item replica v ↔ Holds R t item replica v
-
-same-truth : (b c : Bool) → (b ≡ true) ↔ (c ≡ true) → b ≡ c
-same-truth true true e = refl
-same-truth true false e = sym (e .0 refl)
-same-truth false true e = e .1 refl
-same-truth false false e = refl
-
-no-bytes : Bytes []
-no-bytes = record { below = λ i. omega arith }
 
 -- every item id up to the top one and every replica id of 16 bytes is one of bytes
 ids-put : (i p : ℕ) → i ≤ highest → p < 256 ^ 16 → Ids (put 24 i []) (put 16 p [])
@@ -190,7 +181,8 @@ module _ (R : Rules) (D : Demand2 R) where
         let x = held-put s i p n a e h small in
         let y = held-put t i p n b f h small in
         let z = v .both (put 24 i []) (put 16 p []) n (ids-put i p h small) in
-        same-truth (contains a i p n) (contains b i p n) (λ c. y .0 (z .0 (x .1 c)), λ c. x .0 (z .1 (y .1 c)));
+        same-truth (contains a i p n) (contains b i p n) (Holds R s (put 24 i []) (put 16 p []) n) (x .1, x .0)
+        (λ c. z .1 (y .1 c), λ h. y .0 (z .0 h));
   }
 
   -- "Normal forms are equal exactly when they contain the same versions": of any two that normalise wrote

@@ -8,12 +8,11 @@ use mathlib.Core.Bool.{Bool, true, false}
 use mathlib.Core.List.{List, [], _∷_, _++_}
 use native.Mathlib.Omega.{arith}
 use lib.Dec.{leb}
-use lib.IntN.{ℤ}
 use lib.ListN.{length, take, drop}
 use lib.Seq.{sets, sets-eq, drop-length}
 use borrow.Author.Tests.{leb-true, leb-false}
 use Rattle.codec.specs.Parsed.{Parsed, accepted, refused, line, ownFault}
-use Rattle.codec.specs.Reply.{Reply, gives, refuses, Line, firstFault, answer, after, numberOf, writtenOf}
+use Rattle.codec.specs.Reply.{Reply, gives, refuses, Line, firstFault, after}
 use Rattle.codec.proofs.Replies.{fault-here, fault-later, number-fits, number-short, number-refused, after-fits, after-short}
 use Rattle.layout.specs.Knowledge.{Limits, Rules, All, Knowledge}
 use Rattle.layout.specs.Permitted.{Permitted}
@@ -23,11 +22,8 @@ use Rattle.layout.specs.declared.Checked.{Checked}
 use Rattle.layout.specs.declared.Checked.the-variants.{Accepted, Refused}
 use Rattle.layout.proofs.Answers.{answer-refused}
 use Rattle.layout.proofs.Exact.{refused-exact}
-use Rattle.ticks.specs.declared.Contain.{Contain}
 use Rattle.ticks.specs.declared.Contain.the-variants as C
-use Rattle.ticks.specs.declared.Lead.{Lead}
 use Rattle.ticks.specs.declared.Lead.the-variants as D
-use Rattle.ticks.specs.declared.Cover.{Cover}
 use Rattle.ticks.specs.declared.Cover.the-variants as E
 use Rattle.ticks.specs.Calls.{containNumber, containValue, containFound, containAnswer, leadNumber, leadValue, leadAnswer}
 use Rattle.ticks.specs.Calls.{coverNumber, coverValue, coverFound, coverAnswer, normaliseReply, mergeReply, projectReply, resultLines}

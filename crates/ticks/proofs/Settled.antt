@@ -37,7 +37,7 @@ use Rattle.ticks.proofs.Demand2.{accepted-same, not-refused}
 use Rattle.codec.specs.Parsed.{Parsed, accepted, refused}
 
 -- two tests that are exact for the same are equal
-same-truth : (b c : Bool) (P : Type 0) → (b ≡ true) ↔ P → (c ≡ true) ↔ P → b ≡ c
+pub same-truth : (b c : Bool) (P : Type 0) → (b ≡ true) ↔ P → (c ≡ true) ↔ P → b ≡ c
 same-truth true true P e f = refl
 same-truth true false P e f = clash false (f .1 (e .0 refl)) refl
 same-truth false true P e f = clash false (e .1 (f .0 refl)) refl
