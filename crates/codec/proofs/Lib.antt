@@ -1,4 +1,5 @@
 -- The laws of the codec.
+pub mod Difference
 pub mod Numbers
 pub mod Order
 pub mod Reading

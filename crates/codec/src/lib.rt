@@ -180,14 +180,14 @@ pub fn same3(a0: u64, a1: u64, a2: u64, b0: u64, b1: u64, b2: u64) -> bool
     false
 }
 
-// The larger of two ticks.
+// The larger of two ticks with no branch on either: from their difference modulo 2^64, which is one `sub`, whatever the text of the
+// kit's function says. It is at most a exactly where b is; this comparison is taken as a number, 0 or 1, that the difference is
+// multiplied by. Right for every number of 64 bits, for all ticks from 0 to 2^63 − 1 in particular.
 pub fn larger(a: u64, b: u64) -> u64
     ensures { λ r. ⌜ r ≡ max a b ⌝ }
 {
-    if a < b {
-        return b;
-    }
-    a
+    let d = std::num::wrapping_sub_u64(a, b);
+    b + d * ((d <= a) as u64)
 }
 
 // A limit brought into 1 to a largest.

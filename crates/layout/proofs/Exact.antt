@@ -3,7 +3,7 @@
 -- fault, and its values are those that were written. Backward, accepted bytes are the encoding of some lawful
 -- knowledge, whose values are then the ones that reading gives. So two lawful knowledges with the same bytes are the
 -- same, and the sizes that the check answers are those of the knowledge.
-use Prim.Native.Nat.{ℕ, suc, _+_, _*_, _^_}
+use Prim.Native.Nat.{ℕ, suc, _+_, _*_, _%_, _^_, _≤_, _<_}
 use mathlib.Core.Path.{_≡_, refl, sym, ap, _∙_, subst}
 use mathlib.Core.List.{List}
 use mathlib.Core.Logic.{_↔_}
@@ -12,7 +12,8 @@ use lib.ListN.{length}
 use Rattle.codec.specs.Number.{Bytes}
 use Rattle.layout.specs.declared.Checked.{Checked}
 use Rattle.layout.specs.declared.Checked.the-variants.{Accepted, Refused}
-use lib.Dec.{lit≤}
+use lib.Dec.{leb, lit≤}
+use mir.Val.{boolByte}
 use Rattle.layout.specs.Knowledge.{Rules, largestTick, Knowledge, encode, Lawful, basic, base}
 use Rattle.layout.specs.Permitted.{Permitted, longest, mostVectors}
 use Rattle.layout.specs.Answer.{elements}
@@ -21,6 +22,7 @@ use Rattle.layout.specs.Decode.{decode}
 use Rattle.layout.proofs.Forward.{forward, decoded, encode-length, encode-bytes}
 use Rattle.layout.proofs.Backward.{Means, backward}
 use Rattle.codec.specs.Parsed.{Parsed, accepted, refused}
+use Rattle.codec.proofs.Difference.{Larger, larger-tick}
 
 told-refusal : (s : List ℕ) (n : ℕ) → told s (Refused n) ≡ refused n
 unfolding told
@@ -86,6 +88,11 @@ base-permitted = record { someReplica = lit≤ tt; someRange = lit≤ tt; replic
 -- document 01's numbers: the largest tick is 2^63 − 1; at most 16 replicas, 64 ranges, 65 vectors and 256 records
 pub largest-tick : suc largestTick ≡ 2 ^ 63
 largest-tick = refl
+
+-- codec's law of the larger tick, which has that number written out
+pub larger-of-ticks : (a b d : ℕ) → a ≤ largestTick → b ≤ largestTick → d < 2 ^ 64 → (d + b) % 2 ^ 64 ≡ a →
+    Larger a b (b + d * boolByte (leb d a))
+larger-of-ticks = larger-tick
 
 pub base-limits : (base .replicas ≡ 16) × (base .ranges ≡ 64) × (mostVectors base ≡ 65) × (base .records ≡ 256)
 base-limits = (refl, refl, refl, refl)

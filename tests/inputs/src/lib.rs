@@ -14,6 +14,7 @@ mod instances;
 mod knowledge;
 mod limits;
 mod meaning;
+mod merges;
 mod pairs;
 mod plan;
 mod reading;

@@ -6,6 +6,7 @@ use crate::families::shapes;
 use crate::knowledge::{Knowledge, item_id};
 use crate::limits;
 use crate::meaning::{FIRST_ITEM, LAST_ITEM};
+use crate::merges;
 use crate::pairs;
 use crate::splitmix::SplitMix64;
 
@@ -78,7 +79,8 @@ pub fn fixed(visit: &mut Visit) -> Result<(), String> {
     damaged(visit)?;
     every_room(visit)?;
     every_shape(visit)?;
-    spans(visit)
+    spans(visit)?;
+    merges::fixed(visit)
 }
 
 /// Ids of every length from 0 to 40.

@@ -6,7 +6,7 @@ use super::*;
 use crate::calls;
 
 /// Twice as many as there are fixed ones, so that all of these are in the run.
-const PLAN: Plan = Plan { inputs: 80_000, ..Plan::USUAL };
+const PLAN: Plan = Plan { inputs: 130_000, ..Plan::USUAL };
 
 type Normalise = fn(Knowledge) -> Knowledge;
 type Merge = fn([Knowledge; 2]) -> Knowledge;
@@ -345,6 +345,30 @@ fn an_engine_that_writes_another_result_is_noticed() {
     }
     for (name, project) in other_parts() {
         is_noticed(name, &Fake { project, ..Fake::default() });
+    }
+}
+
+#[test]
+fn an_engine_that_errs_about_the_larger_tick_at_an_end_only_is_noticed() {
+    const TOP: u64 = i64::MAX as u64;
+    let wrong: [(&str, Merge); 5] = [
+        ("the difference dropped where it is the first", |both| {
+            merged_by(both, |a, b| if a.wrapping_sub(b) < a { a } else { b })
+        }),
+        ("none for none and 1", |both| merged_by(both, |a, b| if (a, b) == (0, 1) { 0 } else { a.max(b) })),
+        ("the one before the largest", |both| {
+            merged_by(both, |a, b| if (a, b) == (TOP - 1, TOP) { a } else { a.max(b) })
+        }),
+        ("the one before the largest, the other way round", |both| {
+            merged_by(both, |a, b| if (a, b) == (TOP, TOP - 1) { b } else { a.max(b) })
+        }),
+        ("none for twice the largest", |both| merged_by(both, |a, b| if (a, b) == (TOP, TOP) { 0 } else { a.max(b) })),
+    ];
+    // these are slow, and some of the fixed calls are enough
+    let plan = Plan { inputs: 20_000, ..PLAN };
+    for (name, merge) in wrong {
+        let error = run(&plan, &Fake { merge: Some(merge), ..Fake::default() }).expect_err(name);
+        assert!(error.contains("in place: engine "), "{name}: {error}");
     }
 }
 

@@ -4,11 +4,12 @@
 //! else on the machine disturbs only takes longer, so the time of a call is that of the 5th percentile of the turns. Long
 //! turns would nearly all be disturbed, and not both sides alike.
 //!
-//! Arguments choose among the tables by the names of the calls, `growth` and `memcpy`.
+//! Arguments choose among the tables by the names of the calls, `larger`, `growth` and `memcpy`.
 
 mod changing;
 mod changing_call;
 mod growth;
+mod larger;
 mod measure;
 mod memcpy;
 mod reading;
@@ -67,6 +68,9 @@ fn main() {
     );
     let wanted = |name: &str| chosen.is_empty() || chosen.iter().any(|other| other == name);
     TABLES.iter().filter(|table| wanted(table.call)).for_each(Table::measure);
+    if wanted("larger") {
+        larger::measure();
+    }
     if wanted("growth") {
         growth::measure();
     }
