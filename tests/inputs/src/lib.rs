@@ -33,6 +33,7 @@ pub use instances::{Instance, instances};
 pub use knowledge::{Field, Kind, Knowledge, Written, item_id, replica_id};
 pub use limits::{alike_but_for_the_last, backwards};
 pub use meaning::{FIRST_ITEM, ItemId, LAST_ITEM, ReplicaId, item_before, next_item};
+pub use merges::drawn_pair;
 pub use pairs::Three;
 pub use plan::{CallInput, Input, Plan, number_from_environment};
 pub use reading::Reading;

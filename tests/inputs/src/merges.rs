@@ -26,14 +26,19 @@ pub fn fixed(visit: &mut Visit) -> Result<(), String> {
     let random = &mut SplitMix64::new(11);
     for size in SIZES {
         for k in 0..EACH {
-            merge("merged ticks at random", k, drawn(random, size, either), visit)?;
+            merge("merged ticks at random", k, drawn_pair(size, || either(random)), visit)?;
         }
         for k in 0..EACH {
-            merge("merged ticks at random, every other time equal", k, drawn(random, size, often_equal), visit)?;
+            merge(
+                "merged ticks at random, every other time equal",
+                k,
+                drawn_pair(size, || often_equal(random)),
+                visit,
+            )?;
         }
         for (family, ticks) in PAIRS {
             for k in 0..EACH {
-                let mut knowledges = drawn(random, size, either);
+                let mut knowledges = drawn_pair(size, || either(random));
                 place(&mut knowledges, k / 2, ticks);
                 merge(family, k, knowledges, visit)?;
             }
@@ -48,16 +53,12 @@ fn merge(family: &'static str, k: usize, [first, second]: [Knowledge; 2], visit:
     visit(family, Writing::Merge { first: &first.bytes(), second: &second.bytes(), room: Room::More(0) })
 }
 
-/// Two knowledges of a size with two ticks drawn for each place.
-fn drawn(
-    random: &mut SplitMix64,
-    (replicas, ranges): (usize, usize),
-    draw: fn(&mut SplitMix64) -> [u64; 2],
-) -> [Knowledge; 2] {
+/// Two knowledges of so many replicas and ranges, with two ticks drawn for each place.
+pub fn drawn_pair((replicas, ranges): (usize, usize), mut draw: impl FnMut() -> [u64; 2]) -> [Knowledge; 2] {
     let mut first = Knowledge::filled(replicas, ranges + 1, ranges);
     let mut second = first.clone();
     for ((_, one), (_, other)) in first.vectors.iter_mut().flatten().zip(second.vectors.iter_mut().flatten()) {
-        [*one, *other] = draw(random);
+        [*one, *other] = draw();
     }
     [first, second]
 }
@@ -138,7 +139,7 @@ mod tests {
                 let random = &mut SplitMix64::new(3);
                 let mut seen = Vec::new();
                 for choice in 0..8 {
-                    let mut knowledges = drawn(random, size, either);
+                    let mut knowledges = drawn_pair(size, || either(random));
                     place(&mut knowledges, choice, ticks);
                     let either_order = |place: &(_, _, [u64; 2])| place.2 == ticks || place.2 == [ticks[1], ticks[0]];
                     seen.extend(at_the_ends(&knowledges).into_iter().filter(either_order));

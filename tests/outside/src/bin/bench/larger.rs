@@ -4,7 +4,7 @@
 
 use std::hint::black_box;
 
-use inputs::{Knowledge, LONGEST, SplitMix64};
+use inputs::{LONGEST, SplitMix64, drawn_pair};
 use outside::engine;
 
 use crate::measure::{ROUNDS, Times};
@@ -38,16 +38,12 @@ impl Row {
     /// Draws the same ticks for every row; the choice says whether the first knowledge gets the larger one.
     fn new(name: &'static str, first_is_larger: fn(&mut SplitMix64) -> bool) -> Self {
         let (ticks, choices) = (&mut SplitMix64::new(1), &mut SplitMix64::new(2));
-        let pairs = (0..PAIRS).map(|_| {
-            let mut first = Knowledge::largest();
-            let mut second = first.clone();
-            for ((_, one), (_, other)) in first.vectors.iter_mut().flatten().zip(second.vectors.iter_mut().flatten()) {
-                let drawn = [(); 2].map(|()| ticks.next_u64() >> 1);
-                let [smaller, larger] = if drawn[0] < drawn[1] { drawn } else { [drawn[1], drawn[0]] };
-                [*one, *other] = if first_is_larger(choices) { [larger, smaller] } else { [smaller, larger] };
-            }
-            [first.bytes(), second.bytes()]
-        });
+        let mut draw = || {
+            let drawn = [(); 2].map(|()| ticks.next_u64() >> 1);
+            let [smaller, larger] = if drawn[0] < drawn[1] { drawn } else { [drawn[1], drawn[0]] };
+            if first_is_larger(choices) { [larger, smaller] } else { [smaller, larger] }
+        };
+        let pairs = (0..PAIRS).map(|_| drawn_pair((16, 64), &mut draw).map(|knowledge| knowledge.bytes()));
         Self { name, pairs: pairs.collect(), times: Times::default() }
     }
 
