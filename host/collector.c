@@ -386,8 +386,8 @@ static const struct command {
     {"compare", "FILE FILE [FIRST LAST]", "says which of two knows more", 2, 4, command_compare,
      "Says whether two knowledges, stores or batches know the same, in the items FIRST to LAST or in all.\n"},
     {"coverage", "FOLDER FILE", "says how much of a store another knows", 2, 2, command_coverage,
-     "Counts the records in FOLDER whose version FILE knows, deleted ones too, and gives the part rounded down to tenths of a per\n"
-     "cent. FILE is a knowledge, a store or a batch.\n"}
+     "Counts the records in FOLDER whose version FILE knows, deleted ones too, and gives the part to the nearest tenth of a per\n"
+     "cent, an exact half up. FILE is a knowledge, a store or a batch.\n"}
 };
 #define COMMANDS (sizeof commands / sizeof *commands)
 

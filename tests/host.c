@@ -1,5 +1,5 @@
 /* A host program in C that keeps stores and batches in byte buffers and plays the paper's instances K9 to K12 to the byte: what each call
-   returns, every byte that it writes, and that it writes no other. */
+   returns, every byte that it writes, and that it writes no other. Then the paper's figures of coverage. */
 
 #include <inttypes.h>
 #include <stdio.h>
@@ -62,6 +62,12 @@ static const uint8_t p_twice[] = {STORE(P, 149, 2), KNOWS(P, 2), EDITED(1, P, 1)
 static const uint8_t batch_two[] = {BATCH(149, 149, 1), KNOWS(P, 1), KNOWS(P, 2), EDITED(2, P, 2)};
 static const uint8_t q_after_one[] = {STORE(Q, 149, 1), KNOWS(P, 1), EDITED(1, P, 1)};
 static const uint8_t q_after_two[] = {STORE(Q, 149, 2), KNOWS(P, 2), EDITED(1, P, 1), EDITED(2, P, 2)};
+
+/* Sixteen edits of P, and what it knew after the first and after the third. */
+#define FOUR(n) EDITED(n, P, n), EDITED(n + 1, P, n + 1), EDITED(n + 2, P, n + 2), EDITED(n + 3, P, n + 3)
+static const uint8_t p_sixteen[] = {STORE(P, 149, 16), KNOWS(P, 16), FOUR(1), FOUR(5), FOUR(9), FOUR(13)};
+static const uint8_t after_one[] = {KNOWS(P, 1)};
+static const uint8_t after_three[] = {KNOWS(P, 3)};
 
 static int make(const uint8_t *store, size_t store_n, const uint8_t *knowledge, size_t knowledge_n, const uint8_t *wanted, size_t n)
 {
@@ -154,8 +160,30 @@ static int others(void)
         && wrote("delete", sync_delete(new_p, sizeof new_p, item_1, 24, out, 0, &written), SYNC_ABSENT, out, 0);
 }
 
+static int covered(const uint8_t *store, size_t store_n, const uint8_t *knowledge, size_t knowledge_n, const uint64_t wanted[3])
+{
+    uint64_t given[3] = {7, 7, 7};
+    int right = sync_coverage(store, store_n, knowledge, knowledge_n, &given[0], &given[1], &given[2]) == 0
+        && memcmp(given, wanted, sizeof given) == 0;
+    if (!right)
+        fprintf(stderr, "host: coverage: %" PRIu64 " of %" PRIu64 " is %" PRIu64 ", not %" PRIu64 "\n",
+                given[0], given[1], given[2], wanted[2]);
+    return right;
+}
+
+/* Coverage to the nearest thousandth, an exact half going up: one record of 16 is 62.5, and three are 187.5. */
+static int figures(void)
+{
+    static const uint64_t one[] = {1, 16, 63}, three[] = {3, 16, 188}, every[] = {1, 1, 1000}, none[] = {0, 16, 0}, empty[] = {0, 0, 1000};
+    return covered(p_sixteen, sizeof p_sixteen, after_one, sizeof after_one, one)
+        && covered(p_sixteen, sizeof p_sixteen, after_three, sizeof after_three, three)
+        && covered(edited_p, sizeof edited_p, after_one, sizeof after_one, every)
+        && covered(p_sixteen, sizeof p_sixteen, nothing, sizeof nothing, none)
+        && covered(new_p, sizeof new_p, nothing, sizeof nothing, empty);
+}
+
 int main(void)
 {
     forget();
-    return k9() && k10() && k11() && k12() && others() ? 0 : 1;
+    return k9() && k10() && k11() && k12() && others() && figures() ? 0 : 1;
 }

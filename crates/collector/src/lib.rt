@@ -351,7 +351,7 @@ pub extern "C" fn sync_knowledge(store: &[u8], at: &mut u64, length: &mut u64) -
 }
 
 // How many of a store's records have a change version that the knowledge contains, how many records there are, and the first as
-// thousandths of the second, rounded down; or the refusal's number, and then nothing changes.
+// thousandths of the second, to the nearest, an exact half up; or the refusal's number, and then nothing changes.
 #[no_mangle]
 pub extern "C" fn sync_coverage(
     store: &[u8],

@@ -95,7 +95,7 @@ module _ (s k : List ℕ) (n at m left p : ℕ)
 pub rate-none : (inside all : ℕ) → all ≡ 0 → 1000 ≡ thousandths inside all
 rate-none inside all e = sym (thousandths-none inside all e)
 
-pub rate-some : (inside all : ℕ) → (all ≡ 0 → ⊥) → 1000 * inside / all ≡ thousandths inside all
+pub rate-some : (inside all : ℕ) → (all ≡ 0 → ⊥) → (2000 * inside + all) / (2 * all) ≡ thousandths inside all
 rate-some inside all e = sym (thousandths-some inside all (omega arith))
 
 -- ---- the call, by what the checks answered

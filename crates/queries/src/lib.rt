@@ -259,14 +259,14 @@ fn count_in(s: &[u8], n: u32, at: usize, k: &[u8], r: u32, start: Cursor) -> u32
     contained
 }
 
-// 1000 times those contained by all, rounded down; 1000 for no records.
+// 1000 times those contained by all, to the nearest, an exact half up; 1000 for no records.
 fn thousandths(contained: u32, all: u32) -> usize
     ensures { λ r. ⌜ r ≡ thousandths contained all ⌝ }
 {
     if all == 0 {
         return 1000;
     }
-    1000 * (contained as usize) / (all as usize)
+    (2000 * (contained as usize) + all as usize) / (2 * (all as usize))
 }
 
 // Coverage with limits of the caller's.

@@ -40,6 +40,7 @@ pub mod QueriesWalk
 pub mod QueriesWinner
 pub mod QueriesKnowledge
 pub mod QueriesCoverage
+pub mod QueriesNearest
 pub mod QueriesSettled
 pub mod RefusalsTable
 pub mod RefusalsTests

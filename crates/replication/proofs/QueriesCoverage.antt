@@ -1,8 +1,9 @@
 -- Coverage of a store by a knowledge. For a valid store and a knowledge that is read, it gives how many of the store's
 -- records have a change version that the knowledge contains, each record counted once and by its own numbers; how many
--- records there are; and the first of these as thousandths of the second, rounded down: the greatest number whose
--- multiple by all records is not above 1000 times those contained, and 1000 where there is no record. Else the call is
--- refused, by 15 for the store before the knowledge's own fault.
+-- records there are; and the first of these as thousandths of the second, to the nearest, an exact half going up, and
+-- 1000 where there is no record. Of c among n that is said over whole numbers: the figure t has n * 2t at most n above
+-- 2000 * c, and less than n below it. Both bounds are those of one division. Else the call is refused, by 15 for the
+-- store before the knowledge's own fault.
 use Prim.Native.Nat.{ℕ, suc, _+_, _*_, _/_, _≤_, _<_}
 use mathlib.Core.Path.{_≡_, refl, sym, ap, ap₂, _∙_}
 use mathlib.Core.Bool.{Bool, true, false}
@@ -10,7 +11,7 @@ use mathlib.Core.Logic.{_⊎_, inl, inr, _↔_}
 use mathlib.Core.List.{List, [], _∷_}
 use mathlib.Core.Option.{Option, none, some}
 use native.Mathlib.Omega.{arith}
-use native.Mathlib.Nat.{div-mul-le-self, lt-div-mul-add, add-mul}
+use native.Mathlib.Nat.{div-mul-le-self, lt-div-mul-add, mul-add, mul-comm, mul-assoc}
 use lib.ListN.{length}
 use borrow.Author.Tests.{eq-eqb, ne-eqb}
 use Rattle.codec.specs.Reply.{gives, firstFault, refuses}
@@ -93,21 +94,33 @@ counts-one {k} (counts-out r rs n h c) = counts-one c ∙ sym (count-unknown k r
 
 -- ---- thousandths
 
+pub twice-times : (n t : ℕ) → 2 * n * t ≡ n * (2 * t)
+twice-times n t = ap (λ (m : ℕ). m * t) (mul-comm 2 n) ∙ mul-assoc n 2 t
+
 pub thousandths-none : (inside all : ℕ) → all ≡ 0 → thousandths inside all ≡ 1000
 unfolding thousandths
 thousandths-none inside all e = rw (eq-eqb all 0 e, thousandths)
 
-pub thousandths-some : (inside all : ℕ) → 0 < all → thousandths inside all ≡ 1000 * inside / all
+pub thousandths-some : (inside all : ℕ) → 0 < all → thousandths inside all ≡ (2000 * inside + all) / (2 * all)
 unfolding thousandths
 thousandths-some inside all h = rw (ne-eqb all 0 (omega arith), thousandths)
 
-pub thousandths-low : (inside all : ℕ) → 0 < all → thousandths inside all * all ≤ 1000 * inside
-thousandths-low inside all h = rw (thousandths-some inside all h) (div-mul-le-self (1000 * inside) all)
+-- the bounds of one division by twice a number, as products of that number
+halves : (k n : ℕ) → 0 < n → (n * (2 * (k / (2 * n))) ≤ k) × (k < n * (2 * (k / (2 * n)) + 2))
+halves k n h =
+    let q = k / (2 * n) in
+    let e = mul-comm q (2 * n) ∙ twice-times n q in (
+      omega (arith, div-mul-le-self k (2 * n), e),
+      omega (arith, lt-div-mul-add {a = k} {b = 2 * n} (omega arith), e, mul-add n (2 * q) 2),
+    )
 
-pub thousandths-high : (inside all : ℕ) → 0 < all → 1000 * inside < (thousandths inside all + 1) * all
-thousandths-high inside all h =
-    rw (thousandths-some inside all h)
-    (omega (arith, lt-div-mul-add {a = 1000 * inside} {b = all} h, add-mul (1000 * inside / all) 1 all))
+-- at most a half is added
+pub thousandths-low : (inside all : ℕ) → 0 < all → all * (2 * thousandths inside all) ≤ 2000 * inside + all
+thousandths-low inside all h = rw (thousandths-some inside all h) (halves (2000 * inside + all) all h .0)
+
+-- and less than a half is left out, so that an exact half goes up
+pub thousandths-high : (inside all : ℕ) → 0 < all → 2000 * inside + all < all * (2 * thousandths inside all + 2)
+thousandths-high inside all h = rw (thousandths-some inside all h) (halves (2000 * inside + all) all h .1)
 
 -- ---- the call
 
@@ -118,8 +131,8 @@ pub record CoverageIs (k : Knowledge) (rs : List Rec) (a : Coverage) : Type 0 wh
   pub is : a ≡ G.Covered inside (length rs) rate
   pub counts : Counts k rs inside
   pub noRecords : length rs ≡ 0 → rate ≡ 1000
-  pub low : 0 < length rs → rate * length rs ≤ 1000 * inside
-  pub high : 0 < length rs → 1000 * inside < (rate + 1) * length rs
+  pub low : 0 < length rs → length rs * (2 * rate) ≤ 2000 * inside + length rs
+  pub high : 0 < length rs → 2000 * inside + length rs < length rs * (2 * rate + 2)
   pub number : coverageNumber a ≡ 0
   pub contained : (old : ℕ) → coverageContained a old ≡ inside
   pub all : (old : ℕ) → coverageAll a old ≡ length rs

@@ -9,7 +9,6 @@ use mathlib.Core.Logic.{_⊎_, inl, inr, ⊎-elim}
 use mathlib.Core.List.{List, [], _∷_, _++_}
 use mathlib.Core.Option.{Option, none, some}
 use native.Mathlib.Omega.{arith}
-use native.Mathlib.Nat.{mul-le-mul-right}
 use lib.ListN.{length, take, drop, getD}
 use Rattle.codec.specs.Number.{beAt}
 use Rattle.codec.specs.Parsed.{accepted}
@@ -32,6 +31,7 @@ use Rattle.replication.proofs.QueriesWalk.{walk-step, walk-end}
 use Rattle.replication.proofs.QueriesWinner.{NoPart, StorePart, BatchPart, StoreRecord, BatchRecord, NoPartBut, Beats, WinnerIs, LearnedIs}
 use Rattle.replication.proofs.QueriesKnowledge.{KnowledgeIs}
 use Rattle.replication.proofs.QueriesCoverage.{CoverageIs, NoCoverage, Counts, counts-one}
+use Rattle.replication.proofs.QueriesNearest.{figure-settled}
 
 -- ---- one place for a record
 
@@ -180,15 +180,6 @@ pub record SameCoverage (a c : Coverage) : Type 0 where
   pub all : (old : ℕ) → coverageAll a old ≡ coverageAll c old
   pub thousandths : (old : ℕ) → coverageThousandths a old ≡ coverageThousandths c old
 
--- a quotient is not below another one
-quotient-low : (x y n k : ℕ) → x * n ≤ k → k < (y + 1) * n → x ≤ y
-quotient-low x y n k l h =
-    elim (order x y) [
-      | less d ↦ omega arith
-      | same d ↦ omega arith
-      | more d ↦ let e : y + 1 ≤ x = omega arith in absurd (omega (arith, mul-le-mul-right n e, l, h))
-    ]
-
 module _ (k : Knowledge) (rs : List Rec) (a c : Coverage) (x : CoverageIs k rs a) (y : CoverageIs k rs c) where
   inside-same : x .inside ≡ y .inside
   inside-same = counts-one (x .counts) ∙ sym (counts-one (y .counts))
@@ -197,10 +188,9 @@ module _ (k : Knowledge) (rs : List Rec) (a c : Coverage) (x : CoverageIs k rs a
   rate-same =
       elim (order 0 (length rs)) [
         | less h ↦
-            let m : 1000 * x .inside ≡ 1000 * y .inside = ap (λ (n : ℕ). 1000 * n) inside-same in
-            let l = quotient-low (x .rate) (y .rate) (length rs) (1000 * y .inside) (omega (arith, x .low h, m)) (y .high h) in
-            let r = quotient-low (y .rate) (x .rate) (length rs) (1000 * x .inside) (omega (arith, y .low h, m)) (x .high h) in
-            omega arith
+            let n = length rs in
+            let m : 2000 * x .inside + n ≡ 2000 * y .inside + n = ap (λ (c : ℕ). 2000 * c + n) inside-same in
+            figure-settled (y .inside) n (x .rate) (y .rate) (omega (arith, x .low h, m)) (omega (arith, x .high h, m)) (y .low h) (y .high h)
         | same h ↦ x .noRecords (sym h) ∙ sym (y .noRecords (sym h))
         | more h ↦ absurd (omega arith)
       ]

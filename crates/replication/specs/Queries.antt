@@ -132,9 +132,9 @@ countIn k [] = 0
 countIn k (r ∷ rs) =
     elim (contains k (r .item) (r .changeReplica) (r .changeTick)) [ true ↦ suc (countIn k rs) | false ↦ countIn k rs ]
 
--- "1000 × contained / all rounded down (1000 for no records)"
+-- "1000 × contained / all", "the nearest, an exact half going up"; 1000 "for no records"
 unfoldable pub thousandths : ℕ → ℕ → ℕ
-thousandths contained all = elim (eqb all 0) [ true ↦ 1000 | false ↦ 1000 * contained / all ]
+thousandths contained all = elim (eqb all 0) [ true ↦ 1000 | false ↦ (2000 * contained + all) / (2 * all) ]
 
 unfoldable pub coverageAnswer : Rules → List ℕ → List ℕ → Coverage
 coverageAnswer R s knowledge =

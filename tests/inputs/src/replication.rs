@@ -106,8 +106,14 @@ impl Store {
         let contains = |record: &&Record| knowledge.contains(&record.item, &record.change.0, record.change.1);
         let contained = self.records.iter().filter(contains).count() as u64;
         let all = self.records.len() as u64;
-        [contained, all, if all == 0 { 1000 } else { 1000 * contained / all }]
+        [contained, all, if all == 0 { 1000 } else { nearest(contained, all) }]
     }
+}
+
+/// The number from 0 to 1000 that comes nearest to 1000 × contained / all, the larger of two: all of them tried from the largest down.
+fn nearest(contained: u64, all: u64) -> u64 {
+    let distance = |figure: &u64| (figure * all).abs_diff(1000 * contained);
+    (0..=1000).rev().min_by_key(distance).unwrap_or(0)
 }
 
 /// The ends of the span of all ids.

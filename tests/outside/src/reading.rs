@@ -5,7 +5,7 @@ use std::cell::Cell;
 use std::ops::Range;
 
 use inputs::{CallInput, Plan, Reading, Readings};
-use reference::Winner;
+use reference::{Coverage, Winner};
 
 use crate::one::{self, Value};
 use crate::tally::{Ends, Outcome, Tally};
@@ -62,6 +62,28 @@ pub fn run(plan: &Plan, engine: &impl Engine) -> Result<Tally, String> {
     tally.complete(&ENDS)
 }
 
+/// Compares the coverage of stores with 0 to 256 records by knowledges that contain 0 to all of these, with the reference and with the
+/// slow model. Gives how many there are.
+pub fn every_share(engine: &impl Engine) -> Result<usize, String> {
+    let mut place = 0;
+    for all in 0..=256 {
+        let store = inputs::store_of(all);
+        let bytes = &store.bytes();
+        for contained in 0..=all {
+            let knowledge = inputs::containing(contained);
+            let right = store.coverage(&knowledge);
+            let call = Reading::Coverage { store: bytes, knowledge: &knowledge.bytes() };
+            let input = CallInput { place, family: "every share", call };
+            if reference::coverage(bytes, &knowledge.bytes()).map(counts) != Ok(right) {
+                return Err(format!("coverage, {contained} of {all}: reference and slow model differ"));
+            }
+            compare(&input, engine).map_err(|difference| format!("coverage, {contained} of {all}: {difference}"))?;
+            place += 1;
+        }
+    }
+    Ok(place)
+}
+
 /// What is found for a winner.
 pub fn found(winner: Winner) -> Found {
     let found = |side, place: Range<usize>| Found { side, at: place.start as u64, length: place.len() as u64 };
@@ -70,6 +92,11 @@ pub fn found(winner: Winner) -> Found {
         Winner::Store(place) => found(1, place),
         Winner::Batch(place) => found(2, place),
     }
+}
+
+/// The three numbers of a coverage.
+pub fn counts(coverage: Coverage) -> [u64; 3] {
+    [coverage.contained, coverage.all, coverage.thousandths]
 }
 
 /// Place and length.
@@ -114,8 +141,7 @@ fn compare(input: &CallInput<Reading>, engine: &impl Engine) -> Result<(&'static
             Ok(("learned", Outcome::of(answer.map(|_| PART), &[])))
         }
         Reading::Coverage { store, knowledge } => {
-            let answer = reference::coverage(store, knowledge);
-            let answer = answer.map(|coverage| [coverage.contained, coverage.all, coverage.thousandths]);
+            let answer = reference::coverage(store, knowledge).map(counts);
             one::compare(input.place, [store, knowledge], answer, |[store, knowledge], counts| {
                 engine.coverage(store, knowledge, counts)
             })?;

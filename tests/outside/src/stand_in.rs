@@ -1,7 +1,7 @@
 //! The reference in the place of an engine.
 
 use crate::changing;
-use crate::reading::{self, Found, found, part};
+use crate::reading::{self, Found, counts, found, part};
 
 /// An engine whose calls are those of the reference.
 pub struct Reference;
@@ -26,9 +26,8 @@ impl reading::Engine for Reference {
         set(reference::learned(batch).map(part), value)
     }
 
-    fn coverage(&self, store: &[u8], knowledge: &[u8], counts: &mut [u64; 3]) -> u32 {
-        let answer = reference::coverage(store, knowledge);
-        set(answer.map(|coverage| [coverage.contained, coverage.all, coverage.thousandths]), counts)
+    fn coverage(&self, store: &[u8], knowledge: &[u8], value: &mut [u64; 3]) -> u32 {
+        set(reference::coverage(store, knowledge).map(counts), value)
     }
 
     fn knowledge(&self, store: &[u8], value: &mut [u64; 2]) -> u32 {

@@ -56,6 +56,14 @@ fn engine_and_reference_agree_on_the_calls_that_read_stores() {
 }
 
 #[test]
+fn engine_reference_and_slow_model_agree_on_every_share_of_a_store() {
+    match outside::reading::every_share(&engine::Linked) {
+        Ok(shares) => assert_eq!(shares, 33_153),
+        Err(error) => panic!("{error}"),
+    }
+}
+
+#[test]
 fn engine_and_reference_agree_on_the_calls_that_write_stores() {
     let plan = Plan::from_environment().on_stores();
     println!("{} calls that write stores and batches from seed {}", plan.inputs, plan.seed);

@@ -65,7 +65,7 @@ pub struct Coverage {
     /// Records whose change version it contains.
     pub contained: u64,
     pub all: u64,
-    /// 1000 × contained / all rounded down, and 1000 for no records.
+    /// 1000 × contained / all to the nearest, an exact half up, and 1000 for no records.
     pub thousandths: u64,
 }
 
@@ -78,5 +78,7 @@ pub fn coverage(store: &[u8], knowledge: &[u8]) -> Result<Coverage, u32> {
     let records = store.records.iter().map(Record);
     let contained = records.filter(|record| pass.contains(record.item(), record.change())).count() as u64;
     let all = store.records.len() as u64;
-    Ok(Coverage { contained, all, thousandths: (1000 * contained).checked_div(all).unwrap_or(1000) })
+    // Of an odd number the half that is left out changes nothing: there is no exact half then.
+    let thousandths = (1000 * contained + all / 2).checked_div(all).unwrap_or(1000);
+    Ok(Coverage { contained, all, thousandths })
 }

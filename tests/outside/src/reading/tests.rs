@@ -205,16 +205,21 @@ fn an_engine_with_another_winner_is_noticed() {
     }
 }
 
+/// The coverage with another figure, for a store with records.
+fn rounded(store: &Store, knowledge: &Knowledge, figure: fn(u64, u64) -> u64) -> [u64; 3] {
+    match store.coverage(knowledge) {
+        [0, 0, right] => [0, 0, right],
+        [contained, all, _] => [contained, all, figure(contained, all)],
+    }
+}
+
 #[test]
 fn an_engine_with_another_coverage_is_noticed() {
-    let wrong: [(&str, Counts); 6] = [
-        ("rounded up", |store, knowledge| {
-            let [contained, all, right] = store.coverage(knowledge);
-            [contained, all, if all == 0 { right } else { (1000 * contained).div_ceil(all) }]
-        }),
-        ("rounded to the nearest", |store, knowledge| {
-            let [contained, all, right] = store.coverage(knowledge);
-            [contained, all, if all == 0 { right } else { (1000 * contained + all / 2) / all }]
+    let wrong: [(&str, Counts); 7] = [
+        ("rounded up", |store, knowledge| rounded(store, knowledge, |contained, all| (1000 * contained).div_ceil(all))),
+        ("rounded down", |store, knowledge| rounded(store, knowledge, |contained, all| 1000 * contained / all)),
+        ("a half down", |store, knowledge| {
+            rounded(store, knowledge, |contained, all| (2000 * contained + all - 1) / (2 * all))
         }),
         ("0 for no records", |store, knowledge| match store.coverage(knowledge) {
             [0, 0, _] => [0, 0, 0],
@@ -236,8 +241,12 @@ fn an_engine_with_another_coverage_is_noticed() {
             store.coverage(&knowledge)
         }),
     ];
+    assert_eq!(every_share(&Fake::default()), Ok(257 * 258 / 2));
     for (name, coverage) in wrong {
-        is_noticed(name, &Fake { coverage: Some(coverage), ..Fake::default() });
+        let engine = Fake { coverage: Some(coverage), ..Fake::default() };
+        is_noticed(name, &engine);
+        // There all versions are of one replica, whose key is the same in both.
+        assert_eq!(every_share(&engine).is_ok(), name == "the store's own keys", "{name}");
     }
 }
 

@@ -2,7 +2,7 @@
 
 use std::hint::black_box;
 
-use outside::engine;
+use outside::{engine, reading};
 
 use crate::measure::Times;
 
@@ -51,7 +51,7 @@ impl ReadingCall {
             Self::Coverage { store, knowledge } => {
                 let (store, knowledge) = (&store[..], &knowledge[..]);
                 let mut counts = [0; 3];
-                let answer = reference::coverage(store, knowledge).map(|all| [all.contained, all.all, all.thousandths]);
+                let answer = reference::coverage(store, knowledge).map(reading::counts);
                 both(name, number, engine::coverage(store, knowledge, &mut counts), answer, counts);
                 times.measure(
                     || {
