@@ -5,13 +5,13 @@
 use Prim.Native.Nat.{ℕ, _+_, _-_, _*_, _≤_, _<_}
 use mathlib.Core.Path.{_≡_, refl, sym, ap, subst, _∙_}
 use mathlib.Core.Logic.{_↔_}
-use mathlib.Core.List.{List, [], _∷_}
+use mathlib.Core.List.{List}
 use native.Mathlib.Omega.{arith}
 use native.Mathlib.Nat.{mul-le-mul-left, mul-add, le-antisymm}
 use lib.ListN.{length}
 use Rattle.codec.specs.Number.{Bytes}
 use Rattle.codec.specs.Parsed.{accepted}
-use Rattle.layout.specs.Knowledge.{Limits, Rules, Knowledge, All, base, basic}
+use Rattle.layout.specs.Knowledge.{Rules, Knowledge, All, base, basic}
 use Rattle.layout.specs.Permitted.{Permitted}
 use Rattle.layout.specs.Parse.{parse}
 use Rattle.layout.proofs.Exact.{base-permitted}
