@@ -340,7 +340,7 @@ static void command_compare(char **arguments)
 static void command_coverage(char **arguments)
 {
     struct part knowledge;
-    uint64_t contained = 0, all = 0, thousandths = 0;
+    uint64_t contained = 0, all = 0, thousandths = 0, jump;
     uint32_t number;
     load(&store, arguments[0]);
     need_store(&store);
@@ -352,6 +352,8 @@ static void command_coverage(char **arguments)
     printf("%s knows %" PRIu64 " of the ", other.name, contained);
     show_count(all, "record", "records");
     printf(" of %s: %" PRIu64 ".%" PRIu64 " %%\n", store.name, thousandths / 10, thousandths % 10);
+    jump = (1000 + all) / (all + 1); /* 1000 / (all + 1), rounded up */
+    printf("one more file moves this by at most %" PRIu64 ".%" PRIu64 " points\n", jump / 10, jump % 10);
 }
 
 static const struct command {
@@ -387,7 +389,8 @@ static const struct command {
      "Says whether two knowledges, stores or batches know the same, in the items FIRST to LAST or in all.\n"},
     {"coverage", "FOLDER FILE", "says how much of a store another knows", 2, 2, command_coverage,
      "Counts the records in FOLDER whose version FILE knows, deleted ones too, and gives the part to the nearest tenth of a per\n"
-     "cent, an exact half up. FILE is a knowledge, a store or a batch.\n"}
+     "cent, an exact half up. Then says how far one record of an item that FOLDER lacks can move that part, up or down, as long\n"
+     "as FILE stays the same. FILE is a knowledge, a store or a batch.\n"}
 };
 #define COMMANDS (sizeof commands / sizeof *commands)
 

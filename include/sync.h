@@ -216,7 +216,8 @@ uint32_t sync_learned(const uint8_t *batch, size_t batch_n, uint64_t *at, uint64
  *   *contained to the count of records whose change version the knowledge contains,
  *   *all to the count of all records, tombstones too,
  *   *thousandths to 1000 times the first by the second, to the nearest, an exact half up, and to 1000 where there are no records.
- *   It is 1000 only where all records are contained.
+ *   It is 1000 only where all records are contained. With the same knowledge, one record of a new item moves it, up or down, by at
+ *   most 1000 / (*all + 1), rounded up.
  *
  * Else returns the number of the refusal, 15 for the store and then 1 to 10 for the knowledge, and leaves *contained, *all and
  * *thousandths as they were.

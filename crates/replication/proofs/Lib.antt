@@ -41,6 +41,7 @@ pub mod QueriesWinner
 pub mod QueriesKnowledge
 pub mod QueriesCoverage
 pub mod QueriesNearest
+pub mod QueriesMoves
 pub mod QueriesSettled
 pub mod RefusalsTable
 pub mod RefusalsTests

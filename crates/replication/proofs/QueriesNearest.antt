@@ -140,7 +140,7 @@ thousandths-most c n h = omega (arith, thousandths-rises c n n h, thousandths-ev
 -- ---- of a call
 
 -- as many are counted as there are exactly where each is
-counts-most : {k : Knowledge} {rs : List Rec} {n : ℕ} → Counts k rs n → n ≤ length rs
+pub counts-most : {k : Knowledge} {rs : List Rec} {n : ℕ} → Counts k rs n → n ≤ length rs
 counts-most counts-nil = omega arith
 counts-most (counts-in r rs n h c) = omega (arith, counts-most c)
 counts-most (counts-out r rs n h c) = omega (arith, counts-most c)

@@ -14,6 +14,7 @@ pub mod Operate
 pub mod Calls
 pub mod MethodReplies
 pub mod Queries
+pub mod Jump
 pub mod MethodTable
 pub mod MethodRecords
 pub mod Machine

@@ -41,7 +41,7 @@ pub use reading::Reading;
 pub use record::{LIVE, Record, TOMBSTONE, Version};
 pub use replication::ALL;
 pub use rows::{Changings, Lookups, Readings, Row, Writings};
-pub use shares::{containing, store_of};
+pub use shares::{containing, containing_tick_1, store_of, with_one_more};
 pub use splitmix::SplitMix64;
 pub use store::{Batch, Store};
 pub use stores::shapes as store_shapes;

@@ -1,4 +1,4 @@
-//! Stores with any count of records, and knowledges that contain any count of these.
+//! Stores with any count of records, the same with one record more, and knowledges that contain any count of these.
 
 use crate::knowledge::{Knowledge, item_id, replica_id};
 use crate::record::{LIVE, Record, TOMBSTONE};
@@ -12,15 +12,37 @@ pub fn store_of(records: usize) -> Store {
         let kind = if place % 4 == 3 { TOMBSTONE } else { LIVE };
         let tag = if kind == LIVE { [1 + place as u8 % 9; 16] } else { [0; 16] };
         let tick = 1 + (place + records / 3) as u64 % records as u64;
-        Record { kind, item: item_id(2 * place as u128), change: (own, tick), create: (own, 1), tag }
+        Record { kind, item: item_id(2 * place as u128 + 1), change: (own, tick), create: (own, 1), tag }
     };
     Store { own, knowledge: containing(records), records: (0..records).map(record).collect() }
 }
 
 /// The knowledge that contains so many of the change versions of such a store.
 pub fn containing(records: usize) -> Knowledge {
-    let replicas = [replica_id(1)].into_iter().collect();
-    Knowledge::with_ticks(ALL.into_iter().collect(), replicas, |_, _| records as u64)
+    knowing([records as u64, 0])
+}
+
+/// Such a store with one record more, of a new item, which comes to stand at a place. Its change version has a tick of another replica.
+pub fn with_one_more(store: &Store, place: usize, tick: u64) -> Store {
+    let replica = replica_id(2);
+    let (kind, tag) = if place % 3 == 1 { (TOMBSTONE, [0; 16]) } else { (LIVE, [9; 16]) };
+    let item = item_id(2 * place as u128);
+    let mut records = store.records.clone();
+    records.insert(place, Record { kind, item, change: (replica, tick), create: (replica, 1), tag });
+    Store { knowledge: knowing([store.records.len() as u64, tick]), records, ..*store }
+}
+
+/// The knowledge that contains so many of the change versions of a store, and one more record's where it has tick 1.
+pub fn containing_tick_1(records: usize) -> Knowledge {
+    knowing([records as u64, 1])
+}
+
+/// The knowledge of these ticks of replicas 1 and 2 for all items.
+fn knowing(ticks: [u64; 2]) -> Knowledge {
+    let replicas = [replica_id(1), replica_id(2)].into_iter().collect();
+    Knowledge::with_ticks(ALL.into_iter().collect(), replicas, |_, replica| {
+        ticks[usize::from(*replica == replica_id(2))]
+    })
 }
 
 #[cfg(test)]
@@ -35,6 +57,24 @@ mod tests {
             for contained in 0..=all {
                 let [inside, count, _] = store.coverage(&containing(contained));
                 assert_eq!([inside, count], [contained as u64, all as u64]);
+            }
+        }
+    }
+
+    #[test]
+    fn one_more_is_a_record_of_a_new_item_contained_or_not() {
+        for all in [0, 1, 2, 3, 16, 255] {
+            let store = store_of(all);
+            for place in 0..=all {
+                for (tick, inside) in [(1, 1), (2, 0)] {
+                    let after = with_one_more(&store, place, tick);
+                    assert!(after.is_valid(), "{all}, {place}");
+                    let mut others = after.clone();
+                    assert_eq!(store.record(&others.records.remove(place).item), None);
+                    assert_eq!(others.records, store.records);
+                    let [contained, count, _] = after.coverage(&containing_tick_1(place));
+                    assert_eq!([contained, count], [place as u64 + inside, all as u64 + 1]);
+                }
             }
         }
     }

@@ -12,6 +12,7 @@ pub mod laws;
 #[cfg(test)]
 mod lenient;
 pub mod lists;
+pub mod moves;
 mod one;
 pub mod reading;
 pub mod stand_in;

@@ -1,5 +1,5 @@
 //! Random lists of calls: the engine against the reference, byte for byte after every call, and both against the plain history machine at the
-//! end; then batches of the list in either order, and twice.
+//! end; then batches of the list in either order, and twice; then how far each record of a new item moved the figure of coverage.
 
 mod ending;
 mod generate;
@@ -14,9 +14,10 @@ use std::fmt;
 use inputs::{SplitMix64, number_from_environment};
 
 use crate::changing::Engine;
+use crate::reading;
 use crate::tally::{Ends, Tally};
 use crate::writing::WRITTEN;
-use ending::Ended;
+use ending::{Additions, Ended};
 use generate::Style;
 use limits::{Limits, Reached};
 use list::List;
@@ -60,6 +61,7 @@ pub struct Lists {
     ended: Ended,
     /// Lists with a pair of batches of which all four applies succeed and change the store.
     changing: usize,
+    additions: Additions,
 }
 
 impl fmt::Display for Lists {
@@ -71,12 +73,14 @@ impl fmt::Display for Lists {
             self.lists, self.middle, self.long, self.calls, self.limits
         )?;
         write!(f, "in either order × {pairs}, all taken × {taken}, in {} lists all changing; ", self.changing)?;
-        write!(f, "twice × {twice}, both taken × {twice_taken}")
+        write!(f, "twice × {twice}, both taken × {twice_taken}; ")?;
+        let Additions { by_edits, by_applies } = self.additions;
+        write!(f, "one record of a new item by an edit × {by_edits}, by an apply × {by_applies}")
     }
 }
 
 impl Lists {
-    fn add(&mut self, list: &List, limits: &Limits, ended: Ended) {
+    fn add(&mut self, list: &List, limits: &Limits, ended: Ended, additions: Additions) {
         self.lists += 1;
         self.limits.add(limits);
         self.middle += usize::from((10..=60).contains(&list.calls.len()));
@@ -87,6 +91,8 @@ impl Lists {
         self.ended.changing += ended.changing;
         self.ended.twice += ended.twice;
         self.ended.twice_taken += ended.twice_taken;
+        self.additions.by_edits += additions.by_edits;
+        self.additions.by_applies += additions.by_applies;
     }
 
     /// The error, where something that a run of many lists must have did not come up.
@@ -97,7 +103,9 @@ impl Lists {
             && self.long > self.lists / 200
             && self.ended.pairs >= 4 * self.lists
             && self.ended.twice >= 4 * self.lists
-            && self.changing > self.lists / 10;
+            && self.changing > self.lists / 10
+            && self.additions.by_edits >= 2 * self.lists
+            && self.additions.by_applies >= self.lists;
         if enough { Ok(self) } else { Err(format!("too few: {self}")) }
     }
 }
@@ -106,7 +114,7 @@ impl Lists {
 const MANY: usize = 2_000;
 
 /// Plays random lists. The error says what went wrong first, with the list made as small as possible; or what never came up.
-pub fn run(plan: &Plan, engine: &impl Engine, reference: &impl Engine) -> Result<Lists, String> {
+pub fn run(plan: &Plan, engine: &(impl Engine + reading::Engine), reference: &impl Engine) -> Result<Lists, String> {
     run_styles(plan, generate::style, engine, reference)
 }
 
@@ -114,7 +122,7 @@ pub fn run(plan: &Plan, engine: &impl Engine, reference: &impl Engine) -> Result
 fn run_styles(
     plan: &Plan,
     draw: impl Fn(&mut SplitMix64) -> Style,
-    engine: &impl Engine,
+    engine: &(impl Engine + reading::Engine),
     reference: &impl Engine,
 ) -> Result<Lists, String> {
     let mut lists = Lists::default();
@@ -123,7 +131,7 @@ fn run_styles(
         let style = draw(random);
         let list = generate::list(random, style);
         match try_list(&list, engine, reference, &mut lists.calls) {
-            Ok((limits, ended)) => lists.add(&list, &limits, ended),
+            Ok((limits, ended, additions)) => lists.add(&list, &limits, ended, additions),
             Err(error) => {
                 let again = |list: &List| try_list(list, engine, reference, &mut Tally::default()).err();
                 let (list, error) = shrink::shrink(&list, error, again);
@@ -137,17 +145,19 @@ fn run_styles(
     if plan.lists >= MANY { lists.complete() } else { Ok(lists) }
 }
 
-/// Plays one list, and looks at everything that holds after it. Gives the limits that it came to, and what was tried.
+/// Plays one list, and looks at everything that holds after it. Gives the limits that it came to, what was tried, and the
+/// records of new items that came one at a time.
 pub fn try_list(
     list: &List,
-    engine: &impl Engine,
+    engine: &(impl Engine + reading::Engine),
     reference: &impl Engine,
     calls: &mut Tally,
-) -> Result<(Limits, Ended), String> {
+) -> Result<(Limits, Ended, Additions), String> {
     let world = play::play(list, engine, reference, calls)?;
     ending::compare(list, &world)?;
     let ended = ending::in_either_order(list, &world, engine, reference)?;
-    Ok((world.limits, ended))
+    let additions = ending::one_record_more(&world, engine)?;
+    Ok((world.limits, ended, additions))
 }
 
 #[cfg(test)]

@@ -6,12 +6,15 @@ use inputs::{Batch, FIRST_ITEM, ItemId, Knowledge, LAST_ITEM, Record, Store, TOM
 
 use crate::changing::Engine;
 use crate::lenient;
+use crate::reading::{self, Found};
 use crate::stand_in::Reference;
 
 /// An edit with a tag, or a deletion.
 pub type Change = fn(&Store, &ItemId, Option<[u8; 16]>) -> Result<Store, u32>;
 pub type Make = fn(&Store, &Knowledge, &ItemId, &ItemId) -> Result<Batch, u32>;
 pub type Apply = fn(&Store, &Batch) -> Result<Store, u32>;
+/// The third number of a coverage, from all three.
+pub type Figure = fn([u64; 3]) -> u64;
 
 /// An engine that is right where no other way is given.
 #[derive(Default)]
@@ -22,6 +25,7 @@ pub struct Wrong {
     pub change: Option<Change>,
     pub make: Option<Make>,
     pub apply: Option<Apply>,
+    pub figure: Option<Figure>,
     /// The number that it gives instead of the right one, by call, arguments and length of the buffer.
     pub number: Option<fn(&str, &[&[u8]], usize, u32) -> u32>,
     /// A refusal on which it writes a byte, and one on which it sets the length.
@@ -148,6 +152,44 @@ impl Engine for Wrong {
         self.give("apply", &[store, batch], result, out, written)
     }
 }
+
+impl reading::Engine for Wrong {
+    fn winner(&self, store: &[u8], batch: &[u8], item: &[u8], value: &mut Found) -> u32 {
+        Reference.winner(store, batch, item, value)
+    }
+
+    fn learned(&self, batch: &[u8], value: &mut [u64; 2]) -> u32 {
+        Reference.learned(batch, value)
+    }
+
+    fn coverage(&self, store: &[u8], knowledge: &[u8], value: &mut [u64; 3]) -> u32 {
+        let number = Reference.coverage(store, knowledge, value);
+        if let (0, Some(figure)) = (number, self.figure) {
+            value[2] = figure(*value);
+        }
+        number
+    }
+
+    fn knowledge(&self, store: &[u8], value: &mut [u64; 2]) -> u32 {
+        Reference.knowledge(store, value)
+    }
+
+    fn walk(&self, table: &[u8], at: u64, length: &mut u64) -> u32 {
+        Reference.walk(table, at, length)
+    }
+}
+
+/// Figures that one record moves too far, or never far enough.
+pub const FIGURES: [(&str, Figure); 5] = [
+    ("twice the part", |[_, _, figure]| 2 * figure),
+    ("in whole per cents", |[_, _, figure]| (figure + 5) / 10 * 10),
+    (
+        "nothing said of one record of 16",
+        |[contained, all, figure]| if (contained, all) == (1, 16) { 0 } else { figure },
+    ),
+    ("always a half", |_| 500),
+    ("rounded down", |[contained, all, _]| (1000 * contained).checked_div(all).unwrap_or(1000)),
+];
 
 /// A right change.
 pub fn changed(store: &Store, item: &ItemId, tag: Option<[u8; 16]>) -> Result<Store, u32> {

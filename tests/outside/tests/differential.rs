@@ -64,6 +64,17 @@ fn engine_reference_and_slow_model_agree_on_every_share_of_a_store() {
 }
 
 #[test]
+fn one_record_of_a_new_item_moves_coverage_by_no_more_than_the_bound() {
+    match outside::moves::every_pair(&engine::Linked) {
+        Ok(seen) => {
+            println!("{} pairs of stores, the bound met for {} counts of records", seen.pairs, seen.met);
+            assert_eq!((seen.pairs, seen.met), (65_792, 182));
+        }
+        Err(error) => panic!("{error}"),
+    }
+}
+
+#[test]
 fn engine_and_reference_agree_on_the_calls_that_write_stores() {
     let plan = Plan::from_environment().on_stores();
     println!("{} calls that write stores and batches from seed {}", plan.inputs, plan.seed);

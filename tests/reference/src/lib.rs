@@ -30,4 +30,4 @@ pub use exchange::{apply, make};
 pub use knowledge::{Sizes, check};
 pub use lookup::{contain, lead};
 pub use operations::{merge, normalise, project};
-pub use parts::{Coverage, Winner, coverage, knowledge, learned, walk, winner};
+pub use parts::{Coverage, Winner, coverage, knowledge, largest_jump, learned, walk, winner};

@@ -82,3 +82,8 @@ pub fn coverage(store: &[u8], knowledge: &[u8]) -> Result<Coverage, u32> {
     let thousandths = (1000 * contained + all / 2).checked_div(all).unwrap_or(1000);
     Ok(Coverage { contained, all, thousandths })
 }
+
+/// How far one record of a new item moves the thousandths at most, with so many records before and the same knowledge.
+pub fn largest_jump(records: usize) -> u64 {
+    1000usize.div_ceil(records + 1) as u64
+}

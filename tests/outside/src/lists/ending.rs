@@ -1,13 +1,16 @@
-//! What is looked at after a list of calls: each replica against the history machine, and batches applied in either order and twice.
+//! What is looked at after a list of calls: each replica against the history machine, batches applied in either order and twice, and how
+//! far each record of a new item moved the figure of coverage.
 
 use std::collections::BTreeSet;
 
-use inputs::{LIVE, Record, SplitMix64, Store, TOMBSTONE, item_before, next_item};
+use inputs::{Knowledge, LIVE, Record, SplitMix64, Store, TOMBSTONE, item_before, next_item};
 
 use super::list::List;
 use super::machine::Made;
-use super::play::{World, Written, written};
+use super::play::{World, Written, parts_of, written};
 use crate::changing::Engine;
+use crate::moves;
+use crate::reading;
 
 /// So many pairs of batches are tried after each list, and as many batches twice.
 const PAIRS: usize = 4;
@@ -124,4 +127,42 @@ pub fn in_either_order(
         }
     }
     Ok(ended)
+}
+
+/// How often a call of a list added one record of a new item and changed no other.
+#[derive(Clone, Copy, Debug, Default)]
+pub struct Additions {
+    pub by_edits: usize,
+    pub by_applies: usize,
+}
+
+/// The record that the second store has more than the first; none where that is not all that differs in their records.
+fn one_more<'a>(before: &'a [u8], after: &'a [u8]) -> Option<&'a [u8]> {
+    let [[_, before], [_, after]] = [parts_of(before), parts_of(after)];
+    let pairs = before.chunks(Record::LENGTH).zip(after.chunks(Record::LENGTH));
+    let (same, rest) = after.split_at(Record::LENGTH * pairs.take_while(|(one, other)| one == other).count());
+    let (new, rest) = rest.split_at_checked(Record::LENGTH)?;
+    (rest == &before[same.len()..]).then_some(new)
+}
+
+/// Wherever a call added one record of a new item and changed no other: the figure of coverage before and after it, for three
+/// knowledges. These are what the replica knew before, what another one knew, and nothing.
+pub fn one_record_more(world: &World, engine: &impl reading::Engine) -> Result<Additions, String> {
+    let nothing = Knowledge::smallest().bytes();
+    let mut additions = Additions::default();
+    for (replica, stores) in world.stores.iter().enumerate() {
+        let others = &world.stores[(replica + 1) % world.stores.len()];
+        for (place, pair) in stores.windows(2).enumerate() {
+            let [before, after] = [&pair[0][..], &pair[1]];
+            let Some(new) = one_more(before, after) else { continue };
+            let ([own, table], [other, _]) = (parts_of(before), parts_of(&others[place.min(others.len() - 1)]));
+            for knowledge in [own, other, &nothing] {
+                moves::moved(engine, [before, after], table.len() / Record::LENGTH, knowledge)
+                    .map_err(|error| format!("store {place} of replica {replica} and the next: {error}"))?;
+            }
+            let edited = Record::decoded(new).change.0 == before[1..17];
+            *(if edited { &mut additions.by_edits } else { &mut additions.by_applies }) += 1;
+        }
+    }
+    Ok(additions)
 }

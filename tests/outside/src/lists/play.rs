@@ -36,7 +36,7 @@ impl World {
             Given::Of(replica, ago) => {
                 let stores = &self.stores[*replica];
                 let store = &stores[stores.len() - 1 - (*ago).min(stores.len() - 1)];
-                Some(part(store, Store::HEADER, number(store, 17)))
+                Some(parts_of(store)[0].to_vec())
             }
             Given::Learned(batch) => {
                 let batch = self.batches.get(batch)?;
@@ -49,6 +49,11 @@ impl World {
 
 fn number(bytes: &[u8], at: usize) -> usize {
     u32::from_be_bytes(bytes[at..at + 4].try_into().expect("four bytes")) as usize
+}
+
+/// A store's own knowledge and its table of records.
+pub fn parts_of(store: &[u8]) -> [&[u8]; 2] {
+    store[Store::HEADER..].split_at(number(store, 17)).into()
 }
 
 fn part(bytes: &[u8], at: usize, length: usize) -> Vec<u8> {

@@ -6,7 +6,7 @@ use super::generate::Limit;
 use super::list::{Call, Given};
 use super::*;
 use crate::stand_in::Reference;
-use crate::wrong::{APPLIES, Apply, CHANGES, Change, MAKES, Wrong, changed};
+use crate::wrong::{APPLIES, Apply, CHANGES, Change, FIGURES, MAKES, Wrong, changed};
 
 const PLAN: Plan = Plan { lists: 400, ..Plan::USUAL };
 
@@ -64,8 +64,9 @@ fn a_list_is_printed_as_it_is_written_here() {
 #[test]
 fn a_list_that_is_pasted_here_can_be_played() {
     let mut calls = Tally::default();
-    let (_, ended) = try_list(&k12().0, &Reference, &Reference, &mut calls).unwrap();
+    let (_, ended, additions) = try_list(&k12().0, &Reference, &Reference, &mut calls).unwrap();
     assert_eq!((ended.pairs, ended.twice), (4, 4));
+    assert_eq!((additions.by_edits, additions.by_applies), (2, 2));
     let text = calls.to_string();
     assert_eq!(
         text,
@@ -109,6 +110,15 @@ fn the_machine_notices_engines_that_make_in_another_way() {
 fn the_machine_notices_engines_that_apply_in_another_way() {
     for (name, apply) in APPLIES.into_iter().filter(|(name, _)| !RIGHT_IN_LISTS.contains(name)) {
         noticed_alone(name, &Wrong { apply: Some(apply), ..Wrong::default() });
+    }
+}
+
+#[test]
+fn figures_that_one_record_moves_too_far_are_noticed() {
+    for (name, figure) in FIGURES.into_iter().filter(|(name, _)| !["always a half", "rounded down"].contains(name)) {
+        let wrong = Wrong { figure: Some(figure), ..Wrong::default() };
+        let error = run(&PLAN, &wrong, &Reference).map(|lists| lists.to_string()).expect_err(name);
+        assert!(error.contains("moves the figure"), "{name}: {error}");
     }
 }
 
