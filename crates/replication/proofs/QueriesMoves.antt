@@ -7,7 +7,7 @@
 -- table after is the one before with the record put in; the count contained grows by 0 or 1, and the count of records by 1.
 use Prim.Native.Nat.{ℕ, zero, suc, _+_, _*_, _/_, _≤_, _<_}
 use mathlib.Core.Path.{_≡_, refl, sym, ap, ap₂, _∙_, subst}
-use mathlib.Core.Logic.{inr, ⊎-elim, _↔_}
+use mathlib.Core.Logic.{inl, inr, ⊎-elim, _↔_}
 use mathlib.Core.Bool.{Bool, true, false}
 use mathlib.Core.List.{List, [], _∷_}
 use mathlib.Core.Option.{Option, none, some}
@@ -29,18 +29,23 @@ use Rattle.replication.specs.Formats.{find, items, Store, encodeStore}
 use Rattle.replication.specs.Valid.{LawfulStore}
 use Rattle.replication.specs.BatchFormat.{Batch}
 use Rattle.replication.specs.Operate.{replace}
+use Rattle.replication.specs.Machine.{later}
 use Rattle.replication.specs.OpenStore.{openStore}
 use Rattle.replication.specs.OpenBatch.{openBatch}
 use Rattle.replication.specs.Calls.{editReply, applyReply}
 use Rattle.replication.specs.Queries.{countIn, thousandths, coverageThousandths, coverageAnswer}
-use Rattle.replication.specs.Jump.{jump, MovesAtMost, Adds, figure, FigureMoves, CoverageMoves}
+use Rattle.replication.specs.Jump.{jump, MovesAtMost, Adds, OneNew, figure, FigureMoves, CoverageMoves}
 use Rattle.replication.proofs.Tables.{find-here, find-there, not-found, tables-equal}
-use Rattle.replication.proofs.Tables.{replace-nil, replace-after, replace-before, replace-rising, find-replace-same, find-replace-other}
+use Rattle.replication.proofs.Tables.{replace-nil, replace-after, replace-before, replace-length-new, replace-rising}
+use Rattle.replication.proofs.Tables.{find-replace-same, find-replace-other}
 use Rattle.replication.proofs.Arguments.{same?}
 use Rattle.replication.proofs.StoreBytes.{store-bytes}
 use Rattle.replication.proofs.ContentsValid.{store-exact}
 use Rattle.replication.proofs.ContentsEdit.{Changes, edit-writes}
-use Rattle.replication.proofs.ContentsApply.{Applies, apply-writes}
+use Rattle.replication.proofs.ContentsApply.{Greater, NotLess, Applies, apply-writes}
+use Rattle.replication.proofs.Best.{AtMost, later-false}
+use Rattle.replication.proofs.MachineGreatest.{wins-later}
+use Rattle.replication.proofs.QueriesWinner.{wins-no}
 use Rattle.replication.proofs.QueriesCoverage.{counted, count-nil, count-in, count-out, coverage-found}
 use Rattle.replication.proofs.QueriesCoverage.{thousandths-none, thousandths-low, thousandths-high}
 use Rattle.replication.proofs.QueriesNearest.{figure-rises, distance, thousandths-most, counts-most}
@@ -127,20 +132,17 @@ count-front k r rs = go (contains k (r .item) (r .changeReplica) (r .changeTick)
     go true e = omega (arith, count-nil k, count-in k r rs e, count-in k r [] e)
     go false e = omega (arith, count-nil k, count-out k r rs e, count-out k r [] e)
 
--- a record of a new item put in its place: one record more, which is counted or not
-module _ (k : Knowledge) (r : Rec) where
-  put-in : (xs : List Rec) → find (r .item) xs ≡ none
-      → (countIn k (replace r xs) ≡ countIn k xs + countIn k (r ∷ [])) × (length (replace r xs) ≡ suc (length xs))
-  put-in [] new = rw (replace-nil r) (omega (arith, count-nil k), refl)
-  put-in (x ∷ xs) new =
-      elim (order (x .item) (r .item)) [
-        | less l ↦
-            let later : find (r .item) xs ≡ none = sym (find-there (r .item) x xs (omega arith)) ∙ new in
-            let rest = put-in xs later in
-            rw (replace-after r x xs l) (omega (arith, rest .0, count-front k x xs, count-front k x (replace r xs)), ap suc (rest .1))
-        | same l ↦ not-found x (sym new ∙ find-here (r .item) x xs l)
-        | more l ↦ rw (replace-before r x xs l) (count-front k r (x ∷ xs), refl)
-      ]
+-- a record of a new item put in its place is counted or not, beside what was
+put-in : (k : Knowledge) (r : Rec) (xs : List Rec) → find (r .item) xs ≡ none → countIn k (replace r xs) ≡ countIn k xs + countIn k (r ∷ [])
+put-in k r [] new = rw (replace-nil r) (omega (arith, count-nil k))
+put-in k r (x ∷ xs) new =
+    elim (order (x .item) (r .item)) [
+      | less l ↦
+          let later : find (r .item) xs ≡ none = sym (find-there (r .item) x xs (omega arith)) ∙ new in
+          rw (replace-after r x xs l) (omega (arith, put-in k r xs later, count-front k x xs, count-front k x (replace r xs)))
+      | same l ↦ not-found x (sym new ∙ find-here (r .item) x xs l)
+      | more l ↦ rw (replace-before r x xs l) (count-front k r (x ∷ xs))
+    ]
 
 -- of two rising tables, that the record is added says just this: it is of a new item, and in its place the first becomes the second
 module _ (r : Rec) (before after : List Rec) (rising : Rising 0 (items before)) (later : Rising 0 (items after)) where
@@ -186,24 +188,67 @@ edit-adds L st content item bs w absent =
       others = λ j n. w .otherRecords j (λ e. n (e ∙ sym i));
     }
 
-apply-adds : (L : Limits) (st : Store) (b : Batch) (bs : List ℕ) (w : Applies L st b bs) (r : Rec)
-    → find (r .item) (st .records) ≡ none → find (r .item) (b .records) ≡ some r
-    → ((i : ℕ) (x : Rec) → (i ≡ r .item → ⊥) → find i (b .records) ≡ some x → find i (st .records) ≡ some x)
-    → Adds r (st .records) (w .store .records)
-apply-adds L st b bs w r absent there had =
-    record {
-      new = absent;
-      there = w .batchOnly (r .item) r absent there;
-      others = λ i n. other i n (find i (b .records)) refl (find i (st .records)) refl;
-    }
-  where
-    other : (i : ℕ) → (i ≡ r .item → ⊥) → (y : Option Rec) → find i (b .records) ≡ y
-        → (x : Option Rec) → find i (st .records) ≡ x → find i (w .store .records) ≡ find i (st .records)
-    other i n none f none e = w .neither i e f ∙ sym e
-    other i n none f (some x) e = w .storeOnly i x e f ∙ sym e
-    other i n (some y) f x e =
-        let h = had i y n f in
-        w .storeWins i y y h f (inr (refl, omega arith)) ∙ sym h
+-- a record of no greater version does not win
+not-less : (x y : Rec) → AtMost y x → NotLess x y
+not-less x y m =
+    elim (order (y .changeTick) (x .changeTick)) [
+      | less h ↦ inl h
+      | same h ↦ inr (sym h, m .rep h)
+      | more h ↦ absurd (omega (arith, h, m .tick))
+    ]
+
+-- of an apply that writes: that the batch brings one new record says just that the table after has it more and no other change
+module _ (L : Limits) (st : Store) (b : Batch) (bs : List ℕ) (w : Applies L st b bs) (r : Rec) where
+  apply-adds : OneNew r (st .records) (b .records) → Adds r (st .records) (w .store .records)
+  apply-adds o =
+      record {
+        new = o .absent;
+        there = w .batchOnly (r .item) r (o .absent) (o .carried);
+        others = λ i n. other i n (find i (b .records)) refl (find i (st .records)) refl;
+      }
+    where
+      other : (i : ℕ) → (i ≡ r .item → ⊥) → (y : Option Rec) → find i (b .records) ≡ y
+          → (x : Option Rec) → find i (st .records) ≡ x → find i (w .store .records) ≡ find i (st .records)
+      other i n none f none e = w .neither i e f ∙ sym e
+      other i n none f (some x) e = w .storeOnly i x e f ∙ sym e
+      other i n (some y) f x e =
+          let z = o .stay i y n f in
+          w .storeWins i (z .0) y (z .1 .0) f (not-less (z .0) y (later-false (z .0) y (z .1 .1))) ∙ sym (z .1 .0)
+
+  adds-applied : Adds r (st .records) (w .store .records) → OneNew r (st .records) (b .records)
+  adds-applied a =
+      record {
+        absent = gone;
+        carried = brought (find (r .item) (b .records)) refl;
+        stay = λ i y n f. stays i y (find i (st .records)) refl f (a .others i n);
+      }
+    where
+      gone : find (r .item) (st .records) ≡ none
+      gone = a .new
+
+      brought : (y : Option Rec) → find (r .item) (b .records) ≡ y → find (r .item) (b .records) ≡ some r
+      brought none f = not-found r (sym (w .neither (r .item) gone f) ∙ a .there)
+      brought (some y) f = f ∙ (sym (w .batchOnly (r .item) y gone f) ∙ a .there)
+
+      -- where the batch's record wins, it is there afterwards in place of the store's
+      loses : (i : ℕ) (x y : Rec) → find i (st .records) ≡ some x → find i (b .records) ≡ some y
+          → find i (w .store .records) ≡ some x → Greater x y → ⊥
+      loses i x y e f kept g =
+          let z : some y ≡ some x = sym (w .batchWins i x y e f g) ∙ kept in
+          let d : y ≡ x = cc in
+          let t : y .changeTick ≡ x .changeTick = ap (λ (v : Rec). v .changeTick) d in
+          let p : y .changeReplica ≡ x .changeReplica = ap (λ (v : Rec). v .changeReplica) d in
+          ⊎-elim
+          (λ (h : x .changeTick < y .changeTick). omega (arith, t, h))
+          (λ (h : (x .changeTick ≡ y .changeTick) × (x .changeReplica < y .changeReplica)). omega (arith, p, h .1)) g
+
+      stays : (i : ℕ) (y : Rec) (x : Option Rec) → find i (st .records) ≡ x → find i (b .records) ≡ some y
+          → find i (w .store .records) ≡ find i (st .records) → (x : Rec) × ((find i (st .records) ≡ some x) × (later x y ≡ false))
+      stays i y none e f kept = not-found y (sym (kept ∙ e) ∙ w .batchOnly i y e f)
+      stays i y (some x) e f kept = (x, (e, sym (wins-later x y) ∙ wins-no x y (loses i x y e f (kept ∙ e))))
+
+  pub one-new-exact : OneNew r (st .records) (b .records) ↔ Adds r (st .records) (w .store .records)
+  one-new-exact = (apply-adds, adds-applied)
 
 -- ---- the statement
 
@@ -217,10 +262,11 @@ module _ (R : Rules) (permitted : Permitted (R .limits)) where
       let c = countIn k (before .records) in
       let n = length (before .records) in
       let x = countIn k (r ∷ []) in
+      let absent = a .new in
       let e = added-is r (before .records) (after .records) rising later a in
-      let put = put-in k r (before .records) (a .new) in
       let is : thousandths (countIn k (after .records)) (length (after .records)) ≡ thousandths (c + x) (suc n) =
-      ap₂ thousandths (ap (countIn k) e ∙ put .0) (ap length e ∙ put .1) in
+      ap₂ thousandths (ap (countIn k) e ∙ put-in k r (before .records) absent)
+      (ap length e ∙ replace-length-new r (before .records) absent) in
       let m = thousandths-moves c n x (counts-most (counted k (before .records))) (counts-most (counted k (r ∷ []))) in
       rw (figure-is R s t before k o p 0, figure-is R u t after k v p 0, is) m
 
@@ -239,10 +285,9 @@ module _ (R : Rules) (permitted : Permitted (R .limits)) where
         edited = λ s item b u t before k bytes bytesI bytesB o absent g p.
             let w = edit-writes (R .limits) s item b u before permitted bytes bytesI bytesB o g in
             written-moves s u t before (w .store) k (w .new) bytes (w .bytes) (w .valid) o p (edit-adds (R .limits) before _ _ u w absent);
-        applied = λ s batch u t before b k r bytes bytesB o q absent there had g p.
+        applied = λ s batch u t before b k r bytes bytesB o q one g p.
             let w = apply-writes (R .limits) s batch u before b permitted bytes bytesB o q g in
-            written-moves s u t before (w .store) k r bytes (w .bytes) (w .valid) o p
-            (apply-adds (R .limits) before b u w r absent there had);
+            written-moves s u t before (w .store) k r bytes (w .bytes) (w .valid) o p (apply-adds (R .limits) before b u w r one);
       }
 
 -- under document 01's limits
@@ -272,11 +317,9 @@ module _ (R : Rules) (m : CoverageMoves R) (s u t : List ℕ) (before : Store) (
       moves-distance _ _ _ .0 (m .edited s item b u t before k bytes bytesI bytesB o absent g p)
 
   pub applied-distance : (batch : List ℕ) (b : Batch) (r : Rec) → Bytes batch → openBatch (R .limits) batch ≡ accepted b
-      → find (r .item) (before .records) ≡ none → find (r .item) (b .records) ≡ some r
-      → ((i : ℕ) (x : Rec) → (i ≡ r .item → ⊥) → find i (b .records) ≡ some x → find i (before .records) ≡ some x)
-      → applyReply (R .limits) s batch ≡ gives u → Near
-  applied-distance batch b r bytesB q absent there had g =
-      moves-distance _ _ _ .0 (m .applied s batch u t before b k r bytes bytesB o q absent there had g p)
+      → OneNew r (before .records) (b .records) → applyReply (R .limits) s batch ≡ gives u → Near
+  applied-distance batch b r bytesB q one g =
+      moves-distance _ _ _ .0 (m .applied s batch u t before b k r bytes bytesB o q one g p)
 
 -- ---- computed: the bound for a few counts, and counts with which it is met
 pub jumps : (jump 0 ≡ 1000) × ((jump 1 ≡ 500) × ((jump 2 ≡ 334) × ((jump 3 ≡ 250) × ((jump 19 ≡ 50) × (jump 255 ≡ 4)))))

@@ -279,7 +279,7 @@ wins-stays x y e h =
       wins,
     )
 
-wins-no : (x y : Rec) → (Beats x y → ⊥) → wins x y ≡ false
+pub wins-no : (x y : Rec) → (Beats x y → ⊥) → wins x y ≡ false
 wins-no x y h =
     elim (order (x .changeTick) (y .changeTick)) [
       | less k ↦ absurd (h (inl k))

@@ -4,7 +4,7 @@
 -- a store. So for a valid store edit gives 11 exactly where its own tick is 0 and the map is full, 13 exactly where the
 -- item has no record and the table is full, and never 12; delete gives neither 12 nor 13; make gives neither 11 nor 13.
 use Prim.Native.Nat.{ℕ, zero, suc, _+_, _≤_, _<_}
-use mathlib.Core.Path.{_≡_, refl, sym, ap, _∙_}
+use mathlib.Core.Path.{_≡_, refl, ap, _∙_}
 use mathlib.Core.Logic.{_⊎_, inl, inr, ⊎-elim, _↔_}
 use mathlib.Core.List.{List, [], _∷_}
 use mathlib.Core.Option.{Option, none, some}
@@ -26,8 +26,8 @@ use Rattle.replication.specs.Record.{Rec, Content}
 use Rattle.replication.specs.Calls.{RightBrought, editReply, deleteReply, makeReply, tombstone, liveContent}
 use Rattle.replication.specs.Formats.{Store, items, find}
 use Rattle.replication.specs.OpenStore.{versionsIn, openStore}
-use Rattle.replication.specs.Operate.{replace, nextTick, changedRec, changed, made}
-use Rattle.replication.proofs.Tables.{find-here, find-there, replace-nil, replace-after, replace-before, replace-length-found, valid-recs}
+use Rattle.replication.specs.Operate.{nextTick, changedRec, changed, made}
+use Rattle.replication.proofs.Tables.{replace-length-new, replace-length-found, valid-recs}
 use Rattle.replication.proofs.TablesSelected.{selected-length}
 use Rattle.replication.proofs.StoreBytes.{ValidStore, valid-store, store-opened}
 use Rattle.replication.proofs.RefusalsTests.{Present, Unexhausted, opened-lawful}
@@ -68,23 +68,6 @@ raise-new q t k n one out =
     there p (inr m) =
         let w = replicas-are k p (n .formed) (n .used) .0 m in
         known-there (w .0) p (w .1 .0) (omega (arith, w .1 .1, known-raise-other q t k (w .0) p (w .1 .0) (λ (e : p ≡ q). out (rw (← e) m))))
-
--- ---- records
-
--- a record of an item that the table lacks makes it longer
-replace-length-new : (r : Rec) (xs : List Rec) → find (r .item) xs ≡ none → length (replace r xs) ≡ suc (length xs)
-replace-length-new r [] f = rw replace-nil
-replace-length-new r (x ∷ xs) f =
-    elim (order (x .item) (r .item)) [
-      | less k ↦
-          let g : find (r .item) xs ≡ none = sym (find-there (r .item) x xs (omega arith)) ∙ f in
-          rw (replace-after r x xs k) (omega (arith, replace-length-new r xs g))
-      | same k ↦
-          let h : find (r .item) (x ∷ xs) ≡ some x = find-here (r .item) x xs k in
-          let z : _≡_ {A = ℕ} 0 1 = cc in
-          absurd (omega arith)
-      | more k ↦ rw (replace-before r x xs k)
-    ]
 
 -- ---- a changed store
 

@@ -272,6 +272,18 @@ replace-length-found r lo (x ∷ xs) y p f =
           absurd (omega arith)
     ]
 
+-- where the table has none, it is one longer
+pub replace-length-new : (r : Rec) (xs : List Rec) → find (r .item) xs ≡ none → length (replace r xs) ≡ suc (length xs)
+replace-length-new r [] f = rw replace-nil
+replace-length-new r (x ∷ xs) f =
+    elim (order (x .item) (r .item)) [
+      | less k ↦
+          let g : find (r .item) xs ≡ none = sym (find-there (r .item) x xs (omega arith)) ∙ f in
+          rw (replace-after r x xs k) (omega (arith, replace-length-new r xs g))
+      | same k ↦ not-found x (sym f ∙ find-here (r .item) x xs k)
+      | more k ↦ rw (replace-before r x xs k)
+    ]
+
 pub all-replace : (P : Rec → Type 0) (r : Rec) (xs : List Rec) → P r → All P xs → All P (replace r xs)
 all-replace P r [] h a = rw replace-nil (h, tt)
 all-replace P r (x ∷ xs) h a =

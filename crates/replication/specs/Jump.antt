@@ -1,5 +1,5 @@
 -- How far one record of a new item moves the figure of coverage. Document 02, paper 14.
-use Rattle.codec.specs.Prelude.{ℕ, suc, _+_, _/_, _≤_, _≡_, List, none, some, length}
+use Rattle.codec.specs.Prelude.{ℕ, suc, _+_, _/_, _≤_, _≡_, false, List, none, some, length}
 use Rattle.codec.specs.Number.{Bytes, beAt}
 use Rattle.codec.specs.Parsed.{accepted}
 use Rattle.codec.specs.Reply.{gives}
@@ -9,6 +9,7 @@ use Rattle.replication.specs.Record.{Rec}
 use Rattle.replication.specs.Call.{Brought, BytesBrought}
 use Rattle.replication.specs.Formats.{find, Store}
 use Rattle.replication.specs.BatchFormat.{Batch}
+use Rattle.replication.specs.Machine.{later}
 use Rattle.replication.specs.OpenStore.{openStore}
 use Rattle.replication.specs.OpenBatch.{openBatch}
 use Rattle.replication.specs.Calls.{editReply, applyReply}
@@ -28,6 +29,14 @@ pub record Adds (r : Rec) (before after : List Rec) : Type 0 where
   pub new : find (r .item) before ≡ none
   pub there : find (r .item) after ≡ some r
   pub others : (i : ℕ) → (i ≡ r .item → ⊥) → find i after ≡ find i before
+
+-- a batch brings one record of a new item: the item had none and the batch has this one; of every other item that the batch has, the
+-- store has a record already, and the batch's is not of a greater version
+pub record OneNew (r : Rec) (before brought : List Rec) : Type 0 where
+  pub absent : find (r .item) before ≡ none
+  pub carried : find (r .item) brought ≡ some r
+  pub stay : (i : ℕ) (y : Rec) → (i ≡ r .item → ⊥) → find i brought ≡ some y
+      → (x : Rec) × ((find i before ≡ some x) × (later x y ≡ false))
 
 -- "the figure" of a store and a compared knowledge: the third number of coverage. The 0 is the value before the call, which only a
 -- refusal would leave
@@ -49,10 +58,8 @@ pub record CoverageMoves (R : Rules) : Type 0 where
       → openStore (R .limits) s ≡ accepted before → find (beAt item 24 0) (before .records) ≡ none
       → editReply (R .limits) s item b ≡ gives u → parse R t ≡ accepted k
       → FigureMoves R (length (before .records)) s u t
-  -- an apply of a batch that has one record of an item without one, and beside it only records that the store has
+  -- an apply of a batch that brings one such record
   pub applied : (s batch u t : List ℕ) (before : Store) (b : Batch) (k : Knowledge) (r : Rec) → Bytes s → Bytes batch
       → openStore (R .limits) s ≡ accepted before → openBatch (R .limits) batch ≡ accepted b
-      → find (r .item) (before .records) ≡ none → find (r .item) (b .records) ≡ some r
-      → ((i : ℕ) (x : Rec) → (i ≡ r .item → ⊥) → find i (b .records) ≡ some x → find i (before .records) ≡ some x)
-      → applyReply (R .limits) s batch ≡ gives u → parse R t ≡ accepted k
+      → OneNew r (before .records) (b .records) → applyReply (R .limits) s batch ≡ gives u → parse R t ≡ accepted k
       → FigureMoves R (length (before .records)) s u t
