@@ -69,7 +69,7 @@ greater-joined (some x) (some y) = refl
 -- ---- the store after an apply
 
 module _ (L : Limits) (s t bs : List ℕ) (vs : List Rec) (k : Ticks) (p : ℕ) (b : Remembered) (f : StoreFollows L s vs k p) (g : BatchFollows L t vs b) (apart : Apart vs) (covered : covers (f .st .knowledge) (g .b .needed) (g .b .first) (g .b .last) ≡ true) where
-  new-ticks : (i q : ℕ) → i ≤ highest → known (merge (f .st .knowledge) (g .b .learned)) i q ≡ learns b k i q
+  pub new-ticks : (i q : ℕ) → i ≤ highest → known (merge (f .st .knowledge) (g .b .learned)) i q ≡ learns b k i q
   new-ticks i q h =
       known-merge (f .st .knowledge) (g .b .learned) i q h
       ∙ elim (whereIs (g .b .first) (g .b .last) i) [
@@ -142,7 +142,7 @@ module _ (L : Limits) (s t bs : List ℕ) (vs : List Rec) (k : Ticks) (p : ℕ) 
           ∙ (joined-left (greatest vs k i)
           ∙ sym (greatest-covered vs apart k (b .ticks) (learns b k) i larger y e (store-holds i y a c at-item h)))
 
-  new-records : (i : ℕ) → find i (join (f .st .records) (g .b .records)) ≡ greatest vs (learns b k) i
+  pub new-records : (i : ℕ) → find i (join (f .st .records) (g .b .records)) ≡ greatest vs (learns b k) i
   new-records i =
       find-join 0 i (f .st .records) (g .b .records) (f .valid .rising) (g .valid .rising)
       ∙ (ap (λ (o : Option Rec). joined o (find i (g .b .records))) (f .records i)

@@ -13,7 +13,7 @@ use mathlib.Core.Option.{Option, none, some}
 use native.Mathlib.Omega.{arith}
 use lib.Dec.{leb, ltb}
 use borrow.Author.Tests.{leb-true, leb-false, ltb-true, ltb-false}
-use Rattle.layout.specs.Knowledge.{Rules, basic, Knowledge, All, Limits}
+use Rattle.layout.specs.Knowledge.{Rules, basic, Knowledge, All, Rising, Limits}
 use Rattle.layout.specs.Permitted.{Permitted}
 use Rattle.layout.proofs.Exact.{base-permitted}
 use Rattle.ticks.specs.Meaning.{highest, known}
@@ -21,7 +21,7 @@ use Rattle.ticks.specs.Calls.{idOf, wrongLength}
 use Rattle.ticks.proofs.Answers.{length-exact}
 use Rattle.ticks.proofs.ForCalls.{id-is}
 use Rattle.ticks.proofs.ForCover.{covers-for-exact}
-use Rattle.replication.specs.Formats.{Store, newStore, encodeStore, find}
+use Rattle.replication.specs.Formats.{Store, newStore, encodeStore, items, find}
 use Rattle.replication.specs.BatchFormat.{Batch}
 use Rattle.codec.specs.Number.{Bytes, put}
 use Rattle.codec.specs.Reply.{gives, refuses}
@@ -132,22 +132,27 @@ batch-one L s a b permitted x y =
     accepted-same a b
     (sym (batch-exact L s a permitted octets .1 (x .bytes, x .valid)) ∙ batch-exact L s b permitted octets .1 (y .bytes, y .valid))
 
--- valid tables with the same records up to the top id are the same
-pub records-equal : (L : Limits) (a b : Store) → LawfulStore L a → LawfulStore L b → ((i : ℕ) → i ≤ highest → find i (a .records) ≡ find i (b .records)) → a .records ≡ b .records
-records-equal L a b v w same = tables-equal 0 (a .records) (b .records) (v .rising) (w .rising) (λ i. go i (leb i highest) refl)
+-- tables of lawful records with the same records up to the top id are the same
+pub tables-same : (a b : List Rec) → Rising 0 (items a) → Rising 0 (items b) → All LawfulRec a → All LawfulRec b
+    → ((i : ℕ) → i ≤ highest → find i a ≡ find i b) → a ≡ b
+tables-same a b risesA risesB lawfulA lawfulB same = tables-equal 0 a b risesA risesB (λ i. go i (leb i highest) refl)
   where
-    beyond : (st : Store) → LawfulStore L st → (i : ℕ) → highest < i → find i (st .records) ≡ none
-    beyond st v i h = by-case (find i (st .records)) refl
+    beyond : (rs : List Rec) → All LawfulRec rs → (i : ℕ) → highest < i → find i rs ≡ none
+    beyond rs lawful i h = by-case (find i rs) refl
       where
-        by-case : (o : Option Rec) → find i (st .records) ≡ o → find i (st .records) ≡ none
+        by-case : (o : Option Rec) → find i rs ≡ o → find i rs ≡ none
         by-case none e = e
         by-case (some r) e =
-            let l = find-all LawfulRec i (st .records) r (v .records) e in
-            absurd (omega (arith, h, find-item i (st .records) r e, below-top (r .item) (l .item)))
+            let l = find-all LawfulRec i rs r lawful e in
+            absurd (omega (arith, h, find-item i rs r e, below-top (r .item) (l .item)))
 
-    go : (i : ℕ) (t : Bool) → leb i highest ≡ t → find i (a .records) ≡ find i (b .records)
+    go : (i : ℕ) (t : Bool) → leb i highest ≡ t → find i a ≡ find i b
     go i true e = same i (leb-true i highest e)
-    go i false e = beyond a v i (leb-false i highest e) ∙ sym (beyond b w i (leb-false i highest e))
+    go i false e = beyond a lawfulA i (leb-false i highest e) ∙ sym (beyond b lawfulB i (leb-false i highest e))
+
+-- so are valid ones
+pub records-equal : (L : Limits) (a b : Store) → LawfulStore L a → LawfulStore L b → ((i : ℕ) → i ≤ highest → find i (a .records) ≡ find i (b .records)) → a .records ≡ b .records
+records-equal L a b v w same = tables-same (a .records) (b .records) (v .rising) (w .rising) (v .records) (w .records) same
 
 module _ (R : Rules) (permitted : Permitted (R .limits)) (w : World) (m : State) (f : Follows (R .limits) w m) where
   pub agree : (p : ℕ) → p < 256 ^ 16 → Agrees (R .limits) (w .stores p) m p

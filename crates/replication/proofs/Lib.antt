@@ -55,6 +55,12 @@ pub mod RefusalsJoin
 pub mod RefusalsSettled
 pub mod Runner
 pub mod RunnerSettled
+pub mod RoundMoments
+pub mod RoundPremises
+pub mod RoundCalls
+pub mod OneRound
+pub mod RoundRefused
+pub mod RoundSecond
 pub mod Demand1
 pub mod Consumed
 pub mod RecordsInBytes

@@ -36,13 +36,13 @@ use Rattle.replication.proofs.Demand3.{accepted-same, same-store, recor
 -- ---- values
 
 -- two knowledges know the same, of every item id and every replica id
-abbrev Alike : Knowledge → Knowledge → Type 0
-Alike a b = (i q : ℕ) → i ≤ highest → ReplicaId q → known a i q ≡ known b i q
+abbrev KnowSame : Knowledge → Knowledge → Type 0
+KnowSame a b = (i q : ℕ) → i ≤ highest → ReplicaId q → known a i q ≡ known b i q
 
-knowledge-same : (L : Limits) (a b : Knowledge) → Lawful (anyId L) a → Lawful (anyId L) b → Normal a → Normal b → Alike a b → a ≡ b
+knowledge-same : (L : Limits) (a b : Knowledge) → Lawful (anyId L) a → Lawful (anyId L) b → Normal a → Normal b → KnowSame a b → a ≡ b
 knowledge-same L a b x y n m f = normal-unique a b n m (ticks-of-16 a b (x .ids) (y .ids) f .known)
 
-stores-same : (L : Limits) (a b : Store) → LawfulStore L a → LawfulStore L b → a .own ≡ b .own → Alike (a .knowledge) (b .knowledge)
+stores-same : (L : Limits) (a b : Store) → LawfulStore L a → LawfulStore L b → a .own ≡ b .own → KnowSame (a .knowledge) (b .knowledge)
     → ((i : ℕ) → i ≤ highest → find i (a .records) ≡ find i (b .records)) → a ≡ b
 stores-same L a b v w own ticks records =
     same-store a b own (knowledge-same L (a .knowledge) (b .knowledge) (v .lawful) (w .lawful) (v .normal) (w .normal) ticks)
@@ -57,7 +57,7 @@ same-batch a b e f g h k = by-parts (a .first) (a .last) (a .needed) (a .learned
     by-parts x y n l rs e f g h k = rw (e, f, g, h, k)
 
 module _ (L : Limits) (a b : Batch) (v : LawfulBatch L a) (w : LawfulBatch L b) where
-  needed-same : Alike (a .needed) (b .needed) → a .needed ≡ b .needed
+  needed-same : KnowSame (a .needed) (b .needed) → a .needed ≡ b .needed
   needed-same f = knowledge-same L (a .needed) (b .needed) (v .neededLawful) (w .neededLawful) (v .neededNormal) (w .neededNormal) f
 
   abbrev AlikeInside : Type 0
@@ -74,7 +74,7 @@ module _ (L : Limits) (a b : Batch) (v : LawfulBatch L a) (w : LawfulBatch L b) 
         | side-above l ↦ v .outside i q h (inr l) ∙ sym (w .outside i q h (inr (omega (arith, l, f))))
       ])
 
-  batches-same : a .first ≡ b .first → a .last ≡ b .last → Alike (a .needed) (b .needed) → AlikeInside
+  batches-same : a .first ≡ b .first → a .last ≡ b .last → KnowSame (a .needed) (b .needed) → AlikeInside
       → ((i : ℕ) → find i (a .records) ≡ find i (b .records)) → a ≡ b
   batches-same e f needed inside records =
       same-batch a b e f (needed-same needed) (learned-same e f inside)
@@ -146,7 +146,7 @@ module _ (L : Limits) (st : Store) (content : Content) (item : ℕ) where
         new-same content item (st .own) (y .tick) (x .new) (y .new) (find item (st .records))
         (subst (λ (t : ℕ). NewRec content item (st .own) t (find item (st .records)) (x .new)) tick-same (x .newIs)) (y .newIs)
 
-    ticks-written : Alike (x .store .knowledge) (y .store .knowledge)
+    ticks-written : KnowSame (x .store .knowledge) (y .store .knowledge)
     ticks-written i q h small =
         ⊎-elim
         (λ (e : q ≡ st .own).
@@ -251,7 +251,7 @@ module _ (L : Limits) (m : State) (n : ℕ) (k : Knowledge) (s t : List ℕ) (x 
   last-same : x .batch .last ≡ y .batch .last
   last-same = x .last ∙ (ap (λ (b : Remembered). b .last) remembered-same ∙ sym (y .last))
 
-  needed-alike : Alike (x .batch .needed) (y .batch .needed)
+  needed-alike : KnowSame (x .batch .needed) (y .batch .needed)
   needed-alike i q h small = omega (arith, x .needed i q h small, y .needed i q h small)
 
   abbrev RecordsAre : Remembered → Type 0

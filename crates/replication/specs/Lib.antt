@@ -22,4 +22,6 @@ pub mod Lists
 pub mod Promise
 pub mod Batches
 pub mod Runner
+pub mod Round
+pub mod RoundCalls
 pub mod Demand1
