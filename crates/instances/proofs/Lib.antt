@@ -1,4 +1,5 @@
--- The laws of the instances: the table row by row, lists of calls run from their start, and the first faulty field in turn.
+-- The laws of the instances: the table row by row, lists of calls run from their start, a round through the centre among them, and the
+-- first faulty field in turn.
 pub mod Instances
 pub mod NotNormal
 pub mod Broken
@@ -6,4 +7,5 @@ pub mod Unusual
 pub mod OneRun
 pub mod Lists
 pub mod Longer
+pub mod RoundListed
 pub mod FirstFault

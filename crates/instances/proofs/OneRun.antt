@@ -1,7 +1,8 @@
 -- A list of calls, whatever the rules: flags, answers and end as they are computed in one run are those of its trace, of its calls one by
 -- one and of its run, by going along the list. So what a list comes to is computed once, and the answer to call k, from the bytes as the
 -- calls before it left them, is read off. An apply gets the batch as it stands at the end, because a batch once made stays; and a store
--- stands at the end as it was before call k where each call from k on is another replica's or was refused.
+-- stands at the end as it was before call k where each call from k on is another replica's or was refused. A run in stages gives the same
+-- of each stage.
 use Prim.Native.Nat.{ℕ, zero, suc, _<_}
 use mathlib.Core.Path.{_≡_, refl, sym, ap, subst, _∙_}
 use mathlib.Core.Bool.{Bool, true, false}
@@ -20,7 +21,7 @@ use Rattle.replication.specs.Promise.{ends}
 use Rattle.replication.proofs.AgreeRun.{run-append}
 use Rattle.replication.specs.Runner.{roomOf}
 use Rattle.instances.specs.Answers.{appliedTo, replied, answers, flags, storesOf}
-use Rattle.instances.specs.MethodRan.{callAt, answerAt, noted, ranOnce, Seen, seen, Idle}
+use Rattle.instances.specs.MethodRan.{callAt, answerAt, Ran, noted, ranOnce, Seen, seen, inStages, Idle}
 
 -- ---- a batch once made stays
 
@@ -63,6 +64,13 @@ unfolding applyTo appliedTo outcome
 apply-replied L s none room = refl
 apply-replied L s (some b) room = refl
 
+-- what a stage comes to, after the calls before it
+pub record Stage (R : Rules) (ps : List ℕ) (before cs : List Call) (x : Seen) : Type 0 where
+  pub flags : flags (trace R (ends R before) cs) ≡ x .flags
+  pub answers : answers R (ends R before) cs ≡ x .answers
+  pub stores : storesOf ps (ends R (before ++ cs)) ≡ x .stores
+  pub batches : ends R (before ++ cs) .batches ≡ x .batches
+
 module _ (R : Rules) where
   writes-replied : (w : World) (c : Call) → writes R w c ≡ outcome (replied R w c) (roomOf c)
   unfolding writes replied
@@ -79,6 +87,36 @@ module _ (R : Rules) where
       let a = answer (replied R w c) (roomOf c) in
       ap (λ (o : Option (List ℕ)). noted a o (ranOnce R (keep w c o) cs)) (sym (writes-replied w c))
       ∙ ap (noted a (writes R w c)) (ran-is (keep w c (writes R w c)) cs)
+
+  -- ---- in stages
+
+  -- the stages one after the other, after the calls before them
+  abbrev pub Stages : List ℕ → List Call → List (List Call) → List Seen → Type 0
+  Stages ps before [] xs = Unit {0}
+  Stages ps before (cs ∷ stages) [] = ⊥
+  Stages ps before (cs ∷ stages) (x ∷ xs) = Stage R ps before cs x × Stages ps (before ++ cs) stages xs
+
+  stages-run : (ps : List ℕ) (stages : List (List Call)) (before : List Call)
+      → Stages ps before stages (inStages R ps (ends R before) stages)
+  unfolding inStages seen ends
+  stages-run ps [] before = tt
+  stages-run ps (cs ∷ stages) before =
+      let w = ends R before in
+      let is = ran-is w cs in
+      let on : ends R (before ++ cs) ≡ ranOnce R w cs .ends =
+      run-append R start before cs ∙ sym (ap (λ (r : Ran). r .ends) is) in (
+        record {
+          flags = sym (ap (λ (r : Ran). r .flags) is);
+          answers = sym (ap (λ (r : Ran). r .answers) is);
+          stores = ap (storesOf ps) on;
+          batches = ap (λ (x : World). x .batches) on;
+        },
+        subst (λ (x : World). Stages ps (before ++ cs) stages (inStages R ps x stages)) on (stages-run ps stages (before ++ cs)),
+      )
+
+  pub stages-are : (ps : List ℕ) (stages : List (List Call)) (xs : List Seen) → inStages R ps start stages ≡ xs → Stages ps [] stages xs
+  unfolding ends run
+  stages-are ps stages xs computed = subst (Stages ps [] stages) computed (stages-run ps stages [])
 
   -- the answer to call k is from the world after the calls before it
   answer-at : (k : ℕ) (w : World) (cs : List Call) → k < length cs

@@ -7,5 +7,6 @@ pub mod Broken
 pub mod Listed
 pub mod Answers
 pub mod Longer
+pub mod RoundListed
 pub mod MethodRan
 pub mod MethodFitting

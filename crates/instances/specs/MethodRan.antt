@@ -1,4 +1,5 @@
--- Nothing to believe: flags, answers and end of a list of calls in one run, so that each list is computed once; and when a store stays.
+-- Nothing to believe: flags, answers and end of a list of calls in one run, so that each list is computed once, in one piece or in stages;
+-- and when a store stays.
 use Prim.Native.Nat.{ℕ, zero, suc}
 use mathlib.Core.Path.{_≡_}
 use mathlib.Core.Bool.{Bool, true, false}
@@ -46,6 +47,11 @@ pub record Seen : Type 0 where
 
 unfoldable pub seen : List ℕ → Ran → Seen
 seen ps r = record { flags = r .flags; answers = r .answers; stores = storesOf ps (r .ends); batches = r .ends .batches }
+
+-- the same of a list of calls in stages, each from where the one before it ended
+unfoldable pub inStages : Rules → List ℕ → World → List (List Call) → List Seen
+inStages R ps w [] = []
+inStages R ps w (cs ∷ stages) = let r = ranOnce R w cs in seen ps r ∷ inStages R ps (r .ends) stages
 
 abbrev pub callerOf : Call → ℕ
 callerOf (edit who item brought room) = who
