@@ -1,5 +1,6 @@
 //! Random lists of calls: the engine against the reference, byte for byte after every call, and both against the plain history machine at the
-//! end; then batches of the list in either order, and twice; then how far each record of a new item moved the figure of coverage.
+//! end; then batches of the list in either order, and twice; then how far each record of a new item moved the figure of coverage; then a round
+//! through a centre, after which its servers are alike.
 
 mod ending;
 mod generate;
@@ -7,12 +8,14 @@ mod limits;
 pub mod list;
 mod machine;
 mod play;
+mod round;
 mod shrink;
 
 use std::fmt;
 
 use inputs::{SplitMix64, number_from_environment};
 
+use crate::calls;
 use crate::changing::Engine;
 use crate::reading;
 use crate::tally::{Ends, Tally};
@@ -21,6 +24,15 @@ use ending::{Additions, Ended};
 use generate::Style;
 use limits::{Limits, Reached};
 use list::List;
+use round::{Rounds, Seen};
+
+pub use generate::Breach;
+pub use round::run_broken;
+
+/// An engine with all calls that a run needs.
+pub trait Whole: Engine + reading::Engine + calls::Engine {}
+
+impl<E: Engine + reading::Engine + calls::Engine> Whole for E {}
 
 /// How many lists a run has, and which.
 #[derive(Clone, Copy, Debug)]
@@ -62,6 +74,7 @@ pub struct Lists {
     /// Lists with a pair of batches of which all four applies succeed and change the store.
     changing: usize,
     additions: Additions,
+    rounds: Rounds,
 }
 
 impl fmt::Display for Lists {
@@ -75,12 +88,13 @@ impl fmt::Display for Lists {
         write!(f, "in either order × {pairs}, all taken × {taken}, in {} lists all changing; ", self.changing)?;
         write!(f, "twice × {twice}, both taken × {twice_taken}; ")?;
         let Additions { by_edits, by_applies } = self.additions;
-        write!(f, "one record of a new item by an edit × {by_edits}, by an apply × {by_applies}")
+        write!(f, "one record of a new item by an edit × {by_edits}, by an apply × {by_applies}; {}", self.rounds)
     }
 }
 
 impl Lists {
-    fn add(&mut self, list: &List, limits: &Limits, ended: Ended, additions: Additions) {
+    fn add(&mut self, list: &List, tried: &Tried) {
+        let Tried { limits, ended, additions, round } = tried;
         self.lists += 1;
         self.limits.add(limits);
         self.middle += usize::from((10..=60).contains(&list.calls.len()));
@@ -93,12 +107,14 @@ impl Lists {
         self.ended.twice_taken += ended.twice_taken;
         self.additions.by_edits += additions.by_edits;
         self.additions.by_applies += additions.by_applies;
+        round.iter().for_each(|round| self.rounds.add(round));
     }
 
     /// The error, where something that a run of many lists must have did not come up.
     fn complete(self) -> Result<Self, String> {
         self.calls.clone().complete(&ENDS)?;
         self.limits.enough(self.lists)?;
+        self.rounds.enough(self.lists)?;
         let enough = self.middle > self.lists / 2
             && self.long > self.lists / 200
             && self.ended.pairs >= 4 * self.lists
@@ -113,8 +129,9 @@ impl Lists {
 /// Lists of fewer need not have everything.
 const MANY: usize = 2_000;
 
-/// Plays random lists. The error says what went wrong first, with the list made as small as possible; or what never came up.
-pub fn run(plan: &Plan, engine: &(impl Engine + reading::Engine), reference: &impl Engine) -> Result<Lists, String> {
+/// Plays random lists, and a random round after each. The error says what went wrong first, with the list made as small as possible; or what
+/// never came up.
+pub fn run(plan: &Plan, engine: &impl Whole, reference: &impl Engine) -> Result<Lists, String> {
     run_styles(plan, generate::style, engine, reference)
 }
 
@@ -122,16 +139,18 @@ pub fn run(plan: &Plan, engine: &(impl Engine + reading::Engine), reference: &im
 fn run_styles(
     plan: &Plan,
     draw: impl Fn(&mut SplitMix64) -> Style,
-    engine: &(impl Engine + reading::Engine),
+    engine: &impl Whole,
     reference: &impl Engine,
 ) -> Result<Lists, String> {
     let mut lists = Lists::default();
-    let random = &mut SplitMix64::new(plan.seed);
+    // Rounds are drawn apart, so that a seed gives the same lists with and without them.
+    let [random, for_rounds] = &mut [plan.seed, !plan.seed].map(SplitMix64::new);
     for place in 0..plan.lists {
         let style = draw(random);
-        let list = generate::list(random, style);
+        let mut list = generate::list(random, style);
+        list.round = generate::round(for_rounds, &list);
         match try_list(&list, engine, reference, &mut lists.calls) {
-            Ok((limits, ended, additions)) => lists.add(&list, &limits, ended, additions),
+            Ok(tried) => lists.add(&list, &tried),
             Err(error) => {
                 let again = |list: &List| try_list(list, engine, reference, &mut Tally::default()).err();
                 let (list, error) = shrink::shrink(&list, error, again);
@@ -145,19 +164,23 @@ fn run_styles(
     if plan.lists >= MANY { lists.complete() } else { Ok(lists) }
 }
 
-/// Plays one list, and looks at everything that holds after it. Gives the limits that it came to, what was tried, and the
-/// records of new items that came one at a time.
-pub fn try_list(
-    list: &List,
-    engine: &(impl Engine + reading::Engine),
-    reference: &impl Engine,
-    calls: &mut Tally,
-) -> Result<(Limits, Ended, Additions), String> {
-    let world = play::play(list, engine, reference, calls)?;
-    ending::compare(list, &world)?;
+/// What came up in one list: the limits that it came to, what was tried after it, the records of new items that came one at a time, and its round.
+#[derive(Debug)]
+pub struct Tried {
+    limits: Limits,
+    ended: Ended,
+    additions: Additions,
+    round: Option<Seen>,
+}
+
+/// Plays one list and its round, and looks at everything that holds after each. Of the round, no call is in the tally or comes to a limit.
+pub fn try_list(list: &List, engine: &impl Whole, reference: &impl Engine, calls: &mut Tally) -> Result<Tried, String> {
+    let mut world = play::play(list, engine, reference, calls)?;
+    ending::compare(list, &world, "list")?;
     let ended = ending::in_either_order(list, &world, engine, reference)?;
     let additions = ending::one_record_more(&world, engine)?;
-    Ok((world.limits, ended, additions))
+    let round = list.round.as_ref().map(|round| round::try_round(list, round, &mut world, engine, reference));
+    Ok(Tried { round: round.transpose()?, limits: world.limits, ended, additions })
 }
 
 #[cfg(test)]

@@ -1,5 +1,6 @@
 //! The reference in the place of an engine.
 
+use crate::calls;
 use crate::changing;
 use crate::reading::{self, Found, counts, found, part};
 
@@ -14,6 +15,20 @@ pub fn set<T>(answer: Result<T, u32>, value: &mut T) -> u32 {
             0
         }
         Err(number) => number,
+    }
+}
+
+impl calls::Engine for Reference {
+    fn contain(&self, knowledge: &[u8], item: &[u8], replica: &[u8], tick: u64, value: &mut u32) -> u32 {
+        set(reference::contain(knowledge, item, replica, tick).map(u32::from), value)
+    }
+
+    fn lead(&self, [first, second]: [&[u8]; 2], item: &[u8], replica: &[u8], value: &mut i64) -> u32 {
+        set(reference::lead(first, second, item, replica), value)
+    }
+
+    fn cover(&self, [first, second]: [&[u8]; 2], [from, to]: [&[u8]; 2], value: &mut u32) -> u32 {
+        set(reference::cover(first, second, from, to).map(u32::from), value)
     }
 }
 

@@ -4,6 +4,7 @@ use std::cell::RefCell;
 
 use inputs::{Batch, FIRST_ITEM, ItemId, Knowledge, LAST_ITEM, Record, Store, TOMBSTONE, Version};
 
+use crate::calls;
 use crate::changing::Engine;
 use crate::lenient;
 use crate::reading::{self, Found};
@@ -15,6 +16,8 @@ pub type Make = fn(&Store, &Knowledge, &ItemId, &ItemId) -> Result<Batch, u32>;
 pub type Apply = fn(&Store, &Batch) -> Result<Store, u32>;
 /// The third number of a coverage, from all three.
 pub type Figure = fn([u64; 3]) -> u64;
+/// Whether the first of two knowledges covers the second, from both and the right answer.
+pub type Cover = fn([&Knowledge; 2], bool) -> bool;
 
 /// An engine that is right where no other way is given.
 #[derive(Default)]
@@ -26,6 +29,7 @@ pub struct Wrong {
     pub make: Option<Make>,
     pub apply: Option<Apply>,
     pub figure: Option<Figure>,
+    pub cover: Option<Cover>,
     /// The number that it gives instead of the right one, by call, arguments and length of the buffer.
     pub number: Option<fn(&str, &[&[u8]], usize, u32) -> u32>,
     /// A refusal on which it writes a byte, and one on which it sets the length.
@@ -150,6 +154,25 @@ impl Engine for Wrong {
             self.apply.unwrap_or(Store::applied)(&store, &batch).map(|store| store.bytes())
         });
         self.give("apply", &[store, batch], result, out, written)
+    }
+}
+
+impl calls::Engine for Wrong {
+    fn contain(&self, knowledge: &[u8], item: &[u8], replica: &[u8], tick: u64, value: &mut u32) -> u32 {
+        Reference.contain(knowledge, item, replica, tick, value)
+    }
+
+    fn lead(&self, knowledges: [&[u8]; 2], item: &[u8], replica: &[u8], value: &mut i64) -> u32 {
+        Reference.lead(knowledges, item, replica, value)
+    }
+
+    fn cover(&self, knowledges: [&[u8]; 2], span: [&[u8]; 2], value: &mut u32) -> u32 {
+        let number = Reference.cover(knowledges, span, value);
+        if let (0, Some(cover)) = (number, self.cover) {
+            let [first, second] = knowledges.map(Knowledge::decoded);
+            *value = cover([&first, &second], *value == 1).into();
+        }
+        number
     }
 }
 

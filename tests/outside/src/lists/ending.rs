@@ -27,10 +27,10 @@ pub struct Ended {
     pub twice_taken: usize,
 }
 
-/// Compares every replica with the history machine.
-pub fn compare(list: &List, world: &World) -> Result<(), String> {
+/// Compares every replica with the history machine, after the list or its round.
+pub fn compare(list: &List, world: &World, after: &str) -> Result<(), String> {
     for replica in 0..list.replicas.len() {
-        one(list, world, replica).map_err(|error| format!("replica {replica} after the list: {error}"))?;
+        one(list, world, replica).map_err(|error| format!("replica {replica} after the {after}: {error}"))?;
     }
     Ok(())
 }

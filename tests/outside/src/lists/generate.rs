@@ -1,11 +1,13 @@
 //! Random lists of calls.
 
 mod full;
+mod round;
 
 use inputs::{Batch, FIRST_ITEM, ItemId, Knowledge, LAST_ITEM, ReplicaId, Room, SplitMix64, faulty, next_item};
 
 use super::list::{Call, Given, List};
 pub use full::Limit;
+pub use round::{Breach, DISTRICTS, broken, round};
 
 const LARGEST_TICK: u64 = i64::MAX as u64;
 
@@ -58,7 +60,7 @@ pub fn list(random: &mut SplitMix64, style: Style) -> List {
         Style::Full(limit) => limit.items(random),
     };
     let replicas = replica_ids(random, replicas).into_iter().map(|id| (id, start_tick(random, style))).collect();
-    let (items, list) = (item_ids(random, items), List { replicas, calls: Vec::new() });
+    let (items, list) = (item_ids(random, items), List { replicas, calls: Vec::new(), round: None });
     let mut making = Making { items, list, batches: 0, careful: false, random };
     match style {
         Style::Usual | Style::Ticks => making.usual(),

@@ -36,11 +36,31 @@ impl Call {
     }
 }
 
-/// Replicas and calls. A replica starts with a new store, or with one that knows a tick of its own replica for all items and has no records.
+/// A server of a round beside the centre, with the names of the batch that it makes for the centre and of the one that it is sent.
+#[derive(Clone, Copy, Debug, PartialEq, Eq)]
+pub struct District {
+    pub replica: usize,
+    pub up: usize,
+    pub down: usize,
+}
+
+/// A round through a centre, after the calls of a list.
+#[derive(Clone, Debug, PartialEq, Eq)]
+pub struct Round {
+    pub centre: usize,
+    pub districts: Vec<District>,
+    pub calls: Vec<Call>,
+    /// So many of the calls are its first half, in which the centre applies what the districts send. In the others it sends.
+    pub gather: usize,
+}
+
+/// Replicas and calls, and the round that comes after them. A replica starts with a new store, or with one that knows a tick of its own replica for
+/// all items and has no records.
 #[derive(Clone, Debug, PartialEq, Eq)]
 pub struct List {
     pub replicas: Vec<(ReplicaId, u64)>,
     pub calls: Vec<Call>,
+    pub round: Option<Round>,
 }
 
 /// The bytes that a row of hexadecimal digits says.
@@ -69,12 +89,36 @@ impl List {
     /// A list without calls on replicas with these ids and start ticks.
     pub fn new(replicas: &[(&str, u64)]) -> Self {
         let replica = |(id, tick): &(&str, u64)| (bytes(id).try_into().expect("16 bytes"), *tick);
-        Self { replicas: replicas.iter().map(replica).collect(), calls: Vec::new() }
+        Self { replicas: replicas.iter().map(replica).collect(), calls: Vec::new(), round: None }
+    }
+
+    /// The same with a round, in which are all calls that follow: its centre, and each district with the names of its two batches.
+    pub fn round(mut self, centre: usize, districts: &[(usize, usize, usize)]) -> Self {
+        let districts =
+            districts.iter().map(|(replica, up, down)| District { replica: *replica, up: *up, down: *down });
+        self.round = Some(Round { centre, districts: districts.collect(), calls: Vec::new(), gather: 0 });
+        self
+    }
+
+    /// The same, where all calls that follow are in the second half of the round.
+    pub fn spread(mut self) -> Self {
+        let round = self.round.as_mut().expect("a round");
+        round.gather = round.calls.len();
+        self
     }
 
     fn with(mut self, call: Call) -> Self {
-        self.calls.push(call);
+        self.round.as_mut().map_or(&mut self.calls, |round| &mut round.calls).push(call);
         self
+    }
+
+    /// All calls, those of the round last.
+    pub fn all_calls(&self) -> impl Iterator<Item = &Call> {
+        self.calls.iter().chain(self.round.iter().flat_map(|round| &round.calls))
+    }
+
+    pub fn all_calls_mut(&mut self) -> impl Iterator<Item = &mut Call> {
+        self.calls.iter_mut().chain(self.round.iter_mut().flat_map(|round| &mut round.calls))
     }
 
     pub fn edit(self, replica: usize, item: &str, tag: &str, room: Room) -> Self {
@@ -102,7 +146,23 @@ impl fmt::Display for List {
             write!(f, "{comma}({}, {tick})", Hex(id))?;
         }
         write!(f, "])")?;
-        self.calls.iter().try_for_each(|call| write!(f, "\n    .{call}"))
+        self.calls.iter().try_for_each(|call| write!(f, "\n    .{call}"))?;
+        self.round.iter().try_for_each(|round| write!(f, "{round}"))
+    }
+}
+
+impl fmt::Display for Round {
+    fn fmt(&self, f: &mut fmt::Formatter) -> fmt::Result {
+        write!(f, "\n    .round({}, &[", self.centre)?;
+        for (place, District { replica, up, down }) in self.districts.iter().enumerate() {
+            let comma = if place == 0 { "" } else { ", " };
+            write!(f, "{comma}({replica}, {up}, {down})")?;
+        }
+        write!(f, "])")?;
+        let (gather, spread) = self.calls.split_at(self.gather);
+        gather.iter().try_for_each(|call| write!(f, "\n    .{call}"))?;
+        write!(f, "\n    .spread()")?;
+        spread.iter().try_for_each(|call| write!(f, "\n    .{call}"))
     }
 }
 

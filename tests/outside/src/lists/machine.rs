@@ -30,7 +30,8 @@ pub struct Machine {
     places: Vec<Item>,
     /// For each replica the known tick by place and replica.
     known: Vec<Vec<Vec<u64>>>,
-    versions: Vec<Made>,
+    /// The versions of each item.
+    versions: BTreeMap<Item, Vec<Made>>,
     batches: BTreeMap<usize, Remembered>,
 }
 
@@ -48,7 +49,7 @@ impl Machine {
             known[replica].iter_mut().for_each(|row| row[replica] = *tick);
         }
         let ids = replicas.iter().map(|(id, _)| *id).collect();
-        Self { ids, places: places.into_iter().collect(), known, versions: Vec::new(), batches: BTreeMap::new() }
+        Self { ids, places: places.into_iter().collect(), known, versions: BTreeMap::new(), batches: BTreeMap::new() }
     }
 
     /// An edit with a tag, or a deletion.
@@ -56,7 +57,7 @@ impl Machine {
         let largest = self.known[replica].iter().flatten().max().copied().unwrap_or(0);
         let (id, tick) = (self.ids[replica], largest + 1);
         let create = self.greatest(replica, &item).map_or((id, tick), |version| version.create);
-        self.versions.push(Made { item, tick, replica: id, create, tag });
+        self.versions.entry(item).or_default().push(Made { item, tick, replica: id, create, tag });
         self.known[replica].iter_mut().for_each(|row| row[replica] = tick);
     }
 
@@ -79,22 +80,21 @@ impl Machine {
         &self.places
     }
 
-    /// The tick that a replica knows for an item and a replica id; 0 for an id that is no replica's.
+    /// The tick that a replica knows for an item and a replica id; 0 for an id that is no replica's. The first place is at or below every item.
     pub fn known(&self, replica: usize, item: &Item, id: &Id) -> u64 {
-        let place = self.places.iter().rposition(|place| place <= item).expect("the first item is a place");
+        let place = self.places.partition_point(|place| place <= item) - 1;
         self.ids.iter().position(|other| other == id).map_or(0, |other| self.known[replica][place][other])
     }
 
     /// The records that a replica holds, by rising item id.
     pub fn records(&self, replica: usize) -> Vec<&Made> {
-        let items: BTreeSet<&Item> = self.versions.iter().map(|version| &version.item).collect();
-        items.into_iter().filter_map(|item| self.greatest(replica, item)).collect()
+        self.versions.keys().filter_map(|item| self.greatest(replica, item)).collect()
     }
 
     /// The greatest version of an item that a replica's ticks contain, by tick and then replica id.
     fn greatest(&self, replica: usize, item: &Item) -> Option<&Made> {
         let contained = |version: &&Made| version.tick <= self.known(replica, item, &version.replica);
-        let versions = self.versions.iter().filter(|version| version.item == *item);
+        let versions = self.versions.get(item)?.iter();
         versions.filter(contained).max_by_key(|version| (version.tick, version.replica))
     }
 }

@@ -70,18 +70,15 @@ pub fn written(call: impl FnOnce(&mut [u8], &mut u64) -> u32) -> Written {
     }
 }
 
-/// Plays a list of calls. The error says at which call what went wrong.
+/// The name of a call and how it ended; none for a call that is left out.
+pub type End = Option<(&'static str, Outcome)>;
+
+/// Plays a list of calls, without the round that comes after them. The error says at which call what went wrong.
 pub fn play(list: &List, engine: &impl Engine, reference: &impl Engine, tally: &mut Tally) -> Result<World, String> {
     let mut world = start(list, reference)?;
-    for (place, call) in list.calls.iter().enumerate() {
-        let mut player = Player { place, world: &mut world, engine, reference };
-        let ended = player.call(call).map_err(|error| format!("call {place}, {call}: {error}"))?;
-        if let Some((name, outcome)) = ended {
-            if let Outcome::Other(number @ (15 | 16)) = outcome {
-                return Err(format!(
-                    "call {place}, {call}: refused with {number}, though every store and batch of a list is valid"
-                ));
-            }
+    let ends = play_on(&mut world, 0, &list.calls, engine, reference)?;
+    for (call, end) in list.calls.iter().zip(ends) {
+        if let Some((name, outcome)) = end {
             tally.add(name, outcome);
             world.limits.add(call.replica(), name, outcome);
         }
@@ -89,9 +86,31 @@ pub fn play(list: &List, engine: &impl Engine, reference: &impl Engine, tally: &
     Ok(world)
 }
 
-/// The spans of all makes, as far as they are spans.
+/// Plays calls that come after so many others. The error says at which call what went wrong.
+pub fn play_on(
+    world: &mut World,
+    before: usize,
+    calls: &[Call],
+    engine: &impl Engine,
+    reference: &impl Engine,
+) -> Result<Vec<End>, String> {
+    let mut ends = Vec::new();
+    for (place, call) in (before..).zip(calls) {
+        let mut player = Player { place, world, engine, reference };
+        let ended = player.call(call).map_err(|error| format!("call {place}, {call}: {error}"))?;
+        if let Some((_, Outcome::Other(number @ (15 | 16)))) = ended {
+            return Err(format!(
+                "call {place}, {call}: refused with {number}, though every store and batch of a list is valid"
+            ));
+        }
+        ends.push(ended);
+    }
+    Ok(ends)
+}
+
+/// The spans of all makes, those of the round too, as far as they are spans.
 fn spans(list: &List) -> impl Iterator<Item = (ItemId, ItemId)> {
-    list.calls.iter().filter_map(|call| match call {
+    list.all_calls().filter_map(|call| match call {
         Call::Make { first, last, .. } => {
             let (first, last) = (ItemId::try_from(&first[..]).ok()?, ItemId::try_from(&last[..]).ok()?);
             (first <= last).then_some((first, last))
@@ -126,8 +145,8 @@ struct Player<'a, E, R> {
 }
 
 impl<E: Engine, R: Engine> Player<'_, E, R> {
-    /// Plays a call and gives its name and how it ended; nothing for a call that is left out.
-    fn call(&mut self, call: &Call) -> Result<Option<(&'static str, Outcome)>, String> {
+    /// Plays a call and gives how it ended.
+    fn call(&mut self, call: &Call) -> Result<End, String> {
         let (engine, reference) = (self.engine, self.reference);
         let (name, written, knowledge) = match call {
             Call::Edit { replica, item, tag, room } => {

@@ -1,8 +1,9 @@
-//! Making a failing list of calls smaller, as long as it still fails.
+//! Making a failing list of calls smaller, as long as it still fails. Its round becomes smaller too, or is left out; as long as it is there, its
+//! premises hold.
 
 use inputs::Room;
 
-use super::list::{Call, Given, List};
+use super::list::{Call, Given, List, Round};
 
 /// As many lists are tried at most.
 const TRIES: usize = 3000;
@@ -12,7 +13,9 @@ pub fn shrink(list: &List, error: String, fails: impl Fn(&List) -> Option<String
     let mut shrinking = Shrinking { list: list.clone(), error, fails, tries: 0 };
     loop {
         let before = shrinking.list.clone();
+        shrinking.drop_round();
         shrinking.drop_calls();
+        shrinking.drop_round_calls();
         shrinking.simplify_calls();
         shrinking.drop_replicas();
         if shrinking.list == before || shrinking.tries >= TRIES {
@@ -31,6 +34,9 @@ struct Shrinking<F> {
 impl<F: Fn(&List) -> Option<String>> Shrinking<F> {
     /// Takes the other list, if it fails too; gives whether it does.
     fn took(&mut self, other: List) -> bool {
+        if other.round.as_ref().is_some_and(|round| round.premises().is_err()) {
+            return false;
+        }
         self.tries += 1;
         if self.tries > TRIES {
             return false;
@@ -38,6 +44,35 @@ impl<F: Fn(&List) -> Option<String>> Shrinking<F> {
         let Some(error) = (self.fails)(&other) else { return false };
         (self.list, self.error) = (other, error);
         true
+    }
+
+    /// Leaves the round out, or a district of it with all calls that name one of its batches.
+    fn drop_round(&mut self) {
+        if self.list.round.is_none() || self.took(List { round: None, ..self.list.clone() }) {
+            return;
+        }
+        let districts = self.list.round.as_ref().map_or(0, |round| round.districts.len());
+        for place in (0..districts).rev() {
+            let mut other = self.list.clone();
+            if let Some(round) = &mut other.round {
+                let district = round.districts.remove(place);
+                retain(round, |call| !names(call, district.up) && !names(call, district.down));
+            }
+            self.took(other);
+        }
+    }
+
+    /// Leaves calls of the round out, one at a time.
+    fn drop_round_calls(&mut self) {
+        let calls = self.list.round.as_ref().map_or(0, |round| round.calls.len());
+        for place in (0..calls).rev() {
+            let mut other = self.list.clone();
+            if let Some(round) = &mut other.round {
+                round.calls.remove(place);
+                round.gather -= usize::from(place < round.gather);
+            }
+            self.took(other);
+        }
     }
 
     /// Leaves calls out, first many at once, then fewer.
@@ -58,10 +93,10 @@ impl<F: Fn(&List) -> Option<String>> Shrinking<F> {
 
     /// Gives each call a long buffer, a span of all ids, and nothing as the given knowledge.
     fn simplify_calls(&mut self) {
-        for place in 0..self.list.calls.len() {
+        for place in 0..self.list.all_calls().count() {
             for simplify in [long_buffer, all_ids, no_knowledge] {
                 let mut other = self.list.clone();
-                simplify(&mut other.calls[place]);
+                other.all_calls_mut().skip(place).take(1).for_each(simplify);
                 if other != self.list {
                     self.took(other);
                 }
@@ -69,16 +104,34 @@ impl<F: Fn(&List) -> Option<String>> Shrinking<F> {
         }
     }
 
-    /// Leaves replicas out that no call is on.
+    /// Leaves replicas out that no call is on and that are not of the round.
     fn drop_replicas(&mut self) {
         for replica in (0..self.list.replicas.len()).rev() {
             let mut other = self.list.clone();
             other.replicas.remove(replica);
-            if other.calls.iter_mut().all(|call| without(call, replica)) && !other.replicas.is_empty() {
+            let mut alone = other.all_calls_mut().all(|call| without(call, replica));
+            if let Some(round) = &mut other.round {
+                let districts = round.districts.iter_mut().map(|district| &mut district.replica);
+                alone &= [&mut round.centre].into_iter().chain(districts).all(|server| rename(server, replica));
+            }
+            if alone && !other.replicas.is_empty() {
                 self.took(other);
             }
         }
     }
+}
+
+/// Leaves calls of a round out, but those for which the test holds.
+fn retain(round: &mut Round, test: impl Fn(&Call) -> bool) {
+    let (gather, spread) = round.calls.split_at(round.gather);
+    let gather: Vec<Call> = gather.iter().filter(|call| test(call)).cloned().collect();
+    round.gather = gather.len();
+    round.calls = gather.into_iter().chain(spread.iter().filter(|call| test(call)).cloned()).collect();
+}
+
+/// Whether a call makes or applies a batch.
+fn names(call: &Call, name: usize) -> bool {
+    matches!(call, Call::Make { batch, .. } | Call::Apply { batch, .. } if *batch == name)
 }
 
 fn long_buffer(call: &mut Call) {
@@ -99,20 +152,22 @@ fn no_knowledge(call: &mut Call) {
     }
 }
 
+/// Renames a replica, where it is behind one that is left out; gives whether it is another.
+fn rename(replica: &mut usize, left_out: usize) -> bool {
+    let other = *replica != left_out;
+    *replica -= usize::from(*replica > left_out);
+    other
+}
+
 /// Renames the replicas behind one that is left out; gives whether the call does without it.
 fn without(call: &mut Call, left_out: usize) -> bool {
-    let rename = |replica: &mut usize| {
-        let other = *replica != left_out;
-        *replica -= usize::from(*replica > left_out);
-        other
-    };
     let (Call::Edit { replica, .. }
     | Call::Delete { replica, .. }
     | Call::Make { replica, .. }
     | Call::Apply { replica, .. }) = call;
-    let other = rename(replica);
+    let other = rename(replica, left_out);
     match call {
-        Call::Make { given: Given::Of(replica, _), .. } => rename(replica) && other,
+        Call::Make { given: Given::Of(replica, _), .. } => rename(replica, left_out) && other,
         _ => other,
     }
 }

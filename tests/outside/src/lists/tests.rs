@@ -64,7 +64,7 @@ fn a_list_is_printed_as_it_is_written_here() {
 #[test]
 fn a_list_that_is_pasted_here_can_be_played() {
     let mut calls = Tally::default();
-    let (_, ended, additions) = try_list(&k12().0, &Reference, &Reference, &mut calls).unwrap();
+    let Tried { ended, additions, .. } = try_list(&k12().0, &Reference, &Reference, &mut calls).unwrap();
     assert_eq!((ended.pairs, ended.twice), (4, 4));
     assert_eq!((additions.by_edits, additions.by_applies), (2, 2));
     let text = calls.to_string();
@@ -77,7 +77,7 @@ fn a_list_that_is_pasted_here_can_be_played() {
 /// The error of lists on an engine that is compared with itself, so that only the machine and the laws can notice it.
 fn noticed_alone(name: &str, wrong: &Wrong) -> String {
     let error = run(&PLAN, wrong, wrong).map(|lists| lists.to_string()).expect_err(name);
-    let said = ["after the list", "in either order", "applied twice", "is valid"];
+    let said = ["after the list", "in either order", "applied twice", "is valid", "after the round"];
     assert!(said.iter().any(|words| error.contains(words)), "{name}: {error}");
     error
 }
@@ -140,7 +140,7 @@ fn a_failing_list_is_made_small() {
 
 #[test]
 fn lists_that_never_come_to_something_are_noticed() {
-    let refuses = Wrong { apply: Some(|_, _| Err(18)), ..Wrong::default() };
+    let refuses = Wrong { apply: Some(|_, _| Err(13)), ..Wrong::default() };
     let plan = Plan { lists: MANY, ..PLAN };
     assert!(run(&plan, &refuses, &refuses).unwrap_err().starts_with("never occurred: apply: written"));
 }
