@@ -51,7 +51,7 @@ no-more n s e = ap (λ (k : ℕ). drop k s) (sym e) ∙ drop-length s
 own-put : (own : List ℕ) → Bytes own → length own ≡ 16 → own ≡ put 16 (beAt own 16 0) []
 own-put own b e = put-back own 16 0 b (omega (arith, e)) ∙ ap (put 16 (beAt own 16 0)) (no-more 16 own e)
 
-some-same : (x y : List ℕ) (o : Option (List ℕ)) → o ≡ some x → o ≡ some y → x ≡ y
+pub some-same : {A : Type 0} (x y : A) (o : Option A) → o ≡ some x → o ≡ some y → x ≡ y
 some-same x y o e f = cc
 
 module _ (R : Rules) (calls : List Call) (P : Promise R calls) where

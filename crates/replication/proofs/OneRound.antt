@@ -28,8 +28,7 @@ use Rattle.replication.proofs.RoundMoments.{all-behind, all-append, cal
 
 -- ---- a batch that is made and applied
 
-module _ (R : Rules) (permitted : Permitted (R .limits)) (before calls : List Call) (maker taker : ℕ) (gb : All Given before)
-    (gc : All Given calls) (d : Delivered R before calls maker taker) where
+module _ (R : Rules) (before calls : List Call) (maker taker : ℕ) (d : Delivered R before calls maker taker) where
   -- the apply, the calls before it and those after it
   abbrev taking : Call
   taking = apply taker (d .number) (d .room)
@@ -53,10 +52,10 @@ module _ (R : Rules) (permitted : Permitted (R .limits)) (before calls : List Ca
       (subst (All P) (s .is) (all-earlier P h))
 
   -- the taker then knows the larger of what it knew and what the maker knew at the make
-  pub delivered : (i q : ℕ) → i ≤ highest
+  pub delivered : Permitted (R .limits) → All Given before → All Given calls → (i q : ℕ) → i ≤ highest
       → machine R ((before ++ d .earlier) ++ one taking) .ticks taker i q
       ≡ max (machine R (before ++ d .earlier) .ticks taker i q) (machine R (before ++ d .sent .earlier) .ticks maker i q)
-  delivered i q h =
+  delivered permitted gb gc i q h =
       let s = d .sent in
       taken-in R (before ++ d .earlier) taker (d .number) (d .room)
       (takenBy maker (value 0 (s .first)) (value 0 (s .last)) (machine R (before ++ s .earlier))) (d .done)
@@ -69,19 +68,19 @@ pub gathered : (R : Rules) → Permitted (R .limits) → (before gather : List C
     → machine R (before ++ gather) .ticks d i q ≤ machine R (before ++ gather) .ticks centre i q
 gathered R permitted before gather d centre gb gg x waits i q h =
     let c = apply centre (x .number) (x .room) in
-    let rest = all-later R permitted before gather d centre gb gg x Given gg in
+    let rest = all-later R before gather d centre x Given gg in
     let ga : All Given ((before ++ x .earlier) ++ one c) =
     all-append Given (before ++ x .earlier) (one c)
-    (all-append Given before (x .earlier) gb (all-earlier R permitted before gather d centre gb gg x Given gg)) (rest .0, tt) in
+    (all-append Given before (x .earlier) gb (all-earlier R before gather d centre x Given gg)) (rest .0, tt) in
     omega (
       arith,
       -- the district knows what it knew at its make
       ap (λ f. f i q) (still-all R d gather before waits),
-      ap (λ f. f i q) (still-all R d (x .sent .earlier) before (all-unsent R permitted before gather d centre gb gg x (Still d) waits)),
+      ap (λ f. f i q) (still-all R d (x .sent .earlier) before (all-unsent R before gather d centre x (Still d) waits)),
       -- the centre took that in, and knows no less at the end
-      delivered R permitted before gather d centre gb gg x i q h,
+      delivered R before gather d centre x permitted gb gg i q h,
       grows-all R (x .later) ((before ++ x .earlier) ++ one c) ga (rest .1) centre i q,
-      ap (λ (l : List Call). machine R l .ticks centre i q) (apart R permitted before gather d centre gb gg x),
+      ap (λ (l : List Call). machine R l .ticks centre i q) (apart R before gather d centre x),
     )
 
 -- ---- the round
@@ -107,15 +106,15 @@ module _ (R : Rules) (permitted : Permitted (R .limits)) (before gather spread :
       let x = round .takes d s in
       let c = apply d (x .number) (x .room) in
       let still = round .quiet d s in
-      let rests = all-unsent R permitted half spread centre d given-half gs x (Still centre) (round .rests) in
+      let rests = all-unsent R half spread centre d x (Still centre) (round .rests) in
       omega (
         arith,
         gathered-all d s i q h,
         -- the district knows what it knew, takes the larger, and knows that at the end
         ap (λ f. f i q) (still-all R d (x .earlier) half (still .0)),
-        delivered R permitted half spread centre d given-half gs x i q h,
+        delivered R half spread centre d x permitted given-half gs i q h,
         ap (λ f. f i q) (still-all R d (x .later) ((half ++ x .earlier) ++ one c) (still .1)),
-        ap (λ (l : List Call). machine R l .ticks d i q) (apart R permitted half spread centre d given-half gs x),
+        ap (λ (l : List Call). machine R l .ticks d i q) (apart R half spread centre d x),
         -- the centre's batch has what the centre knew after the first half
         ap (λ f. f i q) (still-all R centre (x .sent .earlier) half rests),
       )

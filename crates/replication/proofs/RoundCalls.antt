@@ -1,13 +1,13 @@
 -- The paper's round, written out for any number of districts, is a round where none of its calls is refused. A batch that a call of the
 -- list makes has the number that the list gives it, since each make that is not refused adds one batch and an apply adds none. Districts
 -- are distinct and none is the centre, so no call but its own apply is an edit, deletion or apply on it.
-use Prim.Native.Nat.{ℕ, suc, _<_, _^_}
+use Prim.Native.Nat.{ℕ, suc, _≤_}
 use mathlib.Core.Path.{_≡_, refl, sym, ap, _∙_, subst}
 use mathlib.Core.Logic.{inl, inr}
 use mathlib.Core.List.{List, [], _∷_, _++_, append-assoc, append-nil}
 use native.Mathlib.Nat.{add-zero}
 use native.Mathlib.Omega.{arith}
-use lib.ListN.{length}
+use lib.ListN.{length, length-append}
 use Rattle.codec.specs.Number.{beAt, put}
 use Rattle.codec.proofs.Numbers.{put-be, put-length}
 use Rattle.layout.specs.Knowledge.{Rules, All, Distinct}
@@ -25,10 +25,19 @@ use Rattle.replication.proofs.RoundPremises.{sent-there, delivered-ther
 
 -- ---- all ids
 
-pub id-put : (x : ℕ) → x < 256 ^ 24 → value 0 (put 24 x []) ≡ x
+pub id-length : (x : ℕ) → length (put 24 x []) ≡ 24
+id-length x = put-length 24 x [] ∙ add-zero 24
+
+id-put : (x : ℕ) → x ≤ highest → value 0 (put 24 x []) ≡ x
 id-put x h =
     let s = put 24 x [] in
-    value-be s ∙ (ap (λ (n : ℕ). beAt s n 0) (put-length 24 x [] ∙ add-zero 24) ∙ put-be 24 x [] h)
+    value-be s ∙ (ap (λ (n : ℕ). beAt s n 0) (id-length x) ∙ put-be 24 x [] (top-below x h))
+
+pub lowest-id : value 0 (put 24 0 []) ≡ 0
+lowest-id = id-put 0 (omega arith)
+
+pub highest-id : value 0 (put 24 highest []) ≡ highest
+highest-id = id-put highest (omega arith)
 
 -- ---- servers
 
@@ -81,15 +90,11 @@ module _ (R : Rules) (before front : List Call) where
 
 -- ---- one half
 
-length-more : (xs : List (List ℕ)) (b : List ℕ) → length (xs ++ (b ∷ [])) ≡ suc (length xs)
-length-more [] b = refl
-length-more (x ∷ xs) b = ap suc (length-more xs b)
-
 module _ (R : Rules) (maker taker : ℕ → ℕ) (h : Half) where
-  abbrev making : ℕ → Call
+  abbrev pub making : ℕ → Call
   making d = make (maker d) (h .knowledge d) (put 24 0 []) (put 24 highest []) (h .makeRoom d)
 
-  abbrev taking : ℕ → ℕ → Call
+  abbrev pub taking : ℕ → ℕ → Call
   taking d n = apply (taker d) n (h .applyRoom d)
 
   -- a make and an apply, none refused: one batch more
@@ -99,17 +104,20 @@ module _ (R : Rules) (maker taker : ℕ → ℕ) (h : Half) where
       let a = before ++ one (making d) in
       let m = runner R .written before (making d) (made .0) (writes-exact R (ends R before) (making d) (made .0) .0 (made .1)) in
       let t = runner R .written a (taking d n) (taken .0) (writes-exact R (ends R a) (taking d n) (taken .0) .0 (taken .1)) in
-      ap (λ (l : List (List ℕ)). length l) (t .batches)
-      ∙ (ap (λ (l : List (List ℕ)). length l) (m .batches) ∙ (length-more (ends R before .batches) (made .0) ∙ ap suc e))
+      omega (
+        arith,
+        ap (λ (l : List (List ℕ)). length l) (t .batches),
+        ap (λ (l : List (List ℕ)). length l) (m .batches),
+        length-append (ends R before .batches) (made .0 ∷ []),
+        e,
+      )
 
   sent-first : (d : ℕ) (before : List Call) (n : ℕ) → length (ends R before .batches) ≡ n → Done R before (making d)
       → Sent R before (one (making d)) (maker d) n
   sent-first d before n e done =
       let same : before ++ [] ≡ before = append-nil before in
-      subst (Sent R before (one (making d)) (maker d)) (ap (λ (l : List Call). length (ends R l .batches)) same ∙ e)
-      (sent-there R before [] [] (maker d) (h .knowledge d) (put 24 0 []) (put 24 highest []) (h .makeRoom d)
-      (id-put 0 (top-below 0 (omega arith))) (id-put highest (top-below highest (omega arith)))
-      (subst (λ (l : List Call). Done R l (making d)) (sym same) done))
+      sent-there R before [] [] (maker d) (h .knowledge d) (put 24 0 []) (put 24 highest []) (h .makeRoom d) n lowest-id highest-id
+      (subst (λ (l : List Call). Done R l (making d)) (sym same) done) (ap (λ (l : List Call). length (ends R l .batches)) same ∙ e)
 
   -- the first of them: the batch is made and applied at once
   abbrev sends-first : (d : ℕ) (ds : List ℕ) (before : List Call) (n : ℕ) → length (ends R before .batches) ≡ n

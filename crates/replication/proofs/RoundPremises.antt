@@ -50,10 +50,10 @@ module _ (R : Rules) where
 
   -- ---- a make and an apply, at any places
 
-  abbrev pub sent-there : (before earlier later : List Call) (who : ℕ) (knowledge first last : List ℕ) (room : ℕ)
+  abbrev pub sent-there : (before earlier later : List Call) (who : ℕ) (knowledge first last : List ℕ) (room n : ℕ)
       → value 0 first ≡ 0 → value 0 last ≡ highest → Done R (before ++ earlier) (make who knowledge first last room)
-      → Sent R before (earlier ++ (make who knowledge first last room ∷ later)) who (length (ends R (before ++ earlier) .batches))
-  sent-there before earlier later who knowledge first last room lowest top written = record {
+      → length (ends R (before ++ earlier) .batches) ≡ n → Sent R before (earlier ++ (make who knowledge first last room ∷ later)) who n
+  sent-there before earlier later who knowledge first last room n lowest top written count = record {
     earlier = earlier;
     later = later;
     knowledge = knowledge;
@@ -62,7 +62,7 @@ module _ (R : Rules) where
     room = room;
     is = refl;
     done = written;
-    number = refl;
+    number = count;
     lowest = lowest;
     top = top;
   }

@@ -4,13 +4,12 @@
 -- only for the limits, 11, 12 and 13: every store and batch of a list is valid, needed is what the make was given, and no tick of the
 -- taker falls, so 15, 16 and 18 are not met. In the second half an apply is not refused for these either: the district ends with the
 -- centre's ticks, so with a knowledge and a table that the centre's store has already.
-use Prim.Native.Nat.{ℕ, suc, _≤_, _<_, _^_}
+use Prim.Native.Nat.{ℕ, suc, _≤_, _<_}
 use mathlib.Core.Path.{_≡_, refl, sym, ap, _∙_, subst}
 use mathlib.Core.Logic.{inl, inr, ⊎-elim}
 use mathlib.Core.Bool.{true}
 use mathlib.Core.List.{List, [], _∷_, _++_, append-assoc}
 use mathlib.Core.Option.{Option, some}
-use native.Mathlib.Nat.{le-trans}
 use native.Mathlib.Omega.{arith}
 use lib.ListN.{length}
 use Rattle.codec.specs.Number.{Bytes, beAt}
@@ -63,6 +62,7 @@ use Rattle.replication.proofs.AgreeRun.{paired-number}
 use Rattle.replication.proofs.AgreeAsked.{AllMadeFor}
 use Rattle.replication.proofs.Demand3.{ends-follow, ends-made, store-one, tables-same, demand3, demand3-batches}
 use Rattle.replication.proofs.Runner.{batch-after}
+use Rattle.replication.proofs.Consumed.{some-same}
 use Rattle.replication.proofs.RefusalsTests.{Covered}
 use Rattle.replication.proofs.RefusalsApply.{apply-11, apply-12, apply-13}
 use Rattle.replication.proofs.RefusalsMake.{Fits, madeBatch, make-gives}
@@ -134,12 +134,6 @@ make-never-refused-basic calls given who small s st is =
 
 -- ---- applies
 
-item-below : (x y : ℕ) → x ≤ y → y < 256 ^ 24 → x < 256 ^ 24
-item-below x y h l = le-trans (step h) l
-  where
-    step : x ≤ y → suc x ≤ suc y
-    step h = omega arith
-
 module _ (R : Rules) (permitted : Permitted (R .limits)) (calls : List Call) (given : All Given calls) (p n : ℕ) (small : ReplicaId p)
     (t : List ℕ) (is : batchOf R calls n ≡ some t) where
   pub batch-made : BatchMade R calls n t
@@ -167,8 +161,7 @@ module _ (R : Rules) (permitted : Permitted (R .limits)) (calls : List Call) (gi
 
       lacks-nothing : LacksNeeded (machine R calls) p (b .remembered) (b .batch) → ⊥
       lacks-nothing l =
-          let h : l .item ≤ highest =
-          below-top (l .item) (item-below (l .item) (b .batch .last) (omega (arith, l .below, b .last)) (b .is .valid .last)) in
+          let h : l .item ≤ highest = omega (arith, l .below, b .last, below-top (b .batch .last) (b .is .valid .last)) in
           let q : ReplicaId (l .replica) =
           known-id (anyId (R .limits)) (b .batch .needed) (b .is .valid .neededLawful) (l .item) (l .replica) (omega (arith, l .less)) in
           omega (arith, l .less, b .needed (l .item) (l .replica) h q, covered (l .item) (l .replica) h q)
@@ -188,9 +181,6 @@ asked-append R w (c ∷ cs) b =
     let o = writes R w c in
     ap (λ (l : List (List ℕ)). asks c o ++ l) (asked-append R (keep w c o) cs b)
     ∙ sym (append-assoc (asks c o) (asked R (keep w c o) cs) (asked R (run R (keep w c o) cs) b))
-
-same-some : {A : Type 0} (x y : A) (o : Option A) → o ≡ some x → o ≡ some y → x ≡ y
-same-some x y o e f = cc
 
 module _ (R : Rules) (permitted : Permitted (R .limits)) (a : List Call) (given : All Given a) (who : ℕ) (knowledge first last : List ℕ)
     (room : ℕ) (done : Done R a (make who knowledge first last room)) (cs : List Call) where
@@ -234,7 +224,7 @@ module _ (R : Rules) (permitted : Permitted (R .limits)) (a : List Call) (given 
     given-is =
         let k = made-for .given in
         let e : encode k ≡ encode (st .knowledge) =
-        same-some (encode k) (encode (st .knowledge)) (batchNumber number (asked R start all)) (made-for .bytes)
+        some-same (encode k) (encode (st .knowledge)) (batchNumber number (asked R start all)) (made-for .bytes)
         (asked-knowledge ∙ ap some for) in
         sym (decoded R k permitted (made-for .lawful))
         ∙ (ap decode e ∙ decoded (anyId (R .limits)) (st .knowledge) permitted (is .valid .lawful))
@@ -281,7 +271,7 @@ module _ (R : Rules) (permitted : Permitted (R .limits)) (calls : List Call) (gi
   sent : BatchFollows (R .limits) t (m .versions) b
   sent =
       let x = paired-number (R .limits) (m .versions) n t (ends R calls .batches) (m .batches) (follow .batches) is in
-      subst (BatchFollows (R .limits) t (m .versions)) (same-some (x .b) b (rememberedAt n (m .batches)) (x .is) remembers) (x .follows)
+      subst (BatchFollows (R .limits) t (m .versions)) (some-same (x .b) b (rememberedAt n (m .batches)) (x .is) remembers) (x .follows)
 
   store-opened : openStore (R .limits) (storeAfter R calls p) ≡ accepted (mine .st)
   store-opened = store-opens (R .limits) (storeAfter R calls p) (m .versions) (m .ticks p) p mine permitted

@@ -7,22 +7,19 @@ use mathlib.Core.Path.{_≡_, refl, sym, ap, _∙_, subst}
 use mathlib.Core.Logic.{inl, inr}
 use mathlib.Core.List.{List, [], _∷_, _++_, append-assoc, append-nil}
 use mathlib.Core.Option.{some}
-use native.Mathlib.Nat.{add-zero}
 use native.Mathlib.Omega.{arith}
 use lib.ListN.{length}
 use Rattle.codec.specs.Number.{Bytes, put}
-use Rattle.codec.proofs.Numbers.{put-bytes, put-length}
+use Rattle.codec.proofs.Numbers.{put-bytes}
 use Rattle.layout.specs.Knowledge.{Rules, All, Distinct, Lawful, encode}
 use Rattle.layout.specs.Permitted.{Permitted}
 use Rattle.layout.proofs.Forward.{encode-bytes}
 use Rattle.ticks.specs.Meaning.{highest}
-use Rattle.ticks.proofs.LawfulResults.{top-below}
-use Rattle.replication.specs.Call.{ReplicaId, Call, make, apply, Given}
+use Rattle.replication.specs.Call.{ReplicaId, Call, Given}
 use Rattle.replication.specs.Formats.{Store}
 use Rattle.replication.specs.Room.{longestStore, longestBatch}
 use Rattle.replication.specs.Lists.{batchNumber}
 use Rattle.replication.specs.Calls.{makeReply}
-use Rattle.replication.specs.Machine.{value}
 use Rattle.replication.specs.Promise.{ends, storeAfter, batchOf, IsStore}
 use Rattle.replication.specs.Runner.{one, Writes}
 use Rattle.replication.specs.Round.{Server, Still, Done, Sent, Round}
@@ -30,8 +27,9 @@ use Rattle.replication.specs.RoundCalls.{Half, sends, AllDone}
 use Rattle.replication.proofs.PartBytes.{no-bytes}
 use Rattle.replication.proofs.Runner.{batch-after, batch-exact-number, runner}
 use Rattle.replication.proofs.RoundMoments.{all-append}
-use Rattle.replication.proofs.RoundPremises.{done-writes}
-use Rattle.replication.proofs.RoundCalls.{of-server, id-put, one-more, gatherCalls, spreadCalls, brought, calls-round}
+use Rattle.replication.proofs.RoundPremises.{done-writes, sent-there}
+use Rattle.replication.proofs.RoundCalls.{of-server, id-length, lowest-id, highest-id, making, taking, one-more}
+use Rattle.replication.proofs.RoundCalls.{gatherCalls, spreadCalls, brought, calls-round}
 use Rattle.replication.proofs.RoundRefused.{make-never-refused, second-half}
 
 -- a buffer for the longest batch, and one for the longest store
@@ -45,15 +43,6 @@ pub record ForDistrict (R : Rules) (calls : List Call) (h : Half) (d : ℕ) : Ty
   pub is : IsStore (R .limits) (storeAfter R calls d) store
   pub accepted : Lawful R (store .knowledge)
   pub knowledge : h .knowledge d ≡ encode (store .knowledge)
-
-id-length : (x : ℕ) → length (put 24 x []) ≡ 24
-id-length x = put-length 24 x [] ∙ add-zero 24
-
-lowest : value 0 (put 24 0 []) ≡ 0
-lowest = id-put 0 (top-below 0 (omega arith))
-
-top : value 0 (put 24 highest []) ≡ highest
-top = id-put highest (top-below highest (omega arith))
 
 module _ (R : Rules) (permitted : Permitted (R .limits)) (before : List Call) (centre : ℕ) (ds : List ℕ) (into out : Half)
     (distinct : Distinct (centre ∷ ds)) (first : AllDone R before (gatherCalls R before centre ds into)) (gb : All Given before)
@@ -69,17 +58,18 @@ module _ (R : Rules) (permitted : Permitted (R .limits)) (before : List Call) (c
   given-half : All Given half
   given-half = all-append Given before gather gb gg
 
-  abbrev making : ℕ → Call
-  making d = make centre (out .knowledge d) (put 24 0 []) (put 24 highest []) (out .makeRoom d)
+  -- the calls for one district
+  abbrev makes : ℕ → Call
+  makes d = making R (λ e. centre) (λ e. e) out d
 
-  abbrev taking : ℕ → ℕ → Call
-  taking d n = apply d n (out .applyRoom d)
+  abbrev takes : ℕ → ℕ → Call
+  takes d n = taking R (λ e. centre) (λ e. e) out d n
 
   -- one district, after the calls of those before it
   module _ (d : ℕ) (s : Server d ds) (earlier : List Call) (n : ℕ) (ge : All Given earlier) (rests : All (Still centre) earlier)
       (quiet : All (Still d) earlier) (number : length (ends R (half ++ earlier) .batches) ≡ n) where
-    pub making-given : Given (making d)
-    making-given = (
+    pub makes-given : Given (makes d)
+    makes-given = (
       sc,
       (
         subst Bytes (sym (for d s .knowledge)) (encode-bytes (for d s .store .knowledge)),
@@ -87,12 +77,12 @@ module _ (R : Rules) (permitted : Permitted (R .limits)) (before : List Call) (c
       ),
     )
 
-    made : (bs : List ℕ) × Writes R (ends R (half ++ earlier)) (making d) bs
+    made : (bs : List ℕ) × Writes R (ends R (half ++ earlier)) (makes d) bs
     made =
         let f = for d s in
         let w = make-never-refused R permitted (half ++ earlier) (all-append Given half earlier given-half ge) centre sc
         (storeAfter R half d) (f .store) (f .is) (f .accepted) (put 24 0 []) (put 24 highest []) (put-bytes 24 highest [] no-bytes)
-        (id-length 0) (id-length highest) lowest top in (
+        (id-length 0) (id-length highest) lowest-id highest-id in (
           w .0,
           record {
             reply =
@@ -102,52 +92,41 @@ module _ (R : Rules) (permitted : Permitted (R .limits)) (before : List Call) (c
           },
         )
 
-    pub made-done : Done R (half ++ earlier) (making d)
-    made-done = done-writes R (half ++ earlier) (making d) (made .0) (made .1)
+    pub made-done : Done R (half ++ earlier) (makes d)
+    made-done = done-writes R (half ++ earlier) (makes d) (made .0) (made .1)
 
     -- with the make
     abbrev through : List Call
-    through = earlier ++ one (making d)
+    through = earlier ++ one (makes d)
 
-    both : half ++ through ≡ (half ++ earlier) ++ one (making d)
-    both = sym (append-assoc half earlier (one (making d)))
+    both : half ++ through ≡ (half ++ earlier) ++ one (makes d)
+    both = sym (append-assoc half earlier (one (makes d)))
 
-    sent : Sent R half through centre n
-    sent = record {
-      earlier = earlier;
-      later = [];
-      knowledge = out .knowledge d;
-      first = put 24 0 [];
-      last = put 24 highest [];
-      room = out .makeRoom d;
-      is = refl;
-      done = made-done;
-      number = number;
-      lowest = lowest;
-      top = top;
-    }
+    abbrev sent : Sent R half through centre n
+    sent =
+        sent-there R half earlier [] centre (out .knowledge d) (put 24 0 []) (put 24 highest []) (out .makeRoom d) n lowest-id highest-id
+        made-done number
 
     batch : batchOf R (half ++ through) n ≡ some (made .0)
     batch =
         let old = ends R (half ++ earlier) .batches in
-        let j = runner R .written (half ++ earlier) (making d) (made .0) (made .1) in
+        let j = runner R .written (half ++ earlier) (makes d) (made .0) (made .1) in
         ap (λ (l : List Call). batchOf R l n) both
         ∙ (ap (batchNumber n) (j .batches)
         ∙ (ap (λ (x : ℕ). batchNumber x (old ++ (made .0 ∷ []))) (sym number) ∙ batch-after old (made .0) []))
 
     through-given : All Given through
-    through-given = all-append Given earlier (one (making d)) ge (making-given, tt)
+    through-given = all-append Given earlier (one (makes d)) ge (makes-given, tt)
 
-    pub taken-done : Done R ((half ++ earlier) ++ one (making d)) (taking d n)
-    unfolding sent
+    pub taken-done : Done R ((half ++ earlier) ++ one (makes d)) (takes d n)
     taken-done =
         let f = for d s in
         let b = brought R before centre ds into distinct first d s in
         let w = second-half R permitted before gather through gb gg through-given centre d n sc (small d s) (b .0) (b .1)
-        (all-append (Still centre) earlier (one (making d)) rests (tt, tt)) (all-append (Still d) earlier (one (making d)) quiet (tt, tt))
+        (all-append (Still centre) earlier (one (makes d)) rests (tt, tt)) (all-append (Still d) earlier (one (makes d)) quiet (tt, tt))
         sent half earlier refl (f .store) (f .is) (f .knowledge) (made .0) batch in
-        subst (λ (l : List Call). Done R l (taking d n)) both
-        (done-writes R (half ++ through) (taking d n) (w .0)
+        subst (λ (l : List Call). Done R l (takes d n)) both
+        (done-writes R (half ++ through) (takes d n) (w .0)
         (record {
           reply = (made .0, (batch-exact-number n (ends R (half ++ through) .batches) (made .0) .0 batch, w .1 .0));
           room = omega (arith, w .1 .1, roomy d s .store);
@@ -161,18 +140,18 @@ module _ (R : Rules) (permitted : Permitted (R .limits)) (before : List Call) (c
   rest-done (d ∷ es) earlier n of apart ge rests quiet number =
       let here = of d (inl refl) in
       let q = quiet d (inl refl) in
-      let pair = making d ∷ taking d n ∷ [] in
+      let pair = makes d ∷ takes d n ∷ [] in
       let other : d ≡ centre → ⊥ = λ x. of-server (λ y. centre ≡ y → ⊥) ds (distinct .0) d here (sym x) in
       let made = made-done d here earlier n ge rests q number in
       let taken = taken-done d here earlier n ge rests q number in
-      let both : half ++ (earlier ++ pair) ≡ ((half ++ earlier) ++ one (making d)) ++ one (taking d n) =
-      sym (append-assoc half earlier pair) ∙ sym (append-assoc (half ++ earlier) (one (making d)) (one (taking d n))) in (
+      let both : half ++ (earlier ++ pair) ≡ ((half ++ earlier) ++ one (makes d)) ++ one (takes d n) =
+      sym (append-assoc half earlier pair) ∙ sym (append-assoc (half ++ earlier) (one (makes d)) (one (takes d n))) in (
         made,
         (
           taken,
           subst (λ (l : List Call). AllDone R l (sends (λ e. centre) (λ e. e) out (suc n) es)) both
               (rest-done es (earlier ++ pair) (suc n) (λ e t. of e (inr t)) (apart .1)
-              (all-append Given earlier pair ge (making-given d here earlier n ge rests q number, (small d here, tt)))
+              (all-append Given earlier pair ge (makes-given d here earlier n ge rests q number, (small d here, tt)))
               (all-append (Still centre) earlier pair rests (tt, (other, tt)))
               (λ e t. all-append (Still e) earlier pair (quiet e (inr t)) (tt, (of-server (λ y. d ≡ y → ⊥) es (apart .0) e t, tt)))
               (ap (λ (l : List Call). length (ends R l .batches)) both

@@ -60,11 +60,11 @@ module _ (L : Limits) (a b : Batch) (v : LawfulBatch L a) (w : LawfulBatch L b) 
   needed-same : KnowSame (a .needed) (b .needed) → a .needed ≡ b .needed
   needed-same f = knowledge-same L (a .needed) (b .needed) (v .neededLawful) (w .neededLawful) (v .neededNormal) (w .neededNormal) f
 
-  abbrev AlikeInside : Type 0
-  AlikeInside = (i q : ℕ) → a .first ≤ i → i ≤ a .last → ReplicaId q → known (a .learned) i q ≡ known (b .learned) i q
+  abbrev KnowSameInside : Type 0
+  KnowSameInside = (i q : ℕ) → a .first ≤ i → i ≤ a .last → ReplicaId q → known (a .learned) i q ≡ known (b .learned) i q
 
   -- learned knows nothing outside the span
-  learned-same : a .first ≡ b .first → a .last ≡ b .last → AlikeInside → a .learned ≡ b .learned
+  learned-same : a .first ≡ b .first → a .last ≡ b .last → KnowSameInside → a .learned ≡ b .learned
   learned-same e f inside =
       knowledge-same L (a .learned) (b .learned) (v .learnedLawful) (w .learnedLawful) (v .learnedNormal) (w .learnedNormal)
       (λ i q h small.
@@ -74,7 +74,7 @@ module _ (L : Limits) (a b : Batch) (v : LawfulBatch L a) (w : LawfulBatch L b) 
         | side-above l ↦ v .outside i q h (inr l) ∙ sym (w .outside i q h (inr (omega (arith, l, f))))
       ])
 
-  batches-same : a .first ≡ b .first → a .last ≡ b .last → KnowSame (a .needed) (b .needed) → AlikeInside
+  batches-same : a .first ≡ b .first → a .last ≡ b .last → KnowSame (a .needed) (b .needed) → KnowSameInside
       → ((i : ℕ) → find i (a .records) ≡ find i (b .records)) → a ≡ b
   batches-same e f needed inside records =
       same-batch a b e f (needed-same needed) (learned-same e f inside)
