@@ -30,6 +30,7 @@ use Rattle.ticks.proofs.Vectors.{tick-nil, tick-same}
 use Rattle.ticks.proofs.Unique.{all-get, key-known}
 use Rattle.ticks.proofs.Operations.{normal-test}
 use Rattle.ticks.proofs.ForCode.{indexAt-nil, indexAt-lt, indexAt-ge, vector-indexed, known-place, keys-below}
+use Rattle.ticks.proofs.LawfulResults.{highest-words}
 use Rattle.lookup.specs.declared.Cursor.{Cursor}
 use Rattle.lookup.specs.Method.{startAt, Opens}
 use Rattle.lookup.proofs.Leaf.{read-lawful, read-ranges, opens-reading}
@@ -75,14 +76,10 @@ module _ (l b0 b1 b2 : ℕ) (b : Bool) where
 
 -- The end of a range
 
-top-words : words3 topWord topWord topWord ≡ highest
-unfolding words3 highest
-top-words = refl
-
 module _ (s : List ℕ) (next left l : ℕ) (b : Bool) where
   pub end-top : left ≡ 0 → b ≡ ltb l (words3 topWord topWord topWord) → b ≡ ltb l (endBefore s left next)
   unfolding endBefore
-  end-top z e = e ∙ ap (ltb l) (top-words ∙ ap (λ n. endBefore s n next) (sym z))
+  end-top z e = e ∙ ap (ltb l) (highest-words ∙ ap (λ n. endBefore s n next) (sym z))
 
   pub end-before : (x y z : ℕ) → x ≡ beAt s 8 next → y ≡ beAt s 8 (next + 8) → z ≡ beAt s 8 (next + 16) → (left ≡ 0 → ⊥)
       → b ≡ ltb l (words3 x y z - 1) → b ≡ ltb l (endBefore s left next)

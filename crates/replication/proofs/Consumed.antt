@@ -12,13 +12,14 @@ use native.Mathlib.Omega.{arith}
 use lib.ListN.{length, drop}
 use lib.Seq.{drop-length}
 use Rattle.codec.specs.Number.{Bytes, beAt, put}
-use Rattle.codec.specs.Reply.{gives}
+use Rattle.codec.specs.Reply.{gives, answer, numberOf}
 use Rattle.codec.proofs.Numbers.{be-below, put-back}
 use Rattle.layout.specs.Knowledge.{Rules, basic, base, Knowledge, All, Lawful, encode}
 use Rattle.layout.specs.Permitted.{Permitted}
 use Rattle.ticks.specs.Meaning.{highest, known}
 use Rattle.ticks.specs.Calls.{containNumber, containValue, containAnswer, leadNumber, leadValue, leadAnswer}
 use Rattle.ticks.specs.Calls.{coverNumber, coverValue, coverAnswer, normaliseReply, mergeReply, projectReply}
+use Rattle.ticks.specs.Compare.{compareReply, orderValue}
 use Rattle.ticks.specs.Demand1.{SaysOrRefuses}
 use Rattle.ticks.specs.Demand2.{SameVersions}
 use Rattle.ticks.proofs.Algebra.{versions-ticks}
@@ -278,6 +279,13 @@ module _ (R : Rules) (D : Demand1 R) where
 
   pub project-zero : (s first last out : List ℕ) (old : ℕ) → WritesAtZero (projectReply R s first last) out old
   project-zero s first last out old = writes-at-zero (projectReply R s first last) out old (D .project s first last out old)
+
+  pub compare-zero : (s t out : List ℕ) (old : ℕ) → WritesAtZero (compareReply R s t) out old
+  compare-zero s t out old = writes-at-zero (compareReply R s t) out old (D .compare s t out old)
+
+  pub order-zero : (s t out : List ℕ) → SaysAtZero numberOf (orderValue R s t) (answer (compareReply R s t) (length out))
+  order-zero s t out =
+      says-at-zero numberOf (orderValue R s t) (answer (compareReply R s t) (length out)) (D .order s t (length out))
 
   pub new-zero : (own out : List ℕ) (old : ℕ) → WritesAtZero (newReply own) out old
   new-zero own out old = writes-at-zero (newReply own) out old (D .new own out old)

@@ -14,6 +14,7 @@ use Rattle.layout.proofs.Exact.{base-permitted}
 use Rattle.ticks.specs.Demand1.{WritesOrRefuses, SaysOrRefuses}
 use Rattle.ticks.proofs.Demand1.{Positive, table-ends, number-positive, fault-positive, parse-positive, result-positive, ends-writing, ends-saying}
 use Rattle.ticks.proofs.Demand1.{check-checking, contain-saying, lead-saying, cover-saying, normalise-writing, merge-writing, project-writing}
+use Rattle.ticks.proofs.Demand1.{compare-writing, compare-saying}
 use Rattle.replication.specs.Call.{Brought}
 use Rattle.replication.specs.Calls.{then, storeLines, newReply, editLines, editReply, deleteLines, deleteReply, makeLines, makeReply, applyLines, applyReply}
 use Rattle.replication.specs.Demand1.{partValues, coverageValues, Demand1}
@@ -176,6 +177,8 @@ module _ (R : Rules) (permitted : Permitted (R .limits)) where
     normalise = normalise-writing R permitted;
     merge = merge-writing R permitted;
     project = project-writing R permitted;
+    compare = compare-writing R permitted;
+    order = compare-saying R permitted;
     new = new-writing;
     edit = edit-writing (R .limits);
     delete = delete-writing (R .limits);

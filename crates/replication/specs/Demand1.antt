@@ -3,9 +3,11 @@
 -- the buffer and the rest is as it was. The contracts of the C functions say that number, values and buffer are those named here
 -- (`crates/collector/src/lib.rt`); the number of a walk is always 0.
 use Rattle.codec.specs.Prelude.{ℕ, List}
+use Rattle.codec.specs.Reply.{answer, numberOf}
 use Rattle.layout.specs.Knowledge.{Rules}
 use Rattle.ticks.specs.Calls.{containNumber, containValue, containAnswer, leadNumber, leadValue, leadAnswer}
 use Rattle.ticks.specs.Calls.{coverNumber, coverValue, coverAnswer, normaliseReply, mergeReply, projectReply}
+use Rattle.ticks.specs.Compare.{compareReply, orderValue}
 use Rattle.ticks.specs.Demand1.{WritesOrRefuses, SaysOrRefuses, ChecksOrRefuses}
 use Rattle.replication.specs.Call.{Brought}
 use Rattle.replication.specs.Calls.{newReply, editReply, deleteReply, makeReply, applyReply}
@@ -29,6 +31,8 @@ pub record Demand1 (R : Rules) : Type 0 where
   pub normalise : (s out : List ℕ) (old : ℕ) → WritesOrRefuses (normaliseReply R s) out old
   pub merge : (s t out : List ℕ) (old : ℕ) → WritesOrRefuses (mergeReply R s t) out old
   pub project : (s first last out : List ℕ) (old : ℕ) → WritesOrRefuses (projectReply R s first last) out old
+  pub compare : (s t out : List ℕ) (old : ℕ) → WritesOrRefuses (compareReply R s t) out old
+  pub order : (s t : List ℕ) (room : ℕ) → SaysOrRefuses numberOf (orderValue R s t) (answer (compareReply R s t) room)
   pub new : (own out : List ℕ) (old : ℕ) → WritesOrRefuses (newReply own) out old
   pub edit : (s item : List ℕ) (b : Brought) (out : List ℕ) (old : ℕ) → WritesOrRefuses (editReply (R .limits) s item b) out old
   pub delete : (s item out : List ℕ) (old : ℕ) → WritesOrRefuses (deleteReply (R .limits) s item) out old

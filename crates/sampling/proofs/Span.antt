@@ -18,6 +18,7 @@ use Rattle.ticks.specs.Calls.{idOf}
 use Rattle.ticks.specs.Meaning.{highest}
 use Rattle.ticks.proofs.Lists.{order, less, same, more}
 use Rattle.ticks.proofs.Equality.{exact?, eqb-exact}
+use Rattle.ticks.proofs.LawfulResults.{highest-words}
 use Rattle.loading.specs.Method.{Stops, Begins, at-once, after-one, Ends, at-top, with-one}
 use Rattle.sampling.specs.declared.Bound.{Bound}
 use Rattle.sampling.specs.MethodRows.{boundOf, itemOf, InWords, boundRead, topWord, firstItem, topItem, putBound}
@@ -27,8 +28,7 @@ use Rattle.sampling.proofs.Bounds.{bound-put, put-size}
 use Rattle.tables.specs.MethodWords.{boundAt}
 
 pub top-words : itemOf topItem ≡ highest
-unfolding words3 highest
-top-words = refl
+top-words = highest-words
 
 pub zero-words : itemOf firstItem ≡ 0
 unfolding words3

@@ -12,8 +12,10 @@ use lib.ListN.{length, take, drop}
 use lib.Seq.{sets, sets-eq, drop-length}
 use borrow.Author.Tests.{leb-true, leb-false}
 use Rattle.codec.specs.Parsed.{Parsed, accepted, refused, line, ownFault}
-use Rattle.codec.specs.Reply.{Reply, gives, refuses, Line, firstFault, after}
-use Rattle.codec.proofs.Replies.{fault-here, fault-later, number-fits, number-short, number-refused, after-fits, after-short}
+use Rattle.codec.specs.declared.Answer.{Answer}
+use Rattle.codec.specs.declared.Answer.the-variants as A
+use Rattle.codec.specs.Reply.{Reply, gives, refuses, Line, firstFault, answer, after, numberOf}
+use Rattle.codec.proofs.Replies.{fault-here, fault-later, answer-fits, answer-short, number-fits, number-short, number-refused, after-fits, after-short}
 use Rattle.layout.specs.Knowledge.{Limits, Rules, All, Knowledge}
 use Rattle.layout.specs.Permitted.{Permitted}
 use Rattle.layout.specs.Parse.{parse, checkedBy}
@@ -27,6 +29,8 @@ use Rattle.ticks.specs.declared.Lead.the-variants as D
 use Rattle.ticks.specs.declared.Cover.the-variants as E
 use Rattle.ticks.specs.Calls.{containNumber, containValue, containFound, containAnswer, leadNumber, leadValue, leadAnswer}
 use Rattle.ticks.specs.Calls.{coverNumber, coverValue, coverFound, coverAnswer, normaliseReply, mergeReply, projectReply, resultLines}
+use Rattle.ticks.specs.Calls.{readAs}
+use Rattle.ticks.specs.Compare.{compared, compareReply, orderValue}
 use Rattle.ticks.specs.Demand1.{WritesOrRefuses, it-refuses, it-writes, SaysOrRefuses, says-nothing, says-values, ChecksOrRefuses, checks-nothing, checks-sizes}
 
 -- a line that holds has a number that is not 0
@@ -90,6 +94,22 @@ pub ends-writing : (bs : List ℕ) (r : Reply) (out : List ℕ) (old : ℕ) → 
 ends-writing bs r out old (inl e) = subst (λ (x : Reply). WritesOrRefuses x out old) (sym e) (gives-writing bs out old)
 ends-writing bs r out old (inr e) = subst (λ (x : Reply). WritesOrRefuses x out old) (sym (e .1 .1)) (refuses-writing (e .0) out old (e .1 .0))
 
+-- the number of an answer that is refused is not 0, 14 too
+pub answer-positive : (bs : List ℕ) (r : Reply) (room : ℕ) → Ends refuses (gives bs) r → (n : ℕ) → answer r room ≡ A.Refused n → 1 ≤ n
+unfolding answer
+answer-positive bs r room (inl e) n h = go (leb (length bs) room) refl (sym (ap (λ (x : Reply). answer x room) e) ∙ h)
+  where
+    go : (t : Bool) → leb (length bs) room ≡ t → answer (gives bs) room ≡ A.Refused n → 1 ≤ n
+    go true f g =
+        let z : _≡_ {A = ℕ} 0 1 = cc (sym (answer-fits bs room (leb-true (length bs) room f)) ∙ g) in
+        absurd (omega arith)
+    go false f g =
+        let z : 14 ≡ n = cc (sym (answer-short bs room (leb-false (length bs) room f)) ∙ g) in
+        omega arith
+answer-positive bs r room (inr e) n h =
+    let z : e .0 ≡ n = cc (sym (ap (λ (x : Reply). answer x room) (e .1 .1)) ∙ h) in
+    omega (arith, e .1 .0)
+
 -- ---- calls that say
 
 pub ends-saying : {A B : Type 0} (number : A → ℕ) (values : A → B → B) (refusal : ℕ → A) (found x : A) → Ends refusal found x
@@ -151,6 +171,22 @@ module _ (R : Rules) (permitted : Permitted (R .limits)) where
   project-writing s first last out old =
       ends-writing _ _ out old
       (table-ends refuses _ _ (parse-positive R permitted s, (number-positive 17 _ (omega arith), result-positive (R .limits) _)))
+
+  -- compare, which writes bytes and says an order
+  compare-ends : (s t : List ℕ) → Ends refuses (gives (compared (readAs (parse R s)) (readAs (parse R t)))) (compareReply R s t)
+  unfolding compareReply
+  compare-ends s t = table-ends refuses _ _ (parse-positive R permitted s, (parse-positive R permitted t, tt))
+
+  pub compare-writing : (s t out : List ℕ) (old : ℕ) → WritesOrRefuses (compareReply R s t) out old
+  compare-writing s t out old = ends-writing _ _ out old (compare-ends s t)
+
+  order-saying : (s t : List ℕ) (a : Answer) → ((n : ℕ) → a ≡ A.Refused n → 1 ≤ n) → SaysOrRefuses numberOf (orderValue R s t) a
+  unfolding numberOf orderValue
+  order-saying s t (A.Written n) h = says-values refl (λ old other. refl)
+  order-saying s t (A.Refused n) h = says-nothing (h n refl) (λ old. refl)
+
+  pub compare-saying : (s t : List ℕ) (room : ℕ) → SaysOrRefuses numberOf (orderValue R s t) (answer (compareReply R s t) room)
+  compare-saying s t room = order-saying s t (answer (compareReply R s t) room) (answer-positive _ _ room (compare-ends s t))
 
   -- the check, whose four sizes fill what they are put into
   four-put : (r v e g : ℕ) (old : List ℕ) → length old ≡ 4 → sets old 0 (r ∷ v ∷ e ∷ g ∷ []) ≡ r ∷ v ∷ e ∷ g ∷ []

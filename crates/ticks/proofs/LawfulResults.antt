@@ -10,6 +10,7 @@ use mathlib.Core.List.{List, [], _∷_, _++_}
 use native.Mathlib.Omega.{arith, none}
 use lib.Dec.{eqb}
 use lib.ListN.{length, getD}
+use Rattle.codec.specs.Words.{words3}
 use Rattle.layout.specs.Answer.{elements}
 use Rattle.layout.proofs.Forward.{encode-length}
 use Rattle.layout.specs.Knowledge.{encode, Rules, largestTick, Element, Range, Knowledge, All, Rising, keys, bounds, Lawful}
@@ -29,6 +30,11 @@ use Rattle.ticks.proofs.Operations.{known-normalise, normal-normalise, 
 use Rattle.ticks.proofs.Counts.{normalise-map, merge-map, project-map, raise-map, replicas-fit, ranges-fit, normalise-never-11, project-never-11}
 
 -- The top item id and 24 bytes
+
+-- the top item id is three full words
+pub highest-words : words3 18446744073709551615 18446744073709551615 18446744073709551615 ≡ highest
+unfolding words3 highest
+highest-words = refl
 
 pub below-top : (b : ℕ) → b < 256 ^ 24 → b ≤ highest
 below-top b h = let l : b < suc highest = subst (λ n. b < n) (sym highest-suc) h in under l

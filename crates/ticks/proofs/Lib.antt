@@ -30,5 +30,7 @@ pub mod Results
 pub mod ForCode
 pub mod ForRows
 pub mod Told
+pub mod Comparing
 pub mod Demand1
 pub mod Consumed
+pub mod CompareConsumed

@@ -7,6 +7,7 @@ pub mod Calls
 pub mod Answers
 pub mod Demand2
 pub mod Results
+pub mod Compare
 pub mod Demand1
 pub mod MethodLookup
 pub mod MethodRows
