@@ -15,6 +15,7 @@ ghost use Rattle.layout.specs.Answer.{checkedNumber, checkedSizes};
 ghost use Rattle.ticks.specs.Calls.{containNumber, containValue, containAnswer, leadNumber, leadValue, leadAnswer};
 ghost use Rattle.ticks.specs.Calls.{coverNumber, coverValue, coverAnswer};
 ghost use Rattle.ticks.specs.Calls.{normaliseReply, mergeReply, projectReply};
+ghost use Rattle.ticks.specs.Compare.{compareReply, orderValue};
 ghost use Rattle.replication.specs.Calls.{newReply, editReply, deleteReply, makeReply, applyReply};
 ghost use Rattle.replication.specs.Call.{brings};
 ghost use Rattle.replication.specs.Queries.{partNumber, partSide, partAtPlace, partLength, winnerPart, learnedPart, knowledgePart, lengthAt};
@@ -180,6 +181,29 @@ pub extern "C" fn sync_project(
         (projectReply basic (now (knowledge .entry)) (now (first .entry)) (now (last .entry))) (now (out .entry)) ⌝ }
 {
     let a = operations::project(knowledge, first, last, out);
+    ended(a, written)
+}
+
+// Which of two knowledges is ahead, over all ids: the order (0 alike, 1 the first is behind, 2 the first is ahead, 3 each lacks
+// something), and for each that lacks something the first place where it does, with both ticks, and the length of these; or the
+// refusal's number, and then nothing changes.
+#[no_mangle]
+pub extern "C" fn sync_compare(
+    first: &[u8],
+    second: &[u8],
+    order: &mut u32,
+    out: &mut [u8],
+    written: &mut u64,
+) -> u32
+    ensures number { λ r. ⌜ r ≡ numberOf
+        (answer (compareReply basic (now (first .entry)) (now (second .entry))) (length (now (out .entry)))) ⌝ }
+    ensures value { λ _. ⌜ now (order .exit) ≡ orderValue basic (now (first .entry)) (now (second .entry))
+        (answer (compareReply basic (now (first .entry)) (now (second .entry))) (length (now (out .entry)))) (now (order .entry)) ⌝ }
+    ensures count { λ _. ⌜ now (written .exit) ≡ writtenOf
+        (answer (compareReply basic (now (first .entry)) (now (second .entry))) (length (now (out .entry)))) (now (written .entry)) ⌝ }
+    ensures bytes { λ _. ⌜ now (out .exit) ≡ after (compareReply basic (now (first .entry)) (now (second .entry))) (now (out .entry)) ⌝ }
+{
+    let a = comparing::compare(first, second, order, out);
     ended(a, written)
 }
 

@@ -2,6 +2,7 @@
 pub mod Given
 pub mod Spelled
 pub mod Table
+pub mod Compared
 pub mod NotNormal
 pub mod Broken
 pub mod Listed

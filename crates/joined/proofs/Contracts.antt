@@ -7,11 +7,14 @@ use denote.Ref.{now}
 use denote.Triple.Clauses.{AtExit}
 use borrow.Fn.Kinds.{Dens, resT, endedOf}
 use borrow.Author.Needs.{needs}
+use lib.ListN.{length}
+use Rattle.codec.specs.Reply.{answer}
 use Rattle.layout.specs.Knowledge.{basic, base}
 use Rattle.layout.specs.Parse.{checkedBy}
 use Rattle.layout.specs.Answer.{checkedNumber, checkedSizes}
 use Rattle.ticks.specs.Calls.{containNumber, containValue, containAnswer, leadNumber, leadValue, leadAnswer}
 use Rattle.ticks.specs.Calls.{coverNumber, coverValue, coverAnswer, normaliseReply, mergeReply, projectReply}
+use Rattle.ticks.specs.Compare.{compareReply, orderValue}
 use Rattle.replication.specs.Call.{brings}
 use Rattle.replication.specs.Calls.{newReply, editReply, deleteReply, makeReply, applyReply}
 use Rattle.replication.specs.Queries.{partNumber, partSide, partAtPlace, partLength, winnerPart, learnedPart, knowledgePart, lengthAt}
@@ -31,6 +34,8 @@ use Rattle.collector.proofs.sync_merge.Kinds as merge-kinds
 use Rattle.collector.proofs.sync_merge.Reads as merge-reads
 use Rattle.collector.proofs.sync_project.Kinds as project-kinds
 use Rattle.collector.proofs.sync_project.Reads as project-reads
+use Rattle.collector.proofs.sync_compare.Kinds as compare-kinds
+use Rattle.collector.proofs.sync_compare.Reads as compare-reads
 use Rattle.collector.proofs.sync_new.Kinds as new-kinds
 use Rattle.collector.proofs.sync_new.Reads as new-reads
 use Rattle.collector.proofs.sync_edit.Kinds as edit-kinds
@@ -131,6 +136,18 @@ pub project-told : (κs : Lfts 5) (a : Dens κs project-kinds.ps) (r : resT proj
     → Called (projectReply basic (now (a .0)) (now (a .1 .0)) (now (a .1 .1 .0)))
     r (now (a .1 .1 .1 .1 .0)) (now (s .1 .1 .1 .1 .0)) (now (a .1 .1 .1 .0)) (now (s .1 .1 .1 .0))
 project-told κs a r s h = record { returned = h .0; told = h .1 .0; buffer = h .1 .1 }
+
+-- sync_compare(first, second, order, out, written)
+pub compare-asks : (κs : Lfts 5) (a : Dens κs compare-kinds.ps) → compare-reads.Asked κs a
+compare-asks κs a = search needs
+
+pub compare-told : (κs : Lfts 5) (a : Dens κs compare-kinds.ps) (r : resT compare-kinds.r κs .Denot)
+    (s : AtExit (endedOf 5 compare-kinds.ps compare-kinds.r) κs) → compare-reads.Learnt κs a r s
+    → Called (compareReply basic (now (a .0)) (now (a .1 .0)))
+    r (now (a .1 .1 .1 .1 .0)) (now (s .1 .1 .1 .1 .0)) (now (a .1 .1 .1 .0)) (now (s .1 .1 .1 .0))
+    × (now (s .1 .1 .0) ≡ orderValue basic (now (a .0)) (now (a .1 .0))
+    (answer (compareReply basic (now (a .0)) (now (a .1 .0))) (length (now (a .1 .1 .1 .0)))) (now (a .1 .1 .0)))
+compare-told κs a r s h = (record { returned = h .0; told = h .1 .1 .0; buffer = h .1 .1 .1 }, h .1 .0)
 
 -- sync_new(own, out, written)
 pub new-asks : (κs : Lfts 3) (a : Dens κs new-kinds.ps) → new-reads.Asked κs a

@@ -1,0 +1,24 @@
+-- `collector::sync_compare` meets its contract: number, length and buffer are those of the call's reply, and the order is as `compare`
+-- leaves it.
+use Rattle.collector.proofs.Endings.{told}
+use borrow.Author.Needs.{needs}
+use Rattle.collector.proofs.sync_compare.Statement.{statement}
+use Rattle.collector.proofs.sync_compare.Tie as tie
+
+compare-requires : tie.Need-compare-requires
+compare-requires c κs = search needs
+
+ended-requires : tie.Need-ended-requires
+ended-requires c κs = search needs
+
+same-length : tie.Need-same-length
+same-length c = search needs
+
+returns : tie.Need-returns
+returns c =
+    let said = c .before .before .before .before .compare .ensures in
+    let t = told _ _ _ _ _ _ _ (c .ended .ensures .0) (c .ended .ensures .1) (said .0) (said .1 .0) in
+    (t .0, (said .1 .1, (t .1 .0, t .1 .1)))
+
+pub sync-compare-spec : {M : Type 1} → statement M
+sync-compare-spec = tie.close (tie.spec compare-requires ended-requires same-length returns)

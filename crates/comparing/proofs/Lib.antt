@@ -1,0 +1,3 @@
+-- The laws that comparing is proved by.
+pub mod HowFar
+pub mod Calls

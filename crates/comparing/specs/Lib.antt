@@ -1,0 +1,2 @@
+-- The method of comparing.
+pub mod Method
