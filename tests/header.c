@@ -173,6 +173,46 @@ static int writing(void)
                  out, 0);
 }
 
+/* A knowledge as it is given to a call, or other bytes. */
+struct input {
+    const uint8_t *bytes;
+    size_t n;
+};
+
+static const struct input in_a = {a, sizeof a}, in_b = {b, sizeof b}, in_merged = {merged, sizeof merged};
+static const struct input in_cut = {a, sizeof a - 1}, in_longer = {bytes, LENGTH + 1};
+
+/* What A lacks of B, tick 2 of replica Q at item 0, and what B lacks of A, which knows tick 5 of replica P there and not 3. */
+#define LACK 56
+static const uint8_t lacks[SYNC_LARGEST_COMPARISON] = {
+    0, 0, 0, 0, 0, 0, 0, 0, 0, 0, 0, 0, 0, 0, 0, 0, 0, 0, 0, 0, 0, 0, 0, 0,
+    0, 0, 0, 0, 0, 0, 0, 0, 0, 0, 0, 0, 0, 0, 0, 2,  0, 0, 0, 0, 0, 0, 0, 0,  0, 0, 0, 0, 0, 0, 0, 2,
+    0, 0, 0, 0, 0, 0, 0, 0, 0, 0, 0, 0, 0, 0, 0, 0, 0, 0, 0, 0, 0, 0, 0, 0,
+    0, 0, 0, 0, 0, 0, 0, 0, 0, 0, 0, 0, 0, 0, 0, 1,  0, 0, 0, 0, 0, 0, 0, 5,  0, 0, 0, 0, 0, 0, 0, 3
+};
+
+/* Whether comparing two, with so much room, gives the number, the order and these n bytes; the order stays 7 on a refusal. */
+static int compare(struct input x, struct input y, size_t room, uint32_t number, uint32_t order, const uint8_t *wanted, size_t n)
+{
+    uint32_t value = 7;
+    uint32_t given = sync_compare(x.bytes, x.n, y.bytes, y.n, &value, out, room, &written);
+    return gave("compare", given, number, value, order) && wrote("compare", given, number, wanted, n);
+}
+
+static int comparing(void)
+{
+    forget();
+    return compare(in_a, in_a, 0, 0, SYNC_ALIKE, lacks, 0)
+        && compare(in_a, in_merged, LACK, 0, SYNC_BEHIND, lacks, LACK)
+        && compare(in_merged, in_b, LACK, 0, SYNC_AHEAD, lacks + LACK, LACK)
+        && compare(in_a, in_b, SYNC_LARGEST_COMPARISON, 0, SYNC_APART, lacks, sizeof lacks)
+        && compare(in_a, in_b, ROOM, 0, SYNC_APART, lacks, sizeof lacks)
+        && compare(in_cut, in_longer, 0, SYNC_CUT, 7, out, 0)
+        && compare(in_b, in_longer, 0, SYNC_LEFT_OVER, 7, out, 0)
+        && compare(in_merged, in_b, LACK - 1, SYNC_SHORT_BUFFER, 7, out, 0)
+        && compare(in_a, in_b, SYNC_LARGEST_COMPARISON - 1, SYNC_SHORT_BUFFER, 7, out, 0);
+}
+
 int main(void)
 {
     return right(LENGTH, 0, 0, 1, 0, 1)
@@ -180,6 +220,7 @@ int main(void)
         && right(LENGTH + 1, SYNC_LEFT_OVER, 7, 7, 7, 7)
         && right(0, SYNC_CUT, 7, 7, 7, 7)
         && calls()
+        && comparing()
         && writing()
         ? 0 : 1;
 }

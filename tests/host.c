@@ -1,5 +1,6 @@
 /* A host program in C that keeps stores and batches in byte buffers and plays the paper's instances K9 to K12 to the byte: what each call
-   returns, every byte that it writes, and that it writes no other. Then the paper's figures of coverage. */
+   returns, every byte that it writes, and that it writes no other. Then the paper's figures of coverage, and knowledges of the instances K4
+   and K6 compared. */
 
 #include <inttypes.h>
 #include <stdio.h>
@@ -68,6 +69,61 @@ static const uint8_t q_after_two[] = {STORE(Q, 149, 2), KNOWS(P, 2), EDITED(1, P
 static const uint8_t p_sixteen[] = {STORE(P, 149, 16), KNOWS(P, 16), FOUR(1), FOUR(5), FOUR(9), FOUR(13)};
 static const uint8_t after_one[] = {KNOWS(P, 1)};
 static const uint8_t after_three[] = {KNOWS(P, 3)};
+
+/* The knowledges A and B of K4, and A on the span of item 1 alone, as in K6: from item 1 on what A knows, and from item 2 on nothing. */
+static const uint8_t a[] = {KNOWS(P, 5)};
+static const uint8_t b[] = {KNOWS_BOTH(3, 2)};
+static const uint8_t a_on_1[] = {
+    OPENING, NUMBER(1), REPLICA(P), BEFORE_VECTORS, NUMBER(2), NO_ELEMENTS, NUMBER(1), NUMBER(1), NUMBER(0), TICK(5),
+    BEFORE_RANGES, NUMBER(3), ITEM(0), NUMBER(0), ITEM(1), NUMBER(1), ITEM(2), NUMBER(0), CLOSING
+};
+
+/* A on all items but the last. */
+static const uint8_t a_but_top[] = {
+    OPENING, NUMBER(1), REPLICA(P), BEFORE_VECTORS, NUMBER(2), NO_ELEMENTS, NUMBER(1), NUMBER(1), NUMBER(0), TICK(5),
+    BEFORE_RANGES, NUMBER(2), ITEM(0), NUMBER(1), TOP, NUMBER(0), CLOSING
+};
+
+/* Two that are not in normal form: B with its replicas the other way round, and A from item 2 on, which is all that it says. */
+static const uint8_t b_exchanged[] = {
+    OPENING, NUMBER(2), REPLICA(Q), REPLICA(P), BEFORE_VECTORS, NUMBER(2), NO_ELEMENTS,
+    NUMBER(1), NUMBER(2), NUMBER(0), TICK(2), NUMBER(1), TICK(3), BEFORE_RANGES, NUMBER(1), ITEM(0), NUMBER(1), CLOSING
+};
+static const uint8_t a_from_2[] = {
+    OPENING, NUMBER(1), REPLICA(P), BEFORE_VECTORS, NUMBER(2), NO_ELEMENTS, NUMBER(1), NUMBER(1), NUMBER(0), TICK(5),
+    BEFORE_RANGES, NUMBER(1), ITEM(2), NUMBER(1), CLOSING
+};
+
+/* Where one lacks something first: an item, a replica, the first's tick there and the second's. */
+#define LACK(item, replica, first, second) ITEM(item), REPLICA(replica), TICK(first), TICK(second)
+static const uint8_t a_and_b[] = {LACK(0, Q, 0, 2), LACK(0, P, 5, 3)};
+static const uint8_t none_of_a[] = {LACK(0, P, 0, 5)};
+static const uint8_t all_of_a[] = {LACK(0, P, 5, 0)};
+static const uint8_t none_of_b[] = {LACK(0, P, 0, 3)};
+static const uint8_t top_of_a[] = {TOP, REPLICA(P), TICK(0), TICK(5)};
+static const uint8_t item_by_item[] = {LACK(1, P, 0, 5), LACK(2, P, 5, 0)};
+
+/* Two knowledges, their order, and what is written. */
+#define BYTES(array) array, sizeof array
+static const struct comparison {
+    const uint8_t *first;
+    size_t first_n;
+    const uint8_t *second;
+    size_t second_n;
+    uint32_t order;
+    const uint8_t *wanted;
+    size_t n;
+} comparisons[] = {
+    {BYTES(a), BYTES(b), 3, BYTES(a_and_b)},
+    {BYTES(nothing), BYTES(a), 1, BYTES(none_of_a)},
+    {BYTES(a_on_1), BYTES(a), 1, BYTES(none_of_a)},
+    {BYTES(a), BYTES(a), 0, out, 0},
+    {BYTES(a), BYTES(a_on_1), 2, BYTES(all_of_a)},
+    {BYTES(a_but_top), BYTES(a), 1, BYTES(top_of_a)},
+    {BYTES(b), BYTES(b_exchanged), 0, out, 0},
+    {BYTES(nothing), BYTES(b_exchanged), 1, BYTES(none_of_b)},
+    {BYTES(a_from_2), BYTES(a_on_1), 3, BYTES(item_by_item)}
+};
 
 static int make(const uint8_t *store, size_t store_n, const uint8_t *knowledge, size_t knowledge_n, const uint8_t *wanted, size_t n)
 {
@@ -182,8 +238,32 @@ static int figures(void)
         && covered(new_p, sizeof new_p, nothing, sizeof nothing, empty);
 }
 
+/* Whether comparing two, with so much room, gives what it should: where that does not fit, 14, and the order stays 7. */
+static int compared(const struct comparison *two, size_t room)
+{
+    int fits = room >= two->n;
+    uint32_t order = 7, wanted = fits ? two->order : 7;
+    uint32_t given = sync_compare(two->first, two->first_n, two->second, two->second_n, &order, out, room, &written);
+    if (order != wanted) {
+        fprintf(stderr, "host: compare with room for %zu bytes: order %" PRIu32 ", not %" PRIu32 "\n", room, order, wanted);
+        return 0;
+    }
+    return fits ? wrote("compare", given, 0, two->wanted, two->n) : wrote("compare", given, SYNC_SHORT_BUFFER, out, 0);
+}
+
+/* Each comparison with every room up to one byte more than any needs. */
+static int orders(void)
+{
+    size_t at, room;
+    for (at = 0; at < sizeof comparisons / sizeof *comparisons; at++)
+        for (room = 0; room <= SYNC_LARGEST_COMPARISON + 1; room++)
+            if (!compared(&comparisons[at], room))
+                return 0;
+    return 1;
+}
+
 int main(void)
 {
     forget();
-    return k9() && k10() && k11() && k12() && others() && figures() ? 0 : 1;
+    return k9() && k10() && k11() && k12() && others() && figures() && orders() ? 0 : 1;
 }

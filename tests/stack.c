@@ -36,8 +36,8 @@ static uint8_t *put_id(uint8_t *to, uint64_t number, int width)
     return to + width;
 }
 
-/* A knowledge of all replicas and ranges. The first replica has the same tick everywhere, the others one that grows with the range. */
-static uint64_t put_knowledge(uint8_t *bytes, uint64_t base)
+/* A knowledge of all replicas and ranges. The first replica has the same tick everywhere, the others one that grows from range to range. */
+static uint64_t put_knowledge(uint8_t *bytes, uint64_t base, uint64_t step)
 {
     uint8_t *to = bytes;
     uint64_t range, key;
@@ -51,7 +51,7 @@ static uint64_t put_knowledge(uint8_t *bytes, uint64_t base)
     for (range = 0; range < RANGES; range++) {
         to = put(put(to, 1, 4), REPLICAS, 4);
         for (key = 0; key < REPLICAS; key++)
-            to = put(put(to, key, 4), key == 0 ? 9000 : base + 16 * range + key, 8);
+            to = put(put(to, key, 4), key == 0 ? 9000 : base + step * range + key, 8);
     }
     to = put(put(put(put(to, 23, 4), 1, 4), 22, 4), RANGES, 4);
     for (range = 0; range < RANGES; range++)
@@ -76,8 +76,8 @@ static uint8_t *put_records(uint8_t *to)
 static void put_all(void)
 {
     uint8_t *to;
-    knowledge_n = put_knowledge(knowledge, 1000);
-    other_n = put_knowledge(other, 1500);
+    knowledge_n = put_knowledge(knowledge, 1000, 16);
+    other_n = put_knowledge(other, 1500, 8);
     memset(last, 255, sizeof last);
     put_id(item, 255, 24);
     put_id(replica, REPLICAS, 16);
@@ -91,6 +91,15 @@ static void put_all(void)
     memcpy(to, knowledge, knowledge_n);
     memcpy(to + knowledge_n, other, other_n);
     batch_n = (uint64_t)(to - batch) + knowledge_n + other_n;
+}
+
+/* Compares the two knowledges; 99 where it does not find that each lacks something. */
+static uint32_t compare(void)
+{
+    uint64_t written;
+    uint32_t order = 0;
+    uint32_t number = sync_compare(knowledge, knowledge_n, other, other_n, &order, out, sizeof out, &written);
+    return number != 0 || order == SYNC_APART ? number : 99;
 }
 
 /* Each call by its number; 0 where it did what it should. */
@@ -118,6 +127,7 @@ static uint32_t call(int number)
     case 14: return sync_coverage(store, store_n, k, knowledge_n, &at, &length, &written);
     case 15: return sync_knowledge(store, store_n, &at, &length);
     case 16: return sync_walk(store + 25 + knowledge_n, store_n - 25 - knowledge_n, 0, &length);
+    case 17: return compare();
     default: return 99;
     }
 }
@@ -135,7 +145,7 @@ int main(void)
 {
     static size_t most;
     put_all();
-    for (present = 0; present < 17; present++) {
+    for (present = 0; present < 18; present++) {
         static size_t untouched;
         untouched = 0;
         memset(stack, PATTERN, sizeof stack);
@@ -150,7 +160,7 @@ int main(void)
         while (untouched < ROOM && stack[untouched] == PATTERN)
             untouched++;
         if (answer != 0) {
-            fprintf(stderr, "stack: call %d was refused with %" PRIu32 "\n", present, answer);
+            fprintf(stderr, "stack: call %d gave %" PRIu32 "\n", present, answer);
             return 1;
         }
         if (ROOM - untouched > most)

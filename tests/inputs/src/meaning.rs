@@ -55,6 +55,18 @@ impl Knowledge {
         places.iter().all(|item| replicas.iter().all(|id| self.known(item, id) >= second.known(item, id)))
     }
 
+    /// The lowest item, and there the lowest replica, for which its tick is below the second's: of all bounds and replicas of
+    /// the two.
+    pub fn first_lack(&self, second: &Self) -> Option<(ItemId, ReplicaId)> {
+        let mut places = self.bounds();
+        places.extend(second.bounds());
+        places.insert(FIRST_ITEM);
+        let mut replicas = self.replica_set();
+        replicas.extend(second.replica_set());
+        let lacks = |item: &ItemId, id: &ReplicaId| self.known(item, id) < second.known(item, id);
+        places.iter().find_map(|item| Some((*item, *replicas.iter().find(|id| lacks(item, id))?)))
+    }
+
     /// The normal form.
     pub fn normalised(&self) -> Self {
         Self::with_ticks(self.bounds(), self.replica_set(), |item, replica| self.known(item, replica))

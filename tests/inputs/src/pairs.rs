@@ -54,6 +54,27 @@ impl Three {
     }
 }
 
+/// Three random knowledges without fault, each of which knows at most what the next one knows: a part of a part, the part, and
+/// the whole; or one, merged with a second, and with a third. Their bytes are often not in normal form.
+pub fn rising(random: &mut SplitMix64) -> [Knowledge; 3] {
+    loop {
+        let knowledge = one(random);
+        let three = if random.once_in(2) {
+            let mut items = [(); 4].map(|()| item(random, [&knowledge; 2]));
+            items.sort();
+            let part = knowledge.projected(&items[0], &items[3]);
+            [part.projected(&items[1], &items[2]), part, knowledge]
+        } else {
+            let merged = knowledge.merged(&one(random));
+            let more = merged.merged(&one(random));
+            [knowledge, merged, more]
+        };
+        if three.iter().all(|knowledge| within_limits(knowledge.clone()).is_some()) {
+            return three.map(|knowledge| if random.once_in(2) { relaid(random, &knowledge) } else { knowledge });
+        }
+    }
+}
+
 /// A random knowledge, in normal form once in three times.
 fn one(random: &mut SplitMix64) -> Knowledge {
     let knowledge = Knowledge::random(random);
@@ -225,6 +246,18 @@ mod tests {
             other_bytes += usize::from(other != knowledge);
         }
         assert!(other_bytes > 900);
+    }
+
+    #[test]
+    fn each_of_three_that_rise_knows_at_most_what_the_next_knows() {
+        let random = &mut SplitMix64::new(5);
+        let mut less = 0;
+        for _ in 0..500 {
+            let [first, second, third] = rising(random);
+            assert!(second.first_lack(&first).is_none() && third.first_lack(&second).is_none());
+            less += usize::from(first.first_lack(&second).is_some() && second.first_lack(&third).is_some());
+        }
+        assert!((125..500).contains(&less), "{less}");
     }
 
     #[test]

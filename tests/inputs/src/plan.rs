@@ -50,6 +50,11 @@ impl Plan {
         Self { inputs: self.inputs / 5 * 2, ..self }
     }
 
+    /// The run of compares: two fifths as many.
+    pub fn of_pairs(self) -> Self {
+        Self { inputs: self.inputs / 5 * 2, ..self }
+    }
+
     /// Hands out the inputs in turn, up to the first error.
     ///
     /// The fixed ones come first. If they were more than half of the run, it has only some of them, which the seed
@@ -135,13 +140,14 @@ mod tests {
     use std::hash::{DefaultHasher, Hash, Hasher};
 
     use super::*;
-    use crate::rows::{Changings, Lookups, Readings, Writings};
+    use crate::rows::{Changings, Comparings, Lookups, Readings, Writings};
 
     #[test]
     fn the_usual_run_has_all_fixed_inputs() {
         assert!(2 * fixed_inputs() <= Plan::USUAL.inputs);
         assert!(2 * Lookups::fixed_calls() <= Plan::USUAL.inputs);
         assert!(2 * Writings::fixed_calls() <= Plan::USUAL.inputs);
+        assert!(2 * Comparings::fixed_calls() <= Plan::USUAL.of_pairs().inputs);
         assert!(2 * Readings::fixed_calls() <= Plan::USUAL.on_stores().inputs);
         assert!(2 * Changings::fixed_calls() <= Plan::USUAL.on_stores().inputs);
     }
@@ -184,6 +190,7 @@ mod tests {
     fn a_run_has_as_many_calls_as_planned_and_is_the_same_again() {
         for inputs in [0, 1, 100, 10_000] {
             assert_same_again::<Lookups>(inputs);
+            assert_same_again::<Comparings>(inputs);
             assert_same_again::<Writings>(inputs);
             assert_same_again::<Readings>(inputs);
             assert_same_again::<Changings>(inputs);

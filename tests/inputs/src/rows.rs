@@ -6,6 +6,7 @@ use std::sync::OnceLock;
 
 use crate::calls::{self, Call};
 use crate::changing::{self, Changing};
+use crate::comparing::{self, Comparing};
 use crate::reading::{self, Reading};
 use crate::writing::{self, Writing};
 
@@ -59,6 +60,10 @@ macro_rules! row {
 row!(
     /// Those that look something up in knowledges.
     Lookups, Call, calls
+);
+row!(
+    /// Those that say which of two knowledges is ahead.
+    Comparings, Comparing, comparing
 );
 row!(
     /// Those that write a knowledge.

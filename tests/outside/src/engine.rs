@@ -46,6 +46,17 @@ unsafe extern "C" {
         covers: *mut u32,
     ) -> u32;
 
+    fn sync_compare(
+        first: *const u8,
+        first_length: usize,
+        second: *const u8,
+        second_length: usize,
+        order: *mut u32,
+        out: *mut u8,
+        out_length: usize,
+        written: *mut u64,
+    ) -> u32;
+
     fn sync_normalise(
         knowledge: *const u8,
         knowledge_length: usize,
@@ -78,7 +89,7 @@ unsafe extern "C" {
 }
 
 // SAFETY of each call below: The pointers come from references, so they are not null, those to bytes may be read for the
-// length beside them, the buffers and the last may be written, and what is written overlaps nothing else.
+// length beside them, the buffers and the values may be written, and what is written overlaps nothing else.
 
 /// Checks a knowledge. Gives 0 and sets r, v, e, g, or gives the number of the refusal and leaves the sizes alone.
 #[inline]
@@ -140,6 +151,24 @@ pub fn cover(first: &[u8], second: &[u8], first_item: &[u8], last_item: &[u8], c
     }
 }
 
+/// Which of two knowledges is ahead. Gives 0, sets the order, writes the first place where each lacks something that does,
+/// and sets their length; or gives the number of the refusal.
+#[inline]
+pub fn compare(first: &[u8], second: &[u8], order: &mut u32, out: &mut [u8], written: &mut u64) -> u32 {
+    unsafe {
+        sync_compare(
+            first.as_ptr(),
+            first.len(),
+            second.as_ptr(),
+            second.len(),
+            order,
+            out.as_mut_ptr(),
+            out.len(),
+            written,
+        )
+    }
+}
+
 /// Writes the normal form. Gives 0 and sets the length, or gives the number of the refusal.
 #[inline]
 pub fn normalise(knowledge: &[u8], out: &mut [u8], written: &mut u64) -> u32 {
@@ -187,6 +216,12 @@ impl crate::writing::Engine for Linked {
     fn project(&self, knowledge: &[u8], span: [&[u8]; 2], out: &mut [u8], written: &mut u64) -> u32 {
         let [first_item, last_item] = span;
         project(knowledge, first_item, last_item, out, written)
+    }
+}
+
+impl crate::comparing::Engine for Linked {
+    fn compare(&self, [first, second]: [&[u8]; 2], order: &mut u32, out: &mut [u8], written: &mut u64) -> u32 {
+        compare(first, second, order, out, written)
     }
 }
 

@@ -5,7 +5,8 @@
 mod buffer;
 pub mod calls;
 pub mod changing;
-pub mod compare;
+pub mod check;
+pub mod comparing;
 #[allow(unsafe_code)]
 pub mod engine;
 pub mod laws;

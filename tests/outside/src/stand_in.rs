@@ -2,6 +2,7 @@
 
 use crate::calls;
 use crate::changing;
+use crate::comparing;
 use crate::reading::{self, Found, counts, found, part};
 
 /// An engine whose calls are those of the reference.
@@ -57,6 +58,14 @@ impl reading::Engine for Reference {
 /// Sets the length of what was written, or gives the number of the refusal.
 fn wrote(answer: Result<usize, u32>, written: &mut u64) -> u32 {
     set(answer.map(|length| length as u64), written)
+}
+
+impl comparing::Engine for Reference {
+    fn compare(&self, [first, second]: [&[u8]; 2], order: &mut u32, out: &mut [u8], written: &mut u64) -> u32 {
+        let answer = reference::compare(first, second, out);
+        set(answer.map(|(order, _)| order), order);
+        wrote(answer.map(|(_, length)| length), written)
+    }
 }
 
 impl changing::Engine for Reference {

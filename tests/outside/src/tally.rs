@@ -77,6 +77,11 @@ impl Tally {
         self.counts.values().sum()
     }
 
+    /// How often a call gave an answer.
+    pub fn count(&self, call: &'static str, answer: &'static str) -> u64 {
+        self.counts.get(&(call, Outcome::Answer(answer))).copied().unwrap_or(0)
+    }
+
     /// The tally, if each call ended in all the ways that it can end in and in no other.
     pub fn complete(self, calls: &[Ends]) -> Result<Self, String> {
         let can: BTreeSet<_> = calls.iter().flat_map(Ends::outcomes).collect();

@@ -4,13 +4,13 @@
 //! `SYNC_INPUTS` sets the number of inputs, and of calls; `SYNC_SEED` sets the seed.
 
 use inputs::Plan;
-use outside::{compare, engine};
+use outside::{check, engine};
 
 #[test]
 fn engine_and_reference_agree_on_the_check() {
     let plan = Plan::from_environment();
     println!("{} inputs from seed {}", plan.inputs, plan.seed);
-    match compare::run(&plan, engine::check) {
+    match check::run(&plan, engine::check) {
         Ok(tally) => println!("{tally}"),
         Err(error) => panic!("{error}"),
     }
@@ -22,6 +22,35 @@ fn engine_and_reference_agree_on_the_other_calls() {
     println!("{} calls from seed {}", plan.inputs, plan.seed);
     match outside::calls::run(&plan, &engine::Linked) {
         Ok(tally) => println!("{tally}"),
+        Err(error) => panic!("{error}"),
+    }
+}
+
+#[test]
+fn engine_and_reference_agree_on_compare_and_it_says_what_cover_says() {
+    let plan = Plan::from_environment().of_pairs();
+    println!("{} pairs from seed {}", plan.inputs, plan.seed);
+    match outside::comparing::run(&plan, &engine::Linked) {
+        Ok(seen) => println!("{seen}"),
+        Err(error) => panic!("{error}"),
+    }
+}
+
+#[test]
+fn engine_and_reference_agree_on_compare_in_a_buffer_of_every_length() {
+    match outside::comparing::every_room(&engine::Linked) {
+        Ok(calls) => {
+            println!("{calls} compares in buffers of every length");
+            assert_eq!(calls, 7 * 113);
+        }
+        Err(error) => panic!("{error}"),
+    }
+}
+
+#[test]
+fn behind_and_behind_gives_behind() {
+    match outside::comparing::triples::run(&Plan::from_environment(), &engine::Linked) {
+        Ok(triples) => println!("{triples}"),
         Err(error) => panic!("{error}"),
     }
 }

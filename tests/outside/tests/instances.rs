@@ -52,6 +52,38 @@ fn k8_the_lead_of_a_over_b_is_2_for_p_and_minus_2_for_q() {
     }
 }
 
+/// What a place of A and another is written as: the item, the replica, and both ticks.
+fn place(item: u128, replica: u128, ticks: [u64; 2]) -> Vec<u8> {
+    [&item_id(item)[..], &replica_id(replica), &ticks.map(u64::to_be_bytes).concat()].concat()
+}
+
+#[test]
+fn a_compared_with_b_with_nothing_with_a_part_and_with_itself() {
+    let (a, b) = (Knowledge::a(), Knowledge::b());
+    let none = Knowledge::smallest();
+    let k6 = five_of_p(&[(FIRST_ITEM, 0), (item_id(1), 1), (item_id(2), 0)]);
+    let instances = [
+        (&a, &b, 3, vec![place(0, 2, [0, 2]), place(0, 1, [5, 3])]),
+        (&b, &a, 3, vec![place(0, 1, [3, 5]), place(0, 2, [2, 0])]),
+        (&none, &a, 1, vec![place(0, 1, [0, 5])]),
+        (&a, &none, 2, vec![place(0, 1, [5, 0])]),
+        (&k6, &a, 1, vec![place(0, 1, [0, 5])]),
+        (&a, &a, 0, vec![]),
+    ];
+    for (first, second, order, places) in instances {
+        let right = places.concat();
+        let (first, second) = (&first.bytes(), &second.bytes());
+        let (mut out, mut given, mut written) = ([0xa5; 120], 7, u64::MAX);
+        assert_eq!(engine::compare(first, second, &mut given, &mut out, &mut written), 0);
+        assert_eq!((given, written), (order, 56 * places.len() as u64));
+        assert_eq!(out[..right.len()], right);
+        assert!(out[right.len()..].iter().all(|byte| *byte == 0xa5));
+        let mut out = [0xa5; 120];
+        assert_eq!(reference::compare(first, second, &mut out), Ok((order, right.len())));
+        assert_eq!(out[..right.len()], right);
+    }
+}
+
 /// Both write the same bytes, these and no others, or give the same number and write nothing.
 fn both_write(
     name: &str,

@@ -7,6 +7,7 @@
 
 mod batch;
 mod changes;
+mod compare;
 mod cover;
 mod cursor;
 mod exchange;
@@ -25,6 +26,7 @@ mod view;
 mod writer;
 
 pub use changes::{delete, edit, new};
+pub use compare::compare;
 pub use cover::cover;
 pub use exchange::{apply, make};
 pub use knowledge::{Sizes, check};

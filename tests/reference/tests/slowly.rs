@@ -1,7 +1,10 @@
 //! The quick code against the slow and plain meaning of a knowledge.
 
-use inputs::{Call, FIRST_ITEM, ItemId, Knowledge, LAST_ITEM, Lookups, Plan, SplitMix64, item_id, replica_id};
-use reference::{check, contain, cover, lead};
+use inputs::{
+    Call, Comparing, Comparings, FIRST_ITEM, ItemId, Knowledge, LARGEST_COMPARISON, LAST_ITEM, Lookups, Plan,
+    ReplicaId, SplitMix64, item_id, replica_id,
+};
+use reference::{check, compare, contain, cover, lead};
 
 const PLAN: Plan = Plan { seed: 77, inputs: 200_000 };
 
@@ -33,6 +36,50 @@ fn slow_cover(first: &[u8], second: &[u8], first_item: &[u8], last_item: &[u8]) 
     let (first, second) = (decoded(first)?, decoded(second)?);
     let (first_item, last_item) = span(first_item, last_item)?;
     Ok(first.covers(&second, &first_item, &last_item))
+}
+
+/// The order and the places where each that lacks something does so first, where these are the places.
+fn compared(first: &Knowledge, second: &Knowledge, lacks: [Option<(ItemId, ReplicaId)>; 2]) -> (u32, Vec<u8>) {
+    let order = u32::from(lacks[0].is_some()) + 2 * u32::from(lacks[1].is_some());
+    let place = |(item, id): (ItemId, ReplicaId)| {
+        let ticks = [first, second].map(|knowledge| knowledge.known(&item, &id).to_be_bytes());
+        [&item[..], &id, &ticks.concat()].concat()
+    };
+    (order, lacks.into_iter().flatten().flat_map(place).collect())
+}
+
+fn slow_compare(first: &[u8], second: &[u8]) -> Result<(u32, Vec<u8>), u32> {
+    let (first, second) = (decoded(first)?, decoded(second)?);
+    Ok(compared(&first, &second, [first.first_lack(&second), second.first_lack(&first)]))
+}
+
+/// Compares in a buffer of a length; no byte changes but those of the result.
+fn quick_compare(first: &[u8], second: &[u8], room: usize) -> Result<(u32, Vec<u8>), u32> {
+    let mut out = vec![0xa5; room];
+    let answer = compare(first, second, &mut out);
+    let rest = out.split_off(answer.map_or(0, |(_, length)| length));
+    assert!(rest.iter().all(|byte| *byte == 0xa5), "a byte that is not of the result");
+    answer.map(|(order, _)| (order, out))
+}
+
+#[test]
+fn compares_as_slowly() {
+    let plan = Plan { seed: 79, inputs: 20_000 };
+    let (mut orders, mut refused) = ([0; 4], [0; 15]);
+    plan.try_for_each_call::<Comparings>(|input| {
+        let Comparing { first, second, room } = input.call;
+        let right = slow_compare(first, second);
+        let room = room.length(right.as_ref().ok().map(|(_, bytes)| bytes.len()));
+        let right = right.and_then(|answer| if answer.1.len() <= room { Ok(answer) } else { Err(14) });
+        match right {
+            Ok((order, _)) => orders[order as usize] += 1,
+            Err(number) => refused[number as usize] += 1,
+        }
+        if quick_compare(first, second, room) == right { Ok(()) } else { Err(format!("{input:?}")) }
+    })
+    .unwrap();
+    assert!(orders.iter().all(|count| *count > 200), "{orders:?}");
+    assert!(refused[1..=10].iter().chain([&refused[14]]).all(|count| *count > 10), "{refused:?}");
 }
 
 #[test]
@@ -100,6 +147,24 @@ fn cover_looks_at_every_item_of_the_span() {
         }
     }
     assert!(counts[0] > 10_000 && counts[1] > 10_000, "{counts:?}");
+}
+
+#[test]
+fn compare_finds_the_first_of_all_items_and_replicas() {
+    let random = &mut SplitMix64::new(9);
+    let mut counts = [0; 4];
+    for _ in 0..20_000 {
+        let (first, second) = (small(random), small(random));
+        let lack = |one: &Knowledge, other: &Knowledge| {
+            let mut places = (0..14).map(item_id).flat_map(|item| (0..4).map(move |id| (item, replica_id(id))));
+            places.find(|(item, id)| one.known(item, id) < other.known(item, id))
+        };
+        let right = compared(&first, &second, [lack(&first, &second), lack(&second, &first)]);
+        let found = quick_compare(&first.bytes(), &second.bytes(), LARGEST_COMPARISON);
+        assert_eq!(found.as_ref(), Ok(&right), "{first:?} {second:?}");
+        counts[right.0 as usize] += 1;
+    }
+    assert!(counts.iter().all(|count| *count > 200), "{counts:?}");
 }
 
 #[test]

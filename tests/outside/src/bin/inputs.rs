@@ -8,13 +8,15 @@ use std::process::ExitCode;
 
 use inputs::Plan;
 use outside::stand_in::Reference;
-use outside::{compare, engine, lists};
+use outside::{check, engine, lists};
 
 fn main() -> ExitCode {
     let plan = Plan::from_environment();
     println!("inputs: {} from seed {}", plan.inputs, plan.seed);
-    let passed = said(compare::run(&plan, engine::check));
+    let passed = said(check::run(&plan, engine::check));
     let passed = said(outside::calls::run(&plan, &engine::Linked)) && passed;
+    let passed = said(outside::comparing::run(&plan.of_pairs(), &engine::Linked)) && passed;
+    let passed = said(outside::comparing::triples::run(&plan, &engine::Linked)) && passed;
     let passed = said(outside::writing::run(&plan, &engine::Linked)) && passed;
     let passed = said(outside::laws::run(&plan, &engine::Linked)) && passed;
     let passed = said(outside::reading::run(&plan.on_stores(), &engine::Linked)) && passed;

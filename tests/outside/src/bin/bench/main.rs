@@ -8,6 +8,7 @@
 
 mod changing;
 mod changing_call;
+mod comparing;
 mod growth;
 mod larger;
 mod measure;
@@ -68,6 +69,9 @@ fn main() {
     );
     let wanted = |name: &str| chosen.is_empty() || chosen.iter().any(|other| other == name);
     TABLES.iter().filter(|table| wanted(table.call)).for_each(Table::measure);
+    if wanted("compare") {
+        comparing::measure();
+    }
     if wanted("larger") {
         larger::measure();
     }

@@ -16,7 +16,7 @@ pub struct Sample {
 }
 
 /// The rows of a table for each size.
-pub fn each(rows: fn(&Sample) -> Vec<Row>) -> Vec<(&'static str, Vec<Row>)> {
+pub fn each<T>(rows: fn(&Sample) -> Vec<T>) -> Vec<(&'static str, Vec<T>)> {
     samples().iter().map(|sample| (sample.name, rows(sample))).collect()
 }
 
@@ -58,7 +58,7 @@ impl Sample {
     }
 
     /// The same known ticks with the replicas in the opposite order.
-    fn reordered(&self) -> Knowledge {
+    pub fn reordered(&self) -> Knowledge {
         let mut other = self.knowledge.clone();
         other.replicas.reverse();
         for (key, _) in other.vectors.iter_mut().flatten() {
