@@ -318,23 +318,63 @@ static uint32_t covers(struct part first, struct part second, const struct span 
     return answer;
 }
 
+/* Says an order of the two files, which sync_compare gives. */
+static void say_order(uint32_t order)
+{
+    if (order == SYNC_ALIKE)
+        printf("%s and %s know the same\n", store.name, other.name);
+    else if (order == SYNC_APART)
+        printf("%s and %s each know something that the other does not\n", store.name, other.name);
+    else if (order == SYNC_AHEAD)
+        printf("%s knows all that %s knows, and more\n", store.name, other.name);
+    else
+        printf("%s knows all that %s knows, and more\n", other.name, store.name);
+}
+
+/* Says where a file first lacks something that the other one knows. */
+static void say_lack(const struct file *file, const uint8_t *lack)
+{
+    int is_first = file == &store;
+    uint64_t first = number_at(lack + LACK_FIRST_TICK, 8), second = number_at(lack + LACK_SECOND_TICK, 8);
+    char item[ID_TEXT], replica[ID_TEXT];
+    printf("  %s lacks first: item %s of replica %s, where it knows %" PRIu64 " and %s knows %" PRIu64 "\n", file->name,
+           id_text(&items, lack + LACK_ITEM, item), id_text(&replicas, lack + LACK_REPLICA, replica), is_first ? first : second,
+           is_first ? other.name : store.name, is_first ? second : first);
+}
+
+/* Says which of the two files is ahead in all items, and where each that lacks something lacks it first. */
+static void compare_all(struct part first, struct part second)
+{
+    uint8_t lacks[SYNC_LARGEST_COMPARISON];
+    const uint8_t *next = lacks;
+    uint64_t written = 0;
+    uint32_t order = SYNC_ALIKE;
+    uint32_t number = sync_compare(first.bytes, first.n, second.bytes, second.n, &order, lacks, sizeof lacks, &written);
+    if (number != 0)
+        refused("the comparison", number, NULL);
+    add_ids(&store);
+    add_ids(&other);
+    say_order(order);
+    if (order & SYNC_BEHIND) {
+        say_lack(&store, next);
+        next += LACK;
+    }
+    if (order & SYNC_AHEAD)
+        say_lack(&other, next);
+}
+
 static void command_compare(char **arguments)
 {
     struct span span = read_span(arguments + 2);
     struct part first, second;
-    uint32_t forth, back;
     load(&store, arguments[0]);
     load(&other, arguments[1]);
     first = knowledge_of(&store);
     second = knowledge_of(&other);
-    forth = covers(first, second, &span);
-    back = covers(second, first, &span);
-    if (forth && back)
-        printf("%s and %s know the same\n", store.name, other.name);
-    else if (!forth && !back)
-        printf("%s and %s each know something that the other does not\n", store.name, other.name);
+    if (arguments[2])
+        say_order((covers(first, second, &span) ? 0 : SYNC_BEHIND) | (covers(second, first, &span) ? 0 : SYNC_AHEAD));
     else
-        printf("%s knows all that %s knows, and more\n", forth ? store.name : other.name, forth ? other.name : store.name);
+        compare_all(first, second);
 }
 
 static void command_coverage(char **arguments)
@@ -386,7 +426,9 @@ static const struct command {
     {"why", "FOLDER ITEM [BATCH]", "says what a replica holds and knows of an item", 2, 3, command_why,
      "Says which version of ITEM the replica holds, which versions it knows, and what BATCH would make of it.\n"},
     {"compare", "FILE FILE [FIRST LAST]", "says which of two knows more", 2, 4, command_compare,
-     "Says whether two knowledges, stores or batches know the same, in the items FIRST to LAST or in all.\n"},
+     "Says whether two knowledges, stores or batches know the same, in the items FIRST to LAST or in all. Without FIRST and LAST\n"
+     "it also says where each that lacks something lacks it first: the lowest item id, whether or not there is such a file, the\n"
+     "lowest replica whose edits it lacks there, and the ticks up to which it and the other know these edits, 0 for none.\n"},
     {"coverage", "FOLDER FILE", "says how much of a store another knows", 2, 2, command_coverage,
      "Counts the records in FOLDER whose version FILE knows, deleted ones too, and gives the part to the nearest tenth of a per\n"
      "cent, an exact half up. Then says how far one record of an item that FOLDER lacks can move that part, up or down, as long\n"

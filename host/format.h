@@ -1,4 +1,4 @@
-/* Where things stand in the bytes of files that the engine has found valid (docs/FORMAT.md). */
+/* Where things stand in the bytes of files that the engine has found valid, and in those of a comparison (docs/FORMAT.md). */
 
 #ifndef FORMAT_H
 #define FORMAT_H
@@ -29,6 +29,12 @@ enum {
     KIND_LIVE = 1,
     KIND_STORE = 3,
     KIND_BATCH = 4,
+
+    LACK_ITEM = 0, /* where a knowledge lacks something, as sync_compare writes it */
+    LACK_REPLICA = 24,
+    LACK_FIRST_TICK = 40,
+    LACK_SECOND_TICK = 48,
+    LACK = 56,
 
     KNOWLEDGE_REPLICAS = 27, /* the replica ids */
     RANGE = 28               /* a range: the item that it begins at, then its clock vector's index */

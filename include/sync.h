@@ -140,6 +140,46 @@ uint32_t sync_cover(const uint8_t *first_knowledge, size_t first_knowledge_n, co
                     uint32_t *covers);
 
 /*
+ * Which of two knowledges is ahead, as sync_compare gives it: bit 0 is set where the first lacks something, bit 1 where
+ * the second does.
+ */
+enum sync_order {
+    /* Both know the same. */
+    SYNC_ALIKE = 0,
+    /* The first is behind: the second knows all that the first knows, and more. */
+    SYNC_BEHIND = 1,
+    /* The first is ahead: it knows all that the second knows, and more. */
+    SYNC_AHEAD = 2,
+    /* Each lacks something that the other knows. */
+    SYNC_APART = 3
+};
+
+/*
+ * The longest result of sync_compare, in bytes. A buffer so long is never too short for it: theorem `compared-length`,
+ * crates/ticks/proofs/Comparing.antt.
+ */
+#define SYNC_LARGEST_COMPARISON 112
+
+/*
+ * Says which of two knowledges is ahead, over all item ids, and where each that lacks something lacks it first. A
+ * knowledge lacks something where its tick for an item and a replica is smaller than the other's.
+ *
+ * Returns 0, sets *order to one of the four numbers above, and writes to the front of a buffer, out, which has out_n
+ * bytes, 56 bytes for each of the two that lacks something, those of the first before those of the second:
+ *   24 bytes: the lowest item id at which its tick for some replica is smaller,
+ *   16 bytes: the lowest replica id for which its tick at that item is smaller,
+ *    8 bytes: the tick that the first knows for that item and that replica,
+ *    8 bytes: the tick that the second knows for them,
+ * each tick with its highest byte first, and 0 for one that is absent. Sets *written to the length of the result, which
+ * is 0, 56 or 112. The bytes of the buffer behind the result stay as they were.
+ *
+ * Else returns the number of the refusal, 1 to 10 for the first knowledge, then 1 to 10 for the second, then 14 for the
+ * result, and leaves *order, out and *written as they were.
+ */
+uint32_t sync_compare(const uint8_t *first, size_t first_n, const uint8_t *second, size_t second_n, uint32_t *order,
+                      uint8_t *out, size_t out_n, uint64_t *written);
+
+/*
  * The next functions write a knowledge in normal form to the front of a buffer: out, which has out_n bytes. The bytes of
  * the buffer behind the result stay as they were. No result has over 14,933 bytes.
  */
