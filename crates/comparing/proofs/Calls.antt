@@ -9,14 +9,14 @@ use native.Mathlib.Omega.{arith}
 use lib.ListN.{length}
 use Rattle.codec.specs.Number.{put}
 use Rattle.codec.specs.Part.{placed, bytes}
-use Rattle.codec.specs.Reply.{Reply, gives, refuses, answer}
+use Rattle.codec.specs.Reply.{gives, refuses, answer}
 use Rattle.codec.specs.declared.Answer.{Answer}
 use Rattle.codec.specs.declared.Answer.the-variants as A
 use Rattle.codec.specs.Words.{words2, words3}
 use Rattle.codec.proofs.Calls.{refused-answer, refused-after, short-answer, short-after, written-answer, written-after}
 use Rattle.codec.proofs.Numbers.{put-length, put-append}
 use Rattle.codec.proofs.Words.{put-words2, put-words3}
-use Rattle.codec.proofs.Writing.{bytes-length, placed-append, placed-length, placed-out, nothing}
+use Rattle.codec.proofs.Writing.{placed-append, placed-length, placed-out, nothing}
 use Rattle.layout.specs.Knowledge.{Rules, basic, base, Knowledge}
 use Rattle.layout.specs.Permitted.{rulesWithin}
 use Rattle.layout.specs.Decode.{decode}

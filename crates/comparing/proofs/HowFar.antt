@@ -4,7 +4,7 @@
 use Prim.Native.Nat.{ℕ, suc, _+_, _-_, _*_, _≤_, _<_}
 use mathlib.Core.Path.{_≡_, refl, sym, ap, ap₂, _∙_, subst}
 use mathlib.Core.Bool.{Bool, true, false}
-use mathlib.Core.List.{List, [], _∷_}
+use mathlib.Core.List.{List, _∷_}
 use native.Mathlib.Omega.{arith}
 use lib.Dec.{ltb, eqb}
 use lib.ListN.{length}
@@ -17,14 +17,13 @@ use Rattle.layout.specs.Knowledge.{Rules, Element, Knowledge}
 use Rattle.layout.specs.Decode.{idsAt, elementsAt, decode}
 use Rattle.layout.specs.MethodPlaces.{idsPlace}
 use Rattle.ticks.specs.Meaning.{highest, place, tickAt, vectorAt, known}
-use Rattle.ticks.specs.Operations.{Lack, nowhere, here, lacking}
+use Rattle.ticks.specs.Operations.{lacking}
 use Rattle.ticks.proofs.ForRows.{Fine, Still, lacking-on, lacking-past}
 use Rattle.ticks.proofs.LawfulResults.{below-top}
 use Rattle.lookup.specs.declared.Cursor.{Cursor}
-use Rattle.lookup.specs.Method.{There, elementsThere, elementsHere, advanced, Open}
+use Rattle.lookup.specs.Method.{There, elementsHere, advanced, Open}
 use Rattle.lookup.proofs.Leaf.{read-ids, ids-room, opens-reading, advanced-passes}
 use Rattle.lookup.proofs.Leaf.{Stands, stands-start, stands-advanced, stands-elements, stands-still}
-use Rattle.comparing.specs.declared.Alike.{Alike}
 use Rattle.comparing.specs.declared.Alike.the-variants as L
 use Rattle.comparing.specs.declared.Next.{Next}
 use Rattle.comparing.specs.declared.Next.the-variants as N

@@ -3,7 +3,7 @@
 -- that it reads in the buffer. So a statement that says less, of fewer inputs or in one direction only, no longer gives its sentence here.
 -- At the end the statement's own proof is put in, with document 01's limits.
 use Prim.Native.Nat.{ℕ, _+_, _≤_, _<_, _^_}
-use mathlib.Core.Path.{_≡_, refl, sym, ap, ap₂, _∙_, subst}
+use mathlib.Core.Path.{_≡_, refl, sym, ap, _∙_, subst}
 use mathlib.Core.Logic.{_↔_}
 use mathlib.Core.List.{List, []}
 use native.Mathlib.Omega.{arith}
@@ -12,13 +12,12 @@ use Rattle.codec.specs.Number.{Bytes, beFrom, beAt, put}
 use Rattle.codec.specs.declared.Answer.{Answer}
 use Rattle.codec.specs.declared.Answer.the-variants.{Written, Refused}
 use Rattle.codec.specs.Parsed.{accepted, refused}
-use Rattle.codec.specs.Reply.{Reply, gives, refuses, answer, after, numberOf, writtenOf}
+use Rattle.codec.specs.Reply.{Reply, refuses, answer, after, numberOf, writtenOf}
 use Rattle.codec.proofs.Numbers.{put-be, put-drop, be-drop, be-take}
 use Rattle.codec.proofs.Replies.{answer-fits, answer-short, number-fits, number-short, number-refused, after-front, after-short}
 use Rattle.layout.specs.Knowledge.{Rules, basic, Knowledge, Lawful}
 use Rattle.layout.specs.Permitted.{Permitted}
 use Rattle.layout.specs.Parse.{parse}
-use Rattle.layout.proofs.Exact.{base-permitted}
 use Rattle.ticks.specs.Meaning.{highest, known}
 use Rattle.ticks.specs.Answers.{AtLeast, ProperSpan, Answers}
 use Rattle.ticks.specs.Calls.{coverNumber, coverValue, coverAnswer}

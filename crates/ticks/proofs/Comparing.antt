@@ -9,7 +9,7 @@ use mathlib.Core.Logic.{_⊎_, inl, inr, _↔_}
 use mathlib.Core.List.{List, [], _∷_}
 use native.Mathlib.Omega.{arith}
 use lib.ListN.{length}
-use Rattle.codec.specs.Number.{Bytes, put}
+use Rattle.codec.specs.Number.{put}
 use Rattle.codec.specs.declared.Answer.the-variants.{Written}
 use Rattle.codec.specs.Parsed.{Parsed, accepted, refused, ownFault, readOr}
 use Rattle.codec.specs.Reply.{Reply, gives, refuses, firstFault}
@@ -23,7 +23,7 @@ use Rattle.ticks.specs.Meaning.{highest, known}
 use Rattle.ticks.specs.Operations.{Lack, nowhere, here, lacking, isNowhere, covers}
 use Rattle.ticks.specs.Calls.{readAs}
 use Rattle.ticks.specs.Compare.{orderOf, order, putPlace, putLack, compared, compareReply, orderValue}
-use Rattle.ticks.specs.Compare.{Knows, Ordered, Lowest, Reported, Finds, CompareSays}
+use Rattle.ticks.specs.Compare.{Knows, Ordered, Lowest, Reported, CompareSays}
 use Rattle.ticks.proofs.Lists.{less, same, more, order as trichotomy}
 use Rattle.ticks.proofs.Meaning.{known-id}
 use Rattle.ticks.proofs.Replies.{read-lawful}
