@@ -26,7 +26,7 @@ use Rattle.codec.specs.Parsed.{accepted}
 use Rattle.ticks.specs.Meaning.{highest, known}
 use Rattle.ticks.specs.Operations.{Lack, nowhere, here, lacking}
 use Rattle.ticks.specs.Compare.{orderOf, order, putPlace, putLack, compared, compareReply, orderValue}
-use Rattle.ticks.proofs.Comparing.{place-length, compare-first, compare-second, compare-found, order-found}
+use Rattle.ticks.proofs.Comparing.{place-length, compare-first, compare-second, compare-found, order-found, order-stays}
 use Rattle.ticks.proofs.ForCode.{Refusing, refusing, reading}
 use Rattle.ticks.proofs.LawfulResults.{highest-words}
 use Rattle.lookup.specs.declared.Cursor.{Cursor}
@@ -201,15 +201,11 @@ lack-append a b (here i p) z =
     ∙ ap (put 16 p) (put-before 8 m (put 8 n []) z ∙ ap (put 8 m) (put-before 8 n [] z)))
 
 -- where the reply refuses, nothing changes
-order-refused : (R : Rules) (s t : List ℕ) (a : Answer) (n old : ℕ) → A.Refused n ≡ a → old ≡ orderValue R s t a old
-unfolding orderValue
-order-refused R s t a n old e = ap (λ (x : Answer). orderValue R s t x old) e
-
 module _ (R : Rules) (s t out : List ℕ) (old : ℕ) where
   refused-whole : (n : ℕ) → compareReply R s t ≡ refuses n → Compared R s t out out old old (A.Refused n)
   refused-whole n e =
       let a = refused-answer (compareReply R s t) out n e in
-      record { is = a; buffer = refused-after (compareReply R s t) out n e; order = order-refused R s t _ n old a }
+      record { is = a; buffer = refused-after (compareReply R s t) out n e; order = sym (order-stays R s t _ n old (sym a)) }
 
   pub ends-first : (n : ℕ) → Refusing R s n → Compared R s t out out old old (A.Refused n)
   ends-first n h = refused-whole n (compare-first R s t n (refusing R s n h))
@@ -255,7 +251,11 @@ module _ (R : Rules) (s t out : List ℕ) (old : ℕ) where
         ends-short h =
             let short : length out < length both = omega (arith, both-length) in
             let e = short-answer (compareReply R s t) out both reply short in
-            record { is = e; buffer = short-after (compareReply R s t) out both reply short; order = order-refused R s t _ 14 old e }
+            record {
+              is = e;
+              buffer = short-after (compareReply R s t) out both reply short;
+              order = sym (order-stays R s t _ 14 old (sym e));
+            }
 
         module _ (u w : List ℕ) (f g : Entry) (n : ℕ) (ef : (z : List ℕ) → putEntry f z ≡ putLack a b (lackOf x) z)
             (eg : (z : List ℕ) → putEntry g z ≡ putLack a b (lackOf y) z) (first : u ≡ placed out 0 (putEntry f []))

@@ -17,7 +17,7 @@ use Rattle.layout.specs.Knowledge.{Rules, Element, Knowledge}
 use Rattle.layout.specs.Decode.{idsAt, elementsAt, decode}
 use Rattle.layout.specs.MethodPlaces.{idsPlace}
 use Rattle.ticks.specs.Meaning.{highest, place, tickAt, vectorAt, known}
-use Rattle.ticks.specs.Operations.{lacking}
+use Rattle.ticks.specs.Operations.{nowhere, lacking}
 use Rattle.ticks.proofs.ForRows.{Fine, Still, lacking-on, lacking-past}
 use Rattle.ticks.proofs.LawfulResults.{below-top}
 use Rattle.lookup.specs.declared.Cursor.{Cursor}
@@ -157,6 +157,19 @@ unfolding known
 known-alike a b i p e f =
     ap₂ (λ (ids : List ℕ) (es : List Element). elim (ltb (place p ids) (length ids)) [ true ↦ tickAt es (place p ids) | false ↦ 0 ]) e f
 
+-- nothing lacks at all, or below an item
+reached-whole : (a b : Knowledge) → lacking a b 0 highest ≡ nowhere → Reached a b L.Throughout
+reached-whole a b e = record { whole = λ h. e; from = λ x y z h. absurd (let q : _≡_ {A = ℕ} 0 1 = cc in omega arith) }
+
+reached-below : (a b : Knowledge) (i j k l : ℕ) → i ≡ words3 j k l → i ≤ highest → lacking a b 0 highest ≡ lacking a b i highest
+    → Reached a b (L.Below j k l)
+reached-below a b i j k l e inside below = record {
+  whole = λ h. absurd (let q : _≡_ {A = ℕ} 0 1 = cc in omega arith);
+  from = λ x y z h.
+      let same : i ≡ words3 x y z = cc in
+      (subst (λ (n : ℕ). n ≤ highest) same inside, below ∙ ap (λ (n : ℕ). lacking a b n highest) same);
+}
+
 -- two cursors have come to an item, and nothing lacks below it, either way
 pub record Going (s : List ℕ) (r : ℕ) (t : List ℕ) (m : ℕ) (x y : Cursor) (i : ℕ) : Type 0 where
   pub R : Rules
@@ -198,20 +211,7 @@ module _ (s : List ℕ) (r : ℕ) (t : List ℕ) (m : ℕ) (x y : Cursor) (i : �
   b = decode t
 
   pub going-stops : (j k l : ℕ) → i ≡ words3 j k l → Reached a b (L.Below j k l) × Reached b a (L.Below j k l)
-  going-stops j k l e = (
-    record {
-      whole = λ h. absurd (let q : _≡_ {A = ℕ} 0 1 = cc in omega arith);
-      from = λ u v w h.
-          let same : i ≡ words3 u v w = cc in
-          (subst (λ (n : ℕ). n ≤ highest) same (g .inside), g .one ∙ ap (λ (n : ℕ). lacking a b n highest) same);
-    },
-    record {
-      whole = λ h. absurd (let q : _≡_ {A = ℕ} 0 1 = cc in omega arith);
-      from = λ u v w h.
-          let same : i ≡ words3 u v w = cc in
-          (subst (λ (n : ℕ). n ≤ highest) same (g .inside), g .other ∙ ap (λ (n : ℕ). lacking b a n highest) same);
-    },
-  )
+  going-stops j k l e = (reached-below a b i j k l e (g .inside) (g .one), reached-below b a i j k l e (g .inside) (g .other))
 
   module _ (e : elementsHere s (x .vector) ≡ elementsHere t (y .vector)) where
     ticks : (p : ℕ) → known a i p ≡ known b i p
@@ -236,19 +236,10 @@ module _ (s : List ℕ) (r : ℕ) (t : List ℕ) (m : ℕ) (x y : Cursor) (i : �
   going-done n h d =
       let w = h .done d in
       let none : 0 < x .left → suc highest ≤ beAt s 24 (x .next) = λ l. absurd (omega (arith, w .1 .0)) in
-      let none-back : 0 < y .left → suc highest ≤ beAt t 24 (y .next) = λ l. absurd (omega (arith, w .1 .1)) in (
-        record {
-          whole = λ q.
-              g .one ∙ lacking-past a b i (suc highest) highest (fine (w .0)) (still (w .0) (suc highest) none none-back) (omega arith);
-          from = λ u v z q. absurd (let q : _≡_ {A = ℕ} 0 1 = cc in omega arith);
-        },
-        record {
-          whole = λ q.
-              g .other
-              ∙ lacking-past b a i (suc highest) highest (fine-back (w .0)) (still-back (w .0) (suc highest) none none-back) (omega arith);
-          from = λ u v z q. absurd (let q : _≡_ {A = ℕ} 0 1 = cc in omega arith);
-        },
-      )
+      let none-back : 0 < y .left → suc highest ≤ beAt t 24 (y .next) = λ l. absurd (omega (arith, w .1 .1)) in
+      let one-way = lacking-past a b i (suc highest) highest (fine (w .0)) (still (w .0) (suc highest) none none-back) (omega arith) in
+      let back = lacking-past b a i (suc highest) highest (fine-back (w .0)) (still-back (w .0) (suc highest) none none-back) (omega arith) in
+      (reached-whole a b (g .one ∙ one-way), reached-whole b a (g .other ∙ back))
 
   module _ (n : Next) (h : GoesOn s x t y n) (j k l : ℕ) (d : n ≡ N.At j k l) (x' y' : Cursor) (ex : x' ≡ advanced s r x (words3 j k l))
       (ey : y' ≡ advanced t m y (words3 j k l)) where
@@ -282,13 +273,7 @@ module _ (s : List ℕ) (r : ℕ) (t : List ℕ) (m : ℕ) (x y : Cursor) (i : �
 -- ---- where the search begins
 
 pub reached-none : (a b : Knowledge) → Reached a b (L.Below 0 0 0)
-reached-none a b = record {
-  whole = λ e. absurd (let q : _≡_ {A = ℕ} 0 1 = cc in omega arith);
-  from = λ x y z e.
-      let same : words3 0 0 0 ≡ words3 x y z = cc in
-      let zero : 0 ≡ words3 x y z = sym zero-words ∙ same in
-      (omega (arith, zero), ap (λ (n : ℕ). lacking a b n highest) zero);
-}
+reached-none a b = reached-below a b 0 0 0 0 (sym zero-words) (omega arith) refl
 
 -- the maps of two knowledges with the same ids
 pub maps-same : (s : List ℕ) (r : ℕ) (c : Cursor) (t : List ℕ) (m : ℕ) (d : Cursor) → Open s r c → Open t m d → r ≡ m

@@ -19,7 +19,12 @@ use Rattle.instances.specs.Compared.{Gives, entry, aAndB, emptyAndA, onS
 use Rattle.instances.specs.Compared.{bytesAandB, Comparisons}
 
 pub first-compared : Comparisons p1 q1
-unfolding beFrom beAt put ownFault readOr firstFault idsAt elementsAt vectorsAt afterVectors rangesAt decode opening beforeVectors beforeElements beforeRanges closing putFields putIds putElements putVectors putRanges encode keys bounds replicaMap vectorCount vectorList rangeList ended checked told parse repeat number same fields limit empty among judged replicaId tick element firstVector vector index range highest placeBy tickAt indexFrom vectorFound vectorAt known lackingAt orElse lackingFrom lacking insert sorted inSpan within orderOf order putPlace putLack compared compareReply orderValue emptyValue one two parts p1 q1 p2 q2 entry aAndB emptyAndA onSpan spanAndA emptyAndSpan aAndFront emptyAndMap aAndA
+unfolding beFrom beAt put ownFault readOr firstFault idsAt elementsAt vectorsAt afterVectors rangesAt decode opening beforeVectors
+    beforeElements beforeRanges closing putFields putIds putElements putVectors putRanges encode keys bounds replicaMap vectorCount
+    vectorList rangeList ended checked told parse repeat number same fields limit empty among judged replicaId tick element
+    firstVector vector index range highest placeBy tickAt indexFrom vectorFound vectorAt known lackingAt orElse lackingFrom lacking
+    insert sorted inSpan within orderOf order putPlace putLack compared compareReply orderValue emptyValue one two parts p1 q1 p2 q2
+    entry aAndB emptyAndA onSpan spanAndA emptyAndSpan aAndFront emptyAndMap aAndA
 first-compared = record {
   a-and-b = record { reply = refl; value = λ n old. refl; size = refl };
   empty-and-a = record { reply = refl; value = λ n old. refl; size = refl };
@@ -32,7 +37,12 @@ first-compared = record {
 
 -- the two that name both ids, for the other pair
 pub last-compared : Gives (aAndB p2 q2) × Gives (emptyAndMap p2 q2)
-unfolding beFrom beAt put ownFault readOr firstFault idsAt elementsAt vectorsAt afterVectors rangesAt decode opening beforeVectors beforeElements beforeRanges closing putFields putIds putElements putVectors putRanges encode keys bounds replicaMap vectorCount vectorList rangeList ended checked told parse repeat number same fields limit empty among judged replicaId tick element firstVector vector index range highest placeBy tickAt indexFrom vectorFound vectorAt known lackingAt orElse lackingFrom lacking insert sorted inSpan within orderOf order putPlace putLack compared compareReply orderValue emptyValue one two parts p1 q1 p2 q2 entry aAndB emptyAndA onSpan spanAndA emptyAndSpan aAndFront emptyAndMap aAndA
+unfolding beFrom beAt put ownFault readOr firstFault idsAt elementsAt vectorsAt afterVectors rangesAt decode opening beforeVectors
+    beforeElements beforeRanges closing putFields putIds putElements putVectors putRanges encode keys bounds replicaMap vectorCount
+    vectorList rangeList ended checked told parse repeat number same fields limit empty among judged replicaId tick element
+    firstVector vector index range highest placeBy tickAt indexFrom vectorFound vectorAt known lackingAt orElse lackingFrom lacking
+    insert sorted inSpan within orderOf order putPlace putLack compared compareReply orderValue emptyValue one two parts p1 q1 p2 q2
+    entry aAndB emptyAndA onSpan spanAndA emptyAndSpan aAndFront emptyAndMap aAndA
 last-compared = (record { reply = refl; value = λ n old. refl; size = refl }, record { reply = refl; value = λ n old. refl; size = refl })
 
 -- with the bytes written out

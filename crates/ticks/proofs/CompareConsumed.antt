@@ -14,6 +14,7 @@ use Rattle.codec.specs.declared.Answer.the-variants.{Written, Refused}
 use Rattle.codec.specs.Parsed.{accepted, refused}
 use Rattle.codec.specs.Reply.{Reply, refuses, answer, after, numberOf, writtenOf}
 use Rattle.codec.proofs.Numbers.{put-be, put-drop, be-drop, be-take}
+use Rattle.codec.proofs.Calls.{refused-answer, refused-after}
 use Rattle.codec.proofs.Replies.{answer-fits, answer-short, number-fits, number-short, number-refused, after-front, after-short}
 use Rattle.layout.specs.Knowledge.{Rules, basic, Knowledge, Lawful}
 use Rattle.layout.specs.Permitted.{Permitted}
@@ -24,9 +25,8 @@ use Rattle.ticks.specs.Calls.{coverNumber, coverValue, coverAnswer}
 use Rattle.ticks.specs.Compare.{order, putPlace, compared, compareReply, orderValue}
 use Rattle.ticks.specs.Compare.{Knows, Ordered, Lowest, Reported, Finds, CompareSays}
 use Rattle.ticks.proofs.Answers.{answers-basic}
-use Rattle.ticks.proofs.Comparing.{compares-basic, order-settled, reported-settled, place-length}
+use Rattle.ticks.proofs.Comparing.{compares-basic, order-settled, reported-settled, order-stays, place-length}
 use Rattle.ticks.proofs.Consumed.{Says, cover-answers}
-use Rattle.ticks.proofs.Demand1.{refuses-after}
 use Rattle.ticks.proofs.LawfulResults.{lawful-ticks, top-below}
 use Rattle.ticks.proofs.Replies.{read-lawful}
 
@@ -39,23 +39,14 @@ pub record RefusedAlone (R : Rules) (s t out : List ℕ) (n : ℕ) : Type 0 wher
   pub order : (old : ℕ) → orderValue R s t (answer (compareReply R s t) (length out)) old ≡ old
   pub buffer : after (compareReply R s t) out ≡ out
 
-refuses-answer : (n room : ℕ) → answer (refuses n) room ≡ Refused n
-unfolding answer
-refuses-answer n room = refl
-
-order-stays : (R : Rules) (s t : List ℕ) (a : Answer) (n old : ℕ) → a ≡ Refused n → orderValue R s t a old ≡ old
-unfolding orderValue
-order-stays R s t a n old e = ap (λ (x : Answer). orderValue R s t x old) e
-
 refused-alone : (R : Rules) (s t out : List ℕ) (n : ℕ) → compareReply R s t ≡ refuses n → RefusedAlone R s t out n
 refused-alone R s t out n e =
     let room = length out in
-    let a : answer (compareReply R s t) room ≡ Refused n = ap (λ (r : Reply). answer r room) e ∙ refuses-answer n room in
     record {
       number = ap (λ (r : Reply). numberOf (answer r room)) e ∙ number-refused n room 0 .0;
       written = λ old. ap (λ (r : Reply). writtenOf (answer r room) old) e ∙ number-refused n room old .1;
-      order = λ old. order-stays R s t _ n old a;
-      buffer = ap (λ (r : Reply). after r out) e ∙ refuses-after n out;
+      order = λ old. order-stays R s t _ n old (sym (refused-answer (compareReply R s t) out n e));
+      buffer = sym (refused-after (compareReply R s t) out n e);
     }
 
 -- ---- reading the buffer

@@ -10,7 +10,8 @@ use mathlib.Core.List.{List, [], _∷_}
 use native.Mathlib.Omega.{arith}
 use lib.ListN.{length}
 use Rattle.codec.specs.Number.{put}
-use Rattle.codec.specs.declared.Answer.the-variants.{Written}
+use Rattle.codec.specs.declared.Answer.{Answer}
+use Rattle.codec.specs.declared.Answer.the-variants.{Written, Refused}
 use Rattle.codec.specs.Parsed.{Parsed, accepted, refused, ownFault, readOr}
 use Rattle.codec.specs.Reply.{Reply, gives, refuses, firstFault}
 use Rattle.codec.proofs.Numbers.{put-length}
@@ -298,6 +299,11 @@ module _ (R : Rules) (s t : List ℕ) where
       → orderValue R s t (Written n) old ≡ order a b
   unfolding orderValue readOr
   order-found a b e f n old = ap₂ (λ (p q : Parsed Knowledge). order (readAs p) (readAs q)) e f
+
+-- on a refusal, 14 too, the order stays
+pub order-stays : (R : Rules) (s t : List ℕ) (a : Answer) (n old : ℕ) → a ≡ Refused n → orderValue R s t a old ≡ old
+unfolding orderValue
+order-stays R s t a n old e = ap (λ (x : Answer). orderValue R s t x old) e
 
 pub compares : (R : Rules) → Permitted (R .limits) → CompareSays R
 compares R permitted = record {
