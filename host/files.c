@@ -2,6 +2,7 @@
 
 #include "files.h"
 
+#include <dirent.h>
 #include <errno.h>
 #include <fcntl.h>
 #include <libgen.h>
@@ -9,14 +10,25 @@
 #include <stdlib.h>
 #include <string.h>
 #include <sys/file.h>
+#include <sys/random.h>
 #include <sys/stat.h>
 #include <time.h>
 #include <unistd.h>
 
 #include "messages.h"
 
-/* The three texts one after the other. */
-static struct path path_of(const char *front, const char *middle, const char *end)
+/* The names of files in a replica's folder; what begins so and ends in .new is one that is being written. */
+static const char *const own_names[] = {"store", "last-tick", "names", "key", "lock"};
+#define OWN_NAMES (sizeof own_names / sizeof *own_names)
+
+const char *reason(int error)
+{
+    if (error == EACCES || error == EPERM)
+        return "no permission; ask its owner, or run this as its owner";
+    return error == ELOOP ? "it is a link, and a replica's files are no links" : strerror(error);
+}
+
+struct path path_of(const char *front, const char *middle, const char *end)
 {
     struct path path;
     int n = snprintf(path.text, sizeof path.text, "%s%s%s", front, middle, end);
@@ -37,25 +49,30 @@ int is_folder(const char *name)
     return stat(name, &about) == 0 && S_ISDIR(about.st_mode);
 }
 
-int is_there(const char *name)
-{
-    struct stat about;
-    return stat(name, &about) == 0;
-}
-
-int is_regular(const char *name)
-{
-    struct stat about;
-    return stat(name, &about) == 0 && S_ISREG(about.st_mode);
-}
-
 int is_standard(const char *name)
 {
     return strcmp(name, "-") == 0;
 }
 
-/* Reads until the end of the file or of the room. */
-static size_t read_all(int descriptor, const char *name, uint8_t *bytes, size_t room)
+struct folder open_folder(const char *name)
+{
+    struct folder folder = {name, open(name, O_RDONLY | O_DIRECTORY | O_CLOEXEC)};
+    if (folder.descriptor >= 0)
+        return folder;
+    if (errno == ENOENT)
+        trouble(name, "is not there; collector new makes a replica");
+    if (errno == ENOTDIR)
+        trouble(name, "is no folder, so it is no replica");
+    trouble(name, "cannot be opened: %s", reason(errno));
+}
+
+void close_folder(struct folder *folder)
+{
+    close(folder->descriptor);
+    folder->descriptor = -1;
+}
+
+long read_all(int descriptor, uint8_t *bytes, size_t room)
 {
     size_t n = 0;
     while (n < room) {
@@ -65,37 +82,18 @@ static size_t read_all(int descriptor, const char *name, uint8_t *bytes, size_t 
         if (got > 0)
             n += (size_t)got;
         else if (errno != EINTR)
-            trouble(name, "cannot be read: %s", strerror(errno));
+            return -1;
     }
-    return n;
+    return (long)n;
 }
 
-void read_file(struct file *file, const char *name)
+int write_all(int descriptor, const void *bytes, size_t n)
 {
-    struct stat about;
-    int descriptor = is_standard(name) ? STDIN_FILENO : open(name, O_RDONLY | O_CLOEXEC);
-    file->name = is_standard(name) ? "standard input" : name;
-    if (descriptor < 0 || fstat(descriptor, &about) != 0)
-        trouble(file->name, "cannot be opened: %s", strerror(errno));
-    if (S_ISDIR(about.st_mode))
-        trouble(file->name, "is a folder, not a file");
-    file->n = read_all(descriptor, file->name, file->bytes, sizeof file->bytes);
-    if (file->n > SYNC_LARGEST_BATCH)
-        trouble(file->name, "has over %d bytes, which no file of ours has", SYNC_LARGEST_BATCH);
-    if (descriptor != STDIN_FILENO) {
-        if (S_ISREG(about.st_mode) && file->n < (size_t)about.st_size)
-            trouble(file->name, "ended after %zu of its %lld bytes while it was read; try again", file->n, (long long)about.st_size);
-        close(descriptor);
-    }
-}
-
-/* Writes all bytes; 0, or -1 and errno. */
-static int write_all(int descriptor, const uint8_t *bytes, size_t n)
-{
+    const uint8_t *rest = bytes;
     while (n > 0) {
-        ssize_t done = write(descriptor, bytes, n);
+        ssize_t done = write(descriptor, rest, n);
         if (done >= 0) {
-            bytes += done;
+            rest += done;
             n -= (size_t)done;
         } else if (errno != EINTR) {
             return -1;
@@ -104,26 +102,220 @@ static int write_all(int descriptor, const uint8_t *bytes, size_t n)
     return 0;
 }
 
-/* Brings the entries of the folder that a file stands in down to the disk. */
-static void sync_folder_of(const struct path *place)
+/* Reads an open file and closes it. One byte beyond the room would show that it is too long. */
+static size_t read_open(int descriptor, const char *name, uint8_t *bytes, size_t room, const struct stat *about)
 {
-    struct path copy = *place;
-    const char *folder = dirname(copy.text);
-    int descriptor = open(folder, O_RDONLY | O_DIRECTORY | O_CLOEXEC);
-    if (descriptor < 0 || fsync(descriptor) != 0)
-        trouble(place->text, "is written, but may not outlast a crash: %s", strerror(errno));
-    close(descriptor);
+    uint8_t more;
+    long n = read_all(descriptor, bytes, room);
+    if (n < 0)
+        trouble(name, "cannot be read: %s", reason(errno));
+    if ((size_t)n == room && read_all(descriptor, &more, 1) == 1)
+        trouble(name, "has over %zu bytes, which no file of ours has", room);
+    if (S_ISREG(about->st_mode) && descriptor != STDIN_FILENO && n < (long)about->st_size)
+        trouble(name, "ended after %ld of its %lld bytes while it was read; try again", n, (long long)about->st_size);
+    if (descriptor != STDIN_FILENO)
+        close(descriptor);
+    return (size_t)n;
+}
+
+size_t read_in(const struct folder *folder, const char *name, uint8_t *bytes, size_t room)
+{
+    struct stat about;
+    struct path place = inside(folder->name, name);
+    int descriptor = openat(folder->descriptor, name, O_RDONLY | O_NOFOLLOW | O_NONBLOCK | O_CLOEXEC);
+    if (descriptor < 0 && errno == ENOENT)
+        return NOT_THERE;
+    if (descriptor < 0 || fstat(descriptor, &about) != 0)
+        trouble(place.text, "cannot be opened: %s", reason(errno));
+    if (!S_ISREG(about.st_mode))
+        trouble(place.text, "is no regular file; something else put it there");
+    return read_open(descriptor, place.text, bytes, room, &about);
+}
+
+size_t read_named(const char *name, uint8_t *bytes, size_t room)
+{
+    struct stat about;
+    int descriptor = is_standard(name) ? STDIN_FILENO : open(name, O_RDONLY | O_CLOEXEC);
+    const char *said = is_standard(name) ? "standard input" : name;
+    if (descriptor < 0 || fstat(descriptor, &about) != 0)
+        trouble(said, "cannot be opened: %s", reason(errno));
+    if (S_ISDIR(about.st_mode))
+        trouble(said, "is a folder, not a file");
+    return read_open(descriptor, said, bytes, room, &about);
+}
+
+/* Whether a name is one that a file of ours has while it is written: ".NAME.16 DIGITS.new". */
+static int is_left_over(const char *name)
+{
+    size_t at, length;
+    for (at = 0; at < OWN_NAMES; at++) {
+        length = strlen(own_names[at]);
+        if (name[0] == '.' && strncmp(name + 1, own_names[at], length) == 0 && name[1 + length] == '.' &&
+            strspn(name + 2 + length, "0123456789abcdef") == 16 && strcmp(name + 18 + length, ".new") == 0)
+            return 1;
+    }
+    return 0;
+}
+
+/* Removes what was left over, also by a program of before this one, whose names were fixed. */
+static void clean(const struct folder *folder)
+{
+    static const char *const before[] = {"store.new", "last-tick.new"};
+    struct stat about;
+    struct dirent *entry;
+    size_t at;
+    int descriptor = openat(folder->descriptor, ".", O_RDONLY | O_DIRECTORY | O_CLOEXEC);
+    DIR *entries = descriptor < 0 ? NULL : fdopendir(descriptor);
+    while (entries && (entry = readdir(entries)))
+        if (is_left_over(entry->d_name))
+            unlinkat(folder->descriptor, entry->d_name, 0);
+    if (entries)
+        closedir(entries);
+    for (at = 0; at < 2; at++)
+        if (fstatat(folder->descriptor, before[at], &about, AT_SYMLINK_NOFOLLOW) == 0 && S_ISREG(about.st_mode))
+            unlinkat(folder->descriptor, before[at], 0);
+}
+
+/* Whether the folder is still the one that its name leads to. */
+static int is_still_there(const struct folder *folder)
+{
+    struct stat open, named;
+    return fstat(folder->descriptor, &open) == 0 && stat(folder->name, &named) == 0 && open.st_dev == named.st_dev &&
+        open.st_ino == named.st_ino;
+}
+
+unsigned wait_seconds = 10;
+
+void lock_folder(struct folder *folder)
+{
+    const struct timespec pause = {0, 10000000};
+    unsigned long tries;
+    for (tries = 0; flock(folder->descriptor, LOCK_EX | LOCK_NB) != 0; tries++) {
+        if (errno != EWOULDBLOCK && errno != EINTR)
+            trouble(folder->name, "cannot be locked: %s", reason(errno));
+        if (tries == 100ul * wait_seconds)
+            trouble(folder->name, "another program has been working on it for %u seconds; try again, or --wait longer", wait_seconds);
+        nanosleep(&pause, NULL);
+    }
+    if (!is_still_there(folder))
+        trouble(folder->name, "was replaced by another folder while this program waited for it; try again");
+    clean(folder);
+}
+
+/* Brings the entries of a folder down to the disk. */
+static void sync_folder(const struct folder *folder, const char *name)
+{
+    if (fsync(folder->descriptor) != 0)
+        trouble(inside(folder->name, name).text, "is written, but may not outlast a crash: %s", reason(errno));
+}
+
+/* The files that are written and not renamed yet. */
+static const struct replacement *pending[8];
+static size_t pending_count;
+
+static void remove_pending(void)
+{
+    while (pending_count > 0) {
+        pending_count--;
+        unlinkat(pending[pending_count]->folder->descriptor, pending[pending_count]->beside, 0);
+    }
+}
+
+static void add_pending(const struct replacement *new)
+{
+    static int is_set;
+    if (!is_set)
+        is_set = atexit(remove_pending) == 0;
+    if (pending_count < sizeof pending / sizeof *pending)
+        pending[pending_count++] = new;
+}
+
+static void drop_pending(const struct replacement *new)
+{
+    size_t at;
+    for (at = 0; at < pending_count; at++)
+        if (pending[at] == new)
+            pending[at] = pending[--pending_count];
 }
 
 /* Gives a new file the owner and the rights of the one that it replaces. Only the superuser can give a file away. */
-static int take_rights(int descriptor, const char *place)
+static int take_rights(int descriptor, const struct replacement *new)
 {
     struct stat old;
-    if (stat(place, &old) != 0)
+    if (fstatat(new->folder->descriptor, new->name, &old, AT_SYMLINK_NOFOLLOW) != 0 || !S_ISREG(old.st_mode))
         return 0;
     if (geteuid() == 0 && fchown(descriptor, old.st_uid, old.st_gid) != 0)
         return -1;
     return old.st_uid == geteuid() || geteuid() == 0 ? fchmod(descriptor, old.st_mode & 07777) : 0;
+}
+
+/* Makes the file that is written first, under a name that nobody can know before. */
+static int open_beside(struct replacement *new)
+{
+    uint64_t drawn;
+    if (getrandom(&drawn, sizeof drawn, 0) != sizeof drawn)
+        return -1;
+    snprintf(new->beside, sizeof new->beside, ".%s.%016llx.new", new->name, (unsigned long long)drawn);
+    return openat(new->folder->descriptor, new->beside, O_WRONLY | O_CREAT | O_EXCL | O_NOFOLLOW | O_CLOEXEC, 0666);
+}
+
+void prepare(struct replacement *new, const struct folder *folder, const char *name, const void *bytes, size_t n)
+{
+    struct path place = inside(folder->name, name);
+    int descriptor;
+    new->folder = folder;
+    if ((size_t)snprintf(new->name, sizeof new->name, "%s", name) >= sizeof new->name - 24)
+        trouble(place.text, "the name is too long");
+    descriptor = open_beside(new);
+    if (descriptor < 0)
+        trouble(place.text, "cannot be written: %s; " NOTHING_CHANGED, reason(errno));
+    add_pending(new);
+    if (take_rights(descriptor, new) != 0 || write_all(descriptor, bytes, n) != 0 || fsync(descriptor) != 0 || close(descriptor) != 0)
+        trouble(place.text, "cannot be written: %s; " NOTHING_CHANGED, reason(errno));
+}
+
+void finish(struct replacement *new, const char *otherwise)
+{
+    const int folder = new->folder->descriptor;
+    if (renameat(folder, new->beside, folder, new->name) != 0)
+        trouble(inside(new->folder->name, new->name).text, "cannot be replaced: %s; %s", reason(errno), otherwise);
+    drop_pending(new);
+    sync_folder(new->folder, new->name);
+}
+
+void make_folder(const char *name)
+{
+    struct path copy = path_of(name, "", "");
+    struct folder above;
+    if (mkdir(name, 0777) == 0) {
+        above = open_folder(dirname(copy.text));
+        sync_folder(&above, name);
+        close_folder(&above);
+    } else if (errno != EEXIST || !is_folder(name)) {
+        trouble(name, "cannot be made: %s", reason(errno));
+    }
+}
+
+/* Whether a folder is a replica's. */
+static int is_replica(const struct folder *folder)
+{
+    struct stat about;
+    return fstatat(folder->descriptor, "store", &about, AT_SYMLINK_NOFOLLOW) == 0 ||
+        fstatat(folder->descriptor, "last-tick", &about, AT_SYMLINK_NOFOLLOW) == 0;
+}
+
+/* Ends the program if a result would stand in the way of a replica's own files. */
+static void need_outside(const struct folder *folder, const char *base, const char *said)
+{
+    struct stat about;
+    size_t at;
+    if (!is_replica(folder))
+        return;
+    for (at = 0; at < OWN_NAMES; at++)
+        if (strcmp(base, own_names[at]) == 0)
+            trouble(said, "is a file of a replica, which only its own commands change; give another name");
+    if (is_left_over(base) || fstatat(folder->descriptor, base, &about, AT_SYMLINK_NOFOLLOW) == 0)
+        trouble(said, "is in a replica's folder already, where nothing is written over; give another name");
 }
 
 /* Where a name leads to: through links, so that it is not a link that is replaced. */
@@ -136,77 +328,38 @@ static struct path place_of(const char *name)
     return path_of(name, "", "");
 }
 
-void prepare(struct replacement *new, const char *name, const char *suffix, const uint8_t *bytes, size_t n)
+static void replace_named(const char *name, const uint8_t *bytes, size_t n)
 {
-    int descriptor;
-    new->place = place_of(name);
-    new->beside = path_of(new->place.text, suffix, "");
-    descriptor = open(new->beside.text, O_WRONLY | O_CREAT | O_TRUNC | O_CLOEXEC, 0666);
-    if (descriptor < 0)
-        trouble(new->beside.text, "cannot be written: %s; " NOTHING_CHANGED, strerror(errno));
-    if (take_rights(descriptor, new->place.text) != 0 || write_all(descriptor, bytes, n) != 0 || fsync(descriptor) != 0 ||
-        close(descriptor) != 0) {
-        int error = errno;
-        unlink(new->beside.text);
-        trouble(new->beside.text, "cannot be written: %s; " NOTHING_CHANGED, strerror(error));
-    }
-}
-
-void finish(const struct replacement *new, const char *otherwise)
-{
-    if (rename(new->beside.text, new->place.text) != 0) {
-        int error = errno;
-        unlink(new->beside.text);
-        trouble(new->place.text, "cannot be replaced: %s; %s", strerror(error), otherwise);
-    }
-    sync_folder_of(&new->place);
+    struct path place = place_of(name), copy = place;
+    struct replacement new;
+    struct folder folder = {dirname(copy.text), -1};
+    const char *slash = strrchr(place.text, '/'), *base = slash ? slash + 1 : place.text;
+    folder.descriptor = open(folder.name, O_RDONLY | O_DIRECTORY | O_CLOEXEC);
+    if (folder.descriptor < 0)
+        trouble(name, "cannot be written: %s; " NOTHING_CHANGED, reason(errno));
+    need_outside(&folder, base, name);
+    prepare(&new, &folder, base, bytes, n);
+    finish(&new, NOTHING_CHANGED);
+    close_folder(&folder);
 }
 
 /* Writes to something that is there and is no regular file. */
 static void write_through(const char *name, int descriptor, const uint8_t *bytes, size_t n)
 {
     if (descriptor < 0 || write_all(descriptor, bytes, n) != 0)
-        trouble(name, "cannot be written: %s", strerror(errno));
+        trouble(name, "cannot be written: %s", reason(errno));
 }
 
 void write_result(const char *name, const uint8_t *bytes, size_t n)
 {
-    if (is_standard(name)) {
+    struct stat about;
+    int is_there = !is_standard(name) && stat(name, &about) == 0;
+    if (is_standard(name))
         write_through("standard output", STDOUT_FILENO, bytes, n);
-    } else if (is_folder(name)) {
+    else if (is_there && S_ISDIR(about.st_mode))
         trouble(name, "is a folder, not a file");
-    } else if (is_there(name) && !is_regular(name)) {
+    else if (is_there && !S_ISREG(about.st_mode))
         write_through(name, open(name, O_WRONLY | O_CLOEXEC), bytes, n);
-    } else {
-        struct replacement new;
-        char suffix[32];
-        snprintf(suffix, sizeof suffix, ".%ld.new", (long)getpid());
-        prepare(&new, name, suffix, bytes, n);
-        finish(&new, NOTHING_CHANGED);
-    }
-}
-
-void make_folder(const char *name)
-{
-    struct path place = path_of(name, "", "");
-    if (mkdir(name, 0777) == 0)
-        sync_folder_of(&place);
-    else if (errno != EEXIST || !is_folder(name))
-        trouble(name, "cannot be made: %s", strerror(errno));
-}
-
-void lock_folder(const char *name)
-{
-    const struct timespec pause = {0, 10000000};
-    struct path place = inside(name, "lock");
-    int tries, descriptor = open(place.text, O_RDONLY | O_CREAT | O_CLOEXEC, 0666);
-    if (descriptor < 0)
-        trouble(place.text, "cannot be opened: %s", strerror(errno));
-    for (tries = 0; flock(descriptor, LOCK_EX | LOCK_NB) != 0; tries++) {
-        if (errno != EWOULDBLOCK && errno != EINTR)
-            trouble(place.text, "cannot be locked: %s", strerror(errno));
-        if (tries == 1000)
-            trouble(name, "another program has been working on it for ten seconds; try again");
-        nanosleep(&pause, NULL);
-    }
+    else
+        replace_named(name, bytes, n);
 }

@@ -6,9 +6,11 @@
 
 #include "format.h"
 #include "ids.h"
+#include "json.h"
+#include "names.h"
 
 /* A table of text cells, with columns as wide as their widest cell. */
-enum { CELL = ID_TEXT + 24, COLUMNS = 17, ROWS = 257 };
+enum { CELL = ID_TEXT + 208, COLUMNS = 17, ROWS = 257 };
 static char cells[ROWS][COLUMNS][CELL];
 
 /* Prints the first rows and columns; the columns from the given one on stand to the right, as numbers do. */
@@ -179,19 +181,42 @@ static void show_ticks(struct part knowledge)
     print_table(1 + g, 1 + r, 1);
 }
 
+/* The name of an item, cut to a cell, with other signs for those that would change the lines. */
+static void put_item_name(char *cell, const uint8_t *item)
+{
+    const char *name = name_of(item);
+    size_t at;
+    snprintf(cell, CELL, "%s", name ? name : "-");
+    for (at = 0; cell[at]; at++)
+        if ((unsigned char)cell[at] < 0x20 || cell[at] == 0x7f)
+            cell[at] = '?';
+}
+
 static void put_version(char *cell, const uint8_t *version)
 {
     char text[ID_TEXT];
     snprintf(cell, CELL, "%s %" PRIu64, id_text(&replicas, version, text), number_at(version + VERSION_TICK, 8));
 }
 
+/* Whether one of the records has a name. */
+static int has_names(struct part table)
+{
+    uint64_t at = 0;
+    const uint8_t *record;
+    while ((record = next_record(table, &at)))
+        if (name_of(record + RECORD_ITEM))
+            return 1;
+    return 0;
+}
+
 static void show_records(struct part table)
 {
-    static const char *const titles[] = {"item", "state", "changed", "created", "tag"};
+    static const char *const titles[] = {"item", "state", "changed", "created", "tag", "name"};
+    const int columns = has_names(table) ? 6 : 5;
     int row, column;
     uint64_t at = 0;
     const uint8_t *record;
-    for (column = 0; column < 5; column++)
+    for (column = 0; column < columns; column++)
         strcpy(cells[0][column], titles[column]);
     for (row = 1; row < ROWS && (record = next_record(table, &at)); row++) {
         int live = record[0] == KIND_LIVE;
@@ -202,8 +227,10 @@ static void show_records(struct part table)
         strcpy(cells[row][4], "-");
         if (live)
             tag_text(record + RECORD_TAG, cells[row][4]);
+        if (columns == 6)
+            put_item_name(cells[row][5], record + RECORD_ITEM);
     }
-    print_table(row, 5, 5);
+    print_table(row, columns, columns);
 }
 
 void show(const struct file *file)
@@ -235,7 +262,8 @@ void show_list(struct part table)
     full_ids = 1;
     while ((record = next_record(table, &at)))
         if (record[0] == KIND_LIVE)
-            printf("%s %s\n", id_text(&items, record + RECORD_ITEM, item), tag_text(record + RECORD_TAG, tag));
+            printf("%s %s%s%s\n", id_text(&items, record + RECORD_ITEM, item), tag_text(record + RECORD_TAG, tag),
+                   name_of(record + RECORD_ITEM) ? " " : "", name_of(record + RECORD_ITEM) ? name_of(record + RECORD_ITEM) : "");
 }
 
 void show_record(const uint8_t *record)
@@ -247,4 +275,92 @@ void show_record(const uint8_t *record)
            number_at(record + RECORD_CREATE + VERSION_TICK, 8));
     if (record[0] == KIND_LIVE)
         printf(", tag %s", tag_text(record + RECORD_TAG, text));
+}
+
+static void json_version(const char *name, const uint8_t *version)
+{
+    json_open(name, '{');
+    json_digits("replica", version, REPLICA);
+    json_number("tick", number_at(version + VERSION_TICK, 8));
+    json_close('}');
+}
+
+void json_record(const uint8_t *record)
+{
+    const char *name = name_of(record + RECORD_ITEM);
+    json_digits("item", record + RECORD_ITEM, ITEM);
+    if (name)
+        json_text("name", name);
+    json_text("state", record[0] == KIND_LIVE ? "live" : "deleted");
+    json_version("changed", record + RECORD_CHANGE);
+    json_version("created", record + RECORD_CREATE);
+    if (record[0] == KIND_LIVE)
+        json_digits("tag", record + RECORD_TAG, TAG);
+}
+
+/* The ticks from each range's item on, of each replica that has one there. */
+static void json_ticks(const char *name, struct part knowledge)
+{
+    struct sizes sizes = sizes_of(knowledge);
+    uint64_t row, column, tick;
+    char text[ID_TEXT];
+    json_open(name, '[');
+    for (row = 0; row < sizes.of[3]; row++) {
+        const uint8_t *item = knowledge.bytes + ranges_at(sizes.of) + RANGE * row;
+        json_open(NULL, '{');
+        json_digits("from", item, ITEM);
+        json_open("ticks", '{');
+        for (column = 0; column < sizes.of[0]; column++) {
+            const uint8_t *replica = knowledge.bytes + KNOWLEDGE_REPLICAS + REPLICA * column;
+            tick = known_tick(knowledge, item, replica);
+            all_digits(replica, REPLICA, text);
+            if (tick > 0)
+                json_number(text, tick);
+        }
+        json_close('}');
+        json_close('}');
+    }
+    json_close(']');
+}
+
+void json_kind(const struct file *file)
+{
+    enum kind kind = kind_of(file);
+    struct sizes sizes = sizes_of(knowledge_of(file));
+    json_text("file", file->name);
+    json_text("kind", kind_names[kind]);
+    json_text("form", form_names[file->form]);
+    json_number("bytes", file->n);
+    json_number("replicas", sizes.of[0]);
+    json_number("ranges", sizes.of[3]);
+    if (kind == KNOWLEDGE)
+        json_truth("normal_form", is_normal(knowledge_of(file)));
+    if (kind == STORE)
+        json_digits("replica", file->bytes + STORE_OWN, REPLICA);
+    if (kind == BATCH) {
+        json_digits("first", file->bytes + BATCH_FIRST, ITEM);
+        json_digits("last", file->bytes + BATCH_LAST, ITEM);
+    }
+}
+
+void json_show(const struct file *file)
+{
+    enum kind kind = kind_of(file);
+    struct part table;
+    uint64_t at = 0;
+    const uint8_t *record;
+    json_kind(file);
+    if (kind == BATCH)
+        json_ticks("needs", needed_of(file));
+    json_ticks("knows", knowledge_of(file));
+    if (kind == KNOWLEDGE)
+        return;
+    table = records_of(file);
+    json_open("records", '[');
+    while ((record = next_record(table, &at))) {
+        json_open(NULL, '{');
+        json_record(record);
+        json_close('}');
+    }
+    json_close(']');
 }

@@ -26,6 +26,11 @@ void show_list(struct part table);
 /* One record in words, without an end of the line: "live, changed by a1 at tick 2, created by a1 at tick 1, tag 9". */
 void show_record(const uint8_t *record);
 
+/* The same in JSON, as members of the object that is open: one record, what a file is, all of a file. */
+void json_record(const uint8_t *record);
+void json_kind(const struct file *file);
+void json_show(const struct file *file);
+
 /* A count with its noun. */
 void show_count(uint64_t count, const char *one, const char *many);
 

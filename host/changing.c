@@ -1,0 +1,97 @@
+/* The commands that change one replica by themselves. */
+
+#define _DEFAULT_SOURCE
+
+#include <inttypes.h>
+#include <stdio.h>
+#include <string.h>
+#include <sys/random.h>
+
+#include "commands.h"
+#include "format.h"
+#include "messages.h"
+#include "options.h"
+#include "replica.h"
+#include "show.h"
+#include "status.h"
+
+static struct file result, store;
+static struct replica replica;
+
+int command_new(char **arguments)
+{
+    uint8_t own[REPLICA];
+    char text[ID_TEXT];
+    uint64_t written = 0;
+    uint32_t number;
+    if (arguments[1])
+        read_id(&replicas, arguments[1], own);
+    else if (getrandom(own, sizeof own, 0) != sizeof own)
+        trouble("random bytes", "cannot be had; give an id");
+    number = sync_new(own, REPLICA, result.bytes, sizeof result.bytes, &written);
+    if (number != 0)
+        refused(arguments[0], number, NULL);
+    result.name = arguments[0];
+    result.n = (size_t)written;
+    save_new(arguments[0], &result);
+    change_is_made();
+    full_ids = full_ids || !arguments[1];
+    printf("%s is replica %s\n", arguments[0], id_text(&replicas, own, text));
+    return 0;
+}
+
+/* Keeps the store that an edit or a deletion has written, or refuses as it did, and says what it came to. */
+static int keep(uint32_t number, uint64_t written, const char *done, const uint8_t *item)
+{
+    char item_id[ID_TEXT], own[ID_TEXT];
+    if (number != 0)
+        refused(store.name, number, NULL);
+    result.name = store.name;
+    result.n = (size_t)written;
+    save(&replica, &result);
+    change_is_made();
+    add_id(&items, item);
+    printf("%s item %s: tick %" PRIu64 " of replica %s\n", done, id_text(&items, item, item_id), own_tick(&result),
+           id_text(&replicas, result.bytes + STORE_OWN, own));
+    warn_limits(&result);
+    return 0;
+}
+
+int command_edit(char **arguments)
+{
+    uint8_t item[ITEM], tag[TAG];
+    uint64_t written = 0;
+    uint32_t number;
+    need_id(&items, arguments[1]);
+    read_tag(arguments[2], tag);
+    load_to_change(&replica, &store, arguments[0]);
+    add_ids(&store);
+    read_id(&items, arguments[1], item);
+    number = sync_edit(store.bytes, store.n, item, ITEM, tag, TAG, result.bytes, sizeof result.bytes, &written);
+    return keep(number, written, "edited", item);
+}
+
+int command_delete(char **arguments)
+{
+    uint8_t item[ITEM];
+    uint64_t written = 0;
+    uint32_t number;
+    need_id(&items, arguments[1]);
+    load_to_change(&replica, &store, arguments[0]);
+    add_ids(&store);
+    read_id(&items, arguments[1], item);
+    number = sync_delete(store.bytes, store.n, item, ITEM, result.bytes, sizeof result.bytes, &written);
+    return keep(number, written, "deleted", item);
+}
+
+int command_seal(char **arguments)
+{
+    struct folder folder = open_folder(arguments[0]);
+    struct replica now;
+    enum form before = seal_again(arguments[0]);
+    change_is_made();
+    close_folder(&folder);
+    open_replica(&now, arguments[0]);
+    printf("%s: its files were %s, and are %s now\n", arguments[0], form_names[before], form_names[now.last.form]);
+    return 0;
+}

@@ -1,0 +1,12 @@
+/* What was said by options. */
+
+#ifndef OPTIONS_H
+#define OPTIONS_H
+
+struct options {
+    int json, list, bare, dry_run;
+    const char *key, *run, *id;
+};
+extern struct options options;
+
+#endif
