@@ -97,6 +97,13 @@ static size_t read_line(const uint8_t *file, size_t n, enum kind *kind, enum for
     return 0;
 }
 
+int is_keyed(const uint8_t *file, size_t n)
+{
+    enum kind kind;
+    enum form form;
+    return read_line(file, n, &kind, &form) > 0 && form == KEYED;
+}
+
 static struct opened fault(const char *words)
 {
     struct opened opened = {words, KNOWLEDGE, BARE, NULL, 0};

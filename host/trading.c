@@ -192,9 +192,10 @@ static int apply_to(const char *folder)
     result.name = folder;
     result.n = (size_t)written;
     is_other = result.n != store.n || memcmp(result.bytes, store.bytes, store.n) != 0;
-    if (is_other)
+    if (is_other) {
         save(&replica, &result);
-    change_is_made();
+        change_is_made();
+    }
     close_folder(&replica.folder); /* so that the command of --run finds the folder unlocked */
     say_applied(stdout, options.list, is_other);
     warn_limits(&result);
@@ -218,8 +219,11 @@ int command_exchange(char **arguments)
     const uint8_t *asked;
     size_t n, got;
     int ended;
-    load(&store, arguments[0]);
+    open_replica(&replica, arguments[0]);
+    read_store(&replica, &store);
     need_store(&store);
+    need_latest(&replica, &store);
+    close_folder(&replica.folder);
     knowledge = knowledge_of(&store);
     n = knowledge.n;
     asked = options.bare ? knowledge.bytes : in_envelope(KNOWLEDGE, knowledge.bytes, &n);
