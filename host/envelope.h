@@ -32,6 +32,7 @@ size_t seal(enum kind kind, const struct key *key, const uint8_t *bytes, size_t 
 /* What was found in an envelope. */
 struct opened {
     const char *fault; /* in words, or null */
+    int is_damaged;    /* the fault is damage, and no matter of keys or options */
     enum kind kind;
     enum form form;
     const uint8_t *bytes;

@@ -85,7 +85,7 @@ void take_file(struct file *file, const char *name, const uint8_t *read, size_t 
     }
     opened = open_envelope(&files_key, read, n);
     if (opened.fault)
-        trouble(name, "%s; have it sent again", opened.fault);
+        trouble(name, "%s%s", opened.fault, opened.is_damaged ? "; have it sent again" : "");
     put_bytes(file, name, opened.form, opened.bytes, opened.n);
     if (kind_of(file) != opened.kind)
         trouble(name, "its first line says %s, and the bytes in it are another thing", kind_names[opened.kind]);
@@ -93,6 +93,7 @@ void take_file(struct file *file, const char *name, const uint8_t *read, size_t 
 
 /* What to do about a store that cannot be used. */
 static const char way_out[] =
+    "\n"
     "  Only read what is there, and take what it held from a copy or from the other servers into a replica under a new\n"
     "  id, to be used instead:\n"
     "    collector new FRESH\n"
@@ -109,7 +110,7 @@ static struct opened open_own(const struct folder *folder, const char *name, con
     if (opened.fault && !without.fault)
         trouble(place.text, "is not sealed with the key of its folder; collector seal %s puts it under the key", folder->name);
     if (opened.fault)
-        trouble(place.text, "%s\n%s", opened.fault, way_out);
+        trouble(place.text, "%s%s", opened.fault, opened.is_damaged ? way_out : "");
     if (strcmp(kind_names[opened.kind], name) != 0)
         trouble(place.text, "is no %s: its first line says %s", name, kind_names[opened.kind]);
     return opened;
@@ -141,7 +142,7 @@ static int read_last_text(const uint8_t *bytes, size_t n, struct last *last)
 static struct last read_last(const struct folder *folder, const struct key *key)
 {
     struct last last = {0, BARE, {0}, 0};
-    struct opened opened = {NULL, LAST_TICK, BARE, raw, read_in(folder, "last-tick", raw, sizeof raw)};
+    struct opened opened = {NULL, 0, LAST_TICK, BARE, raw, read_in(folder, "last-tick", raw, sizeof raw)};
     if (opened.n == NOT_THERE)
         return last;
     if (key->n > 0 || is_envelope(raw, opened.n))
@@ -184,7 +185,7 @@ static int may_be_bare(const struct replica *replica)
 void read_store(const struct replica *replica, struct file *store)
 {
     const char *name = replica->folder.name;
-    struct opened opened = {NULL, STORE, BARE, raw, read_in(&replica->folder, "store", raw, sizeof raw)};
+    struct opened opened = {NULL, 0, STORE, BARE, raw, read_in(&replica->folder, "store", raw, sizeof raw)};
     if (opened.n == NOT_THERE)
         trouble(name, "has no store in it, so it is no replica; collector new makes one");
     if (is_envelope(raw, opened.n) || !may_be_bare(replica))
@@ -501,7 +502,7 @@ void save(struct replica *replica, const struct file *store)
 /* Opens a file of a folder under any of the keys; its form before. */
 static struct opened open_any(const struct folder *folder, const char *name, const struct key *keys, size_t count, int may_bare)
 {
-    struct opened opened = {NULL, LAST_TICK, BARE, raw, read_in(folder, name, raw, sizeof raw)};
+    struct opened opened = {NULL, 0, LAST_TICK, BARE, raw, read_in(folder, name, raw, sizeof raw)};
     size_t at, n = opened.n;
     if (n == NOT_THERE)
         trouble(folder->name, "has no file %s, so there is nothing to seal", name);
