@@ -71,7 +71,7 @@ static void need_no_later_edits(const char *name, struct part knowledge)
     open_locked(&replica, name);
     read_store(&replica, &store);
     need_store(&store);
-    if (replica.last.is_there && known > own_tick(&store)) {
+    if (replica.last.is_there && memcmp(replica.last.own, store.bytes + STORE_OWN, REPLICA) == 0 && known > own_tick(&store)) {
         say_behind(name, "");
         hold(&replica, &store, known);
         exit(STATUS_FILES);
