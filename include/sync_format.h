@@ -1,8 +1,7 @@
 /*
- * Where the fields of a record, a store, a batch, a knowledge and a comparison stand, for programs in C and C++ that read
- * them: what sync_compare has written, and stores and batches that the engine has written or found valid. sync_knowledge
- * refuses a store that is not valid, sync_learned such a batch, and sync_check bytes that are no knowledge. Nothing here
- * looks for faults.
+ * Where the fields of a record, a store, a batch, a knowledge and a comparison stand, for programs in C and C++ that
+ * read what the engine has written or found valid. sync_knowledge refuses a store that is not valid, sync_learned such
+ * a batch, and sync_check bytes that are no knowledge. Nothing here looks for faults.
  *
  * Places and lengths are in bytes; places count from the first byte of the thing that is named. docs/FORMAT.md has the
  * whole layout, and what the fields mean.
@@ -60,8 +59,8 @@ enum sync_format {
     SYNC_RANGE_INDEX = 24,
     SYNC_RANGE_LENGTH = 28,
 
-    /* A comparison has, for each knowledge that lacks something, where it lacks it first: an item id, a replica id, and the
-       ticks there of the first and of the second knowledge, 8 bytes each. */
+    /* A comparison has, for each knowledge that lacks something, where it lacks it first: an item id, a replica id, and
+       the ticks there of the first and of the second knowledge, 8 bytes each. */
     SYNC_LACK_ITEM = 0,
     SYNC_LACK_REPLICA = 24,
     SYNC_LACK_FIRST_TICK = 40,
