@@ -1,6 +1,6 @@
 /*
- * The sync knowledge engine, for programs in C and C++. Link with libcollector.a. Where the fields stand in the bytes of
- * stores, batches and comparisons is in sync_format.h.
+ * The sync knowledge engine, for programs in C and C++. Link with libcollector.a. Where the fields of stores, batches
+ * and comparisons stand is in sync_format.h.
  *
  * What holds for every function here:
  *
@@ -42,9 +42,9 @@ extern "C" {
 #define SYNC_STACK 131072
 
 /*
- * The same for each call alone: what it took on the largest inputs, on x86-64, rounded up. That leaves room for the
- * dynamic linker, which took 2.5 KiB more where memset or memcpy was called for the first time. tests/stack.c fails if a
- * call takes more, and if it takes so little that the number here should be smaller.
+ * The same for each call alone: what it took on the largest inputs, on x86-64, rounded up. Not proved but measured. The
+ * rounding leaves room for the dynamic linker, which took 2.5 KiB more where a call was the first to need memset or
+ * memcpy. tests/stack.c fails if a call takes more than its number, and if the number is far above what it takes.
  */
 #define SYNC_STACK_CHECK 1024
 #define SYNC_STACK_CONTAIN 1024
