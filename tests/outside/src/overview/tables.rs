@@ -51,7 +51,8 @@ pub fn calls(text: &str) -> Result<Vec<Call>, String> {
 
 /// The call that a line names, as in "## `check`".
 fn call_of(line: &str) -> Option<&str> {
-    line.trim_start_matches('#').trim().strip_prefix('`')?.strip_suffix('`')
+    let name = line.trim_start_matches('#').trim().strip_prefix('`')?.strip_suffix('`')?;
+    (!name.contains('`')).then_some(name)
 }
 
 fn cells(line: &str) -> Option<Vec<&str>> {

@@ -108,7 +108,7 @@ fn well_formed(text: &str) -> Result<(), String> {
     for piece in text.split('<').skip(1) {
         let (tag, between) = piece.split_once('>').ok_or(format!("no end of {piece}"))?;
         let signs = between.replace("&amp;", "").replace("&lt;", "").replace("&gt;", "");
-        if signs.contains(['&', '>']) || open.is_empty() && !between.trim().is_empty() && !tag.starts_with('/') {
+        if signs.contains(['&', '>']) {
             return Err(format!("a bare sign: {between}"));
         }
         if let Some(name) = tag.strip_prefix('/') {
