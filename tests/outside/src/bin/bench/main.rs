@@ -33,8 +33,11 @@ use outside::overview;
 use measure::{ROUNDS, TURN, TURNS};
 use row::Row;
 
-/// The tables by name, in the order of the document: each is measured, and given as text.
-const TABLES: &[(&str, fn() -> String)] = &[
+/// Measures a table, and gives it as text.
+type Measured = fn() -> String;
+
+/// The tables by name, in the order of the document.
+const TABLES: &[(&str, Measured)] = &[
     ("check", || on_knowledge("check", sample::each(sample::check))),
     ("contain", || on_knowledge("contain", sample::each(sample::contain))),
     ("lead", || on_knowledge("lead", sample::each(sample::lead))),
