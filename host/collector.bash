@@ -1,6 +1,6 @@
 # shellcheck shell=bash
-# Completes commands, options, files and folders of collector in bash. Needs nothing beside bash: source it, or put it where
-# the package bash-completion looks.
+# Completes commands, options, files and folders of collector in bash. Needs nothing beside bash: source it, or put it
+# where the package bash-completion looks.
 
 _collector() {
   local word=${COMP_WORDS[COMP_CWORD]} command=${COMP_WORDS[1]} options='' value='' arguments=0 i
@@ -18,8 +18,8 @@ _collector() {
     coverage) options='--json --key --bare' ;;
     pack | unpack) options='--key' ;;
   esac
-  # What stands before the word: how many arguments, and whether the word is the value of an option. Behind -- and in the
-  # command of exchange there are no options.
+  # What stands before the word: how many arguments, and whether the word is the value of an option. Behind -- and in
+  # the command of exchange there are no options.
   for ((i = 2; i < COMP_CWORD; i++)); do
     if [[ -n $value ]]; then value=''
     elif [[ -n $options && ${COMP_WORDS[i]} == -- ]]; then options=''
