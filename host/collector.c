@@ -13,9 +13,6 @@
 #include "options.h"
 #include "replica.h"
 
-#ifndef SYNC_VERSION
-#define SYNC_VERSION "0.1.0"
-#endif
 
 struct options options;
 
