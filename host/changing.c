@@ -86,12 +86,8 @@ int command_delete(char **arguments)
 
 int command_seal(char **arguments)
 {
-    struct folder folder = open_folder(arguments[0]);
-    struct replica now;
-    enum form before = seal_again(arguments[0]);
+    enum form after, before = seal_again(arguments[0], &after);
     change_is_made();
-    close_folder(&folder);
-    open_replica(&now, arguments[0]);
-    printf("%s: its files were %s, and are %s now\n", arguments[0], form_names[before], form_names[now.last.form]);
+    printf("%s: its files were %s, and are %s now\n", arguments[0], form_names[before], form_names[after]);
     return 0;
 }

@@ -512,7 +512,7 @@ static struct opened open_any(const struct folder *folder, const char *name, con
     trouble(inside(folder->name, name).text, "opens under none of these keys: %s", opened.fault ? opened.fault : "it is another file");
 }
 
-enum form seal_again(const char *name)
+enum form seal_again(const char *name, enum form *after)
 {
     static struct file store;
     struct key keys[3] = {{0, {0}}, {0, {0}}, {0, {0}}};
@@ -523,6 +523,7 @@ enum form seal_again(const char *name)
     replica.folder = open_folder(name);
     lock_folder(&replica.folder);
     read_folder_key(&replica.key, &replica.folder);
+    *after = replica.key.n > 0 ? KEYED : SEALED;
     keys[0] = replica.key;
     if (options.key)
         read_given_key(&keys[1], options.key);
