@@ -23,6 +23,7 @@ enum kind kind_of(const struct file *file)
 /* ---- keys */
 
 static struct key files_key; /* of files that stand in no replica's folder */
+static struct key given_key; /* of --key; it is read once, for it may come through a pipe */
 
 /* Takes the line ends off a key and looks at its length. */
 static void trim_key(struct key *key, const char *name)
@@ -31,12 +32,6 @@ static void trim_key(struct key *key, const char *name)
         key->n--;
     if (key->n < KEY_LEAST)
         trouble(name, "is no key: it has fewer than %d bytes", KEY_LEAST);
-}
-
-static void read_given_key(struct key *key, const char *name)
-{
-    key->n = read_named(name, key->bytes, sizeof key->bytes);
-    trim_key(key, name);
 }
 
 static void read_folder_key(struct key *key, const struct folder *folder)
@@ -50,8 +45,11 @@ static void read_folder_key(struct key *key, const struct folder *folder)
 void choose_key(char **names, int count)
 {
     int at;
-    if (options.key)
-        read_given_key(&files_key, options.key);
+    if (options.key) {
+        given_key.n = read_named(options.key, given_key.bytes, sizeof given_key.bytes);
+        trim_key(&given_key, is_standard(options.key) ? "standard input" : options.key);
+    }
+    files_key = given_key;
     for (at = 0; at < count && files_key.n == 0; at++)
         if (names[at] && is_folder(names[at])) {
             struct folder folder = open_folder(names[at]);
@@ -155,8 +153,8 @@ static struct last read_last(const struct folder *folder, const struct key *key)
 static void read_beside(struct replica *replica)
 {
     read_folder_key(&replica->key, &replica->folder);
-    if (replica->key.n == 0 && options.key)
-        read_given_key(&replica->key, options.key);
+    if (replica->key.n == 0)
+        replica->key = given_key;
     replica->last = read_last(&replica->folder, &replica->key);
 }
 
@@ -525,8 +523,7 @@ enum form seal_again(const char *name, enum form *after)
     read_folder_key(&replica.key, &replica.folder);
     *after = replica.key.n > 0 ? KEYED : SEALED;
     keys[0] = replica.key;
-    if (options.key)
-        read_given_key(&keys[1], options.key);
+    keys[1] = given_key;
     opened = open_any(&replica.folder, "last-tick", keys, 3, 1);
     replica.last.form = opened.form;
     replica.last.is_there = read_last_text(opened.bytes, opened.n, &replica.last);
