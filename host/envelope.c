@@ -119,8 +119,10 @@ struct opened open_envelope(const struct key *key, const uint8_t *file, size_t n
         length = length << 8 | file[front + at];
     if (length != n - front - LENGTH - DIGEST)
         return fault("its length is not the one that it says; it was cut or damaged");
-    if (opened.form == KEYED && key->n == 0)
-        return fault("it is sealed with a key, and there is none in the folder; give it with --key");
+    if (opened.form == KEYED && key->n == 0) {
+        opened.fault = "it is sealed with a key, and there is none in the folder; give it with --key";
+        return opened;
+    }
     if (opened.form == SEALED && key->n > 0)
         return fault("it is not sealed with the key; whoever made it does not have the key");
     sealed_digest(key, file, n - DIGEST, digest);

@@ -33,7 +33,7 @@ size_t seal(enum kind kind, const struct key *key, const uint8_t *bytes, size_t 
 struct opened {
     const char *fault; /* in words, or null */
     enum kind kind;
-    enum form form;
+    enum form form; /* KEYED also where the key is missing, which is no damage */
     const uint8_t *bytes;
     size_t n;
 };

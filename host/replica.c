@@ -100,12 +100,12 @@ static const char way_out[] =
 static struct opened open_own(const struct folder *folder, const char *name, const struct key *key, size_t n)
 {
     struct opened opened = open_envelope(key, raw, n);
-    struct opened without = key->n > 0 ? open_envelope(&no_key, raw, n) : opened;
     struct path place = inside(folder->name, name);
-    if (opened.fault && !without.fault)
+    int is_before = n > 0 && !is_envelope(raw, n) && strcmp(name, "last-tick") == 0; /* the store beside it may then be so too */
+    if (opened.fault && key->n > 0 && (is_before || !open_envelope(&no_key, raw, n).fault))
         trouble(place.text, "is not sealed with the key of its folder; collector seal %s puts it under the key", folder->name);
     if (opened.fault)
-        trouble(place.text, "%s\n%s", opened.fault, way_out);
+        trouble(place.text, "%s%s%s", opened.fault, opened.form == KEYED ? "" : "\n", opened.form == KEYED ? "" : way_out);
     if (strcmp(kind_names[opened.kind], name) != 0)
         trouble(place.text, "is no %s: its first line says %s", name, kind_names[opened.kind]);
     return opened;
@@ -183,6 +183,8 @@ void read_store(const struct replica *replica, struct file *store)
     struct opened opened = {NULL, STORE, BARE, raw, read_in(&replica->folder, "store", raw, sizeof raw)};
     if (opened.n == NOT_THERE)
         trouble(name, "has no store in it, so it is no replica; collector new makes one");
+    if (opened.n > 0 && !is_envelope(raw, opened.n) && !may_be_bare(replica) && replica->last.is_there)
+        trouble(inside(name, "store").text, "has no envelope, and the tick beside it has one: something else put it there\n%s", way_out);
     if (is_envelope(raw, opened.n) || !may_be_bare(replica))
         opened = open_own(&replica->folder, "store", &replica->key, opened.n);
     put_bytes(store, name, opened.form, opened.bytes, opened.n);
