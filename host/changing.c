@@ -86,9 +86,8 @@ int command_delete(char **arguments)
 
 int command_seal(char **arguments)
 {
-    enum form before = seal_again(arguments[0]);
+    enum form after, before = seal_again(arguments[0], &after);
     change_is_made();
-    open_replica(&replica, arguments[0]);
-    printf("%s: its files were %s, and are %s now\n", arguments[0], form_names[before], form_names[replica.last.form]);
+    printf("%s: its files were %s, and are %s now\n", arguments[0], form_names[before], form_names[after]);
     return 0;
 }
