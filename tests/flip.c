@@ -1,11 +1,12 @@
 /*
- * Damages a file in every way of one kind and runs a command on it each time: each bit flipped, each length cut, one byte more.
+ * Damages a file, each bit flipped, each length cut, one byte more, and runs a command each time.
  *
  *   flip STEP FILE [FOLDER]... -- COMMAND [ARGUMENT]...
  *
- * Each time the command must end with status 3 and say nothing but a message of the program, and must leave the file, and all files in
- * the folders, byte for byte as they were: none may be gone, and none be there that was not. STEP 1 tries each bit and each length, a
- * larger one only each STEP-th. At the end the file is as it was at first. The status is 0 if all was noticed, and 1 if not.
+ * Each time the command must end with status 3 and say nothing but a message of the program, and must leave the file,
+ * and all files in the folders, byte for byte as they were: none may be gone, and none be there that was not. STEP 1
+ * tries each bit and each length, a larger one only each STEP-th. At the end the file is as it was at first. Prints how
+ * many bits, lengths and bytes more were tried. The status is 0 if all was noticed, and 1 if not.
  */
 
 #define _GNU_SOURCE
@@ -112,11 +113,12 @@ static int run(void)
     extern char **environ;
     posix_spawn_file_actions_t actions;
     pid_t child;
-    int ended;
+    int ended, number;
     posix_spawn_file_actions_init(&actions);
     posix_spawn_file_actions_addopen(&actions, STDOUT_FILENO, said_in, O_WRONLY | O_CREAT | O_TRUNC | O_APPEND, 0600);
     posix_spawn_file_actions_adddup2(&actions, STDOUT_FILENO, STDERR_FILENO);
-    if (posix_spawnp(&child, job.command[0], &actions, NULL, job.command, environ) != 0 || waitpid(child, &ended, 0) != child)
+    number = posix_spawnp(&child, job.command[0], &actions, NULL, job.command, environ);
+    if (number != 0 || waitpid(child, &ended, 0) != child)
         failed("cannot be started", job.command[0]);
     posix_spawn_file_actions_destroy(&actions);
     return WIFEXITED(ended) ? WEXITSTATUS(ended) : 128 + WTERMSIG(ended);
