@@ -171,33 +171,35 @@ static void edit_all(struct draft *draft)
 
 /* ---- what is said */
 
-/* How many items have their greatest version in one old replica only. */
-static size_t only_in(size_t folder)
+/* The next item, from a place on, whose greatest version only one old replica has, or null; moves the place behind it. */
+static const struct winner *next_only(size_t folder, size_t *at)
 {
-    size_t at, count = 0;
-    for (at = 0; at < winner_count; at++)
-        count += winners[at].is_only && winners[at].of == folder;
-    return count;
+    while (*at < winner_count) {
+        const struct winner *winner = &winners[(*at)++];
+        if (winner->is_only && winner->of == folder)
+            return winner;
+    }
+    return NULL;
 }
 
 static void say_only_in(size_t folder)
 {
     char text[ID_TEXT];
-    size_t at, count = only_in(folder);
-    if (count == 0) {
+    const struct winner *winner;
+    size_t at = 0, count = 0;
+    while (next_only(folder, &at))
+        count++;
+    if (count == 0)
         printf("%s had nothing that the others lacked\n", folders[folder]);
-        return;
+    else
+        printf("only %s had the greatest version of %zu %s:\n", folders[folder], count, count == 1 ? "item" : "items");
+    for (at = 0; (winner = next_only(folder, &at));) {
+        const char *name = name_of(winner->record + RECORD_ITEM);
+        printf("  item %s", id_text(&items, winner->record + RECORD_ITEM, text));
+        if (name)
+            printf(" (%s)", printable(name));
+        puts(is_live(winner) ? "" : ", deleted");
     }
-    printf("only %s had the greatest version of %zu %s:\n", folders[folder], count, count == 1 ? "item" : "items");
-    for (at = 0; at < winner_count; at++)
-        if (winners[at].is_only && winners[at].of == folder) {
-            const uint8_t *item = winners[at].record + RECORD_ITEM;
-            const char *name = name_of(item);
-            printf("  item %s", id_text(&items, item, text));
-            if (name)
-                printf(" (%s)", printable(name));
-            puts(is_live(&winners[at]) ? "" : ", deleted");
-        }
 }
 
 static void say_renewed(const struct file *new)
@@ -218,20 +220,20 @@ static void say_renewed(const struct file *new)
 
 static void json_only_in(size_t folder)
 {
-    size_t at;
+    const struct winner *winner;
+    size_t at = 0;
     json_open(NULL, '{');
     json_text("folder", folders[folder]);
     json_open("items", '[');
-    for (at = 0; at < winner_count; at++)
-        if (winners[at].is_only && winners[at].of == folder) {
-            const uint8_t *item = winners[at].record + RECORD_ITEM;
-            json_open(NULL, '{');
-            json_digits("item", item, ITEM);
-            if (name_of(item))
-                json_text("name", name_of(item));
-            json_text("state", is_live(&winners[at]) ? "live" : "deleted");
-            json_close('}');
-        }
+    while ((winner = next_only(folder, &at))) {
+        const char *name = name_of(winner->record + RECORD_ITEM);
+        json_open(NULL, '{');
+        json_digits("item", winner->record + RECORD_ITEM, ITEM);
+        if (name)
+            json_text("name", name);
+        json_text("state", is_live(winner) ? "live" : "deleted");
+        json_close('}');
+    }
     json_close(']');
     json_close('}');
 }
@@ -282,6 +284,7 @@ int command_renew(char **arguments)
     keep_greatest();
     edit_all(&draft);
     write_folder(draft.now);
+    add_ids(draft.now);
     if (options.json)
         json_renewed(draft.now);
     else
