@@ -124,17 +124,21 @@ static void json_known(const uint8_t *item)
     json_close('}');
 }
 
-/* What apply would do with the batch: its number, with the words for it, and the record that the item would have. */
+/* What apply would do with the batch: its number, why it would refuse, or null, and the record that the item would have. */
 struct outcome {
     uint32_t number, side;
     const char *words;
     const uint8_t *record;
 };
 
-static struct outcome outcome_of(const uint8_t *item)
+static struct outcome outcome_of(int is_held, const uint8_t *item)
 {
     struct outcome outcome = {0, 0, NULL, NULL};
     uint64_t written, at = 0, length = 0;
+    if (is_held) {
+        outcome.words = "the folder is held, because its store is not the one that was written last";
+        return outcome;
+    }
     outcome.number = sync_apply(store.bytes, store.n, other.bytes, other.n, after.bytes, sizeof after.bytes, &written);
     if (outcome.number != 0)
         outcome.words = words_of(outcome.number);
@@ -151,6 +155,8 @@ static void say_outcome(const struct outcome *outcome)
     printf("  %s ", other.name);
     if (outcome->number != 0) {
         printf("would be refused with %u: %s\n", (unsigned)outcome->number, outcome->words);
+    } else if (outcome->words) {
+        printf("would be refused: %s\n", outcome->words);
     } else if (outcome->side == 0) {
         puts("has nothing of it");
     } else if (outcome->side == 1) {
@@ -167,8 +173,9 @@ static void json_outcome(const struct outcome *outcome)
     static const char *const names[] = {"nothing", "leave", "change"};
     json_open("batch", '{');
     json_text("file", other.name);
-    json_text("would", outcome->number != 0 ? "refuse" : names[outcome->side]);
-    json_number("number", outcome->number);
+    json_text("would", outcome->words ? "refuse" : names[outcome->side]);
+    if (outcome->number != 0)
+        json_number("number", outcome->number);
     if (outcome->words)
         json_text("reason", outcome->words);
     if (outcome->record) {
@@ -220,15 +227,32 @@ static void json_why(const uint8_t *item, const uint8_t *record, const struct ou
     json_end();
 }
 
+/* Reads the store of a folder, or a store that stands elsewhere. Whether it is not the one that was written last in its folder. */
+static int load_and_look(const char *name)
+{
+    struct replica replica;
+    int folder = is_folder(name);
+    if (folder) {
+        open_replica(&replica, name);
+        load_names(&replica.folder);
+        read_store(&replica, &store);
+        close_folder(&replica.folder);
+    } else {
+        load(&store, name);
+    }
+    need_store(&store);
+    return folder && !is_latest(&replica.last, &store);
+}
+
 int command_why(char **arguments)
 {
     uint8_t item[ITEM];
     struct outcome outcome = {0, 0, NULL, NULL};
     const uint8_t *record;
+    int is_held;
     refusals_are_trouble = 1;
     need_id(&items, arguments[1]);
-    load_with_names(&store, arguments[0]);
-    need_store(&store);
+    is_held = load_and_look(arguments[0]);
     add_ids(&store);
     if (arguments[2]) {
         load(&other, arguments[2]);
@@ -239,12 +263,12 @@ int command_why(char **arguments)
     add_id(&items, item);
     record = find_record(records_of(&store), item);
     if (arguments[2])
-        outcome = outcome_of(item);
+        outcome = outcome_of(is_held, item);
     if (options.json)
         json_why(item, record, arguments[2] ? &outcome : NULL);
     else
         say_why(item, record, arguments[2] ? &outcome : NULL);
-    return outcome.number != 0 ? STATUS_NO : 0;
+    return outcome.words ? STATUS_NO : 0;
 }
 
 /* ---- compare */

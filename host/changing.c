@@ -108,12 +108,9 @@ int command_delete(char **arguments)
 
 int command_seal(char **arguments)
 {
-    struct folder folder = open_folder(arguments[0]);
-    struct replica now;
     enum form before = seal_again(arguments[0]);
     change_is_made();
-    close_folder(&folder);
-    open_replica(&now, arguments[0]);
-    printf("%s: its files were %s, and are %s now\n", arguments[0], form_names[before], form_names[now.last.form]);
+    open_replica(&replica, arguments[0]);
+    printf("%s: its files were %s, and are %s now\n", arguments[0], form_names[before], form_names[replica.last.form]);
     return 0;
 }

@@ -3,8 +3,6 @@
  * writes files. Here are the table of commands and the reading of options.
  */
 
-#include <errno.h>
-#include <signal.h>
 #include <stdio.h>
 #include <stdlib.h>
 #include <string.h>
@@ -160,7 +158,6 @@ static int run(char **arguments)
 int main(int count, char **arguments)
 {
     int status = 0;
-    signal(SIGPIPE, SIG_IGN); /* so that what cannot be printed is told from what was not done */
     if (count < 2) {
         fputs(help_collector, stderr);
         return STATUS_USAGE;

@@ -97,36 +97,43 @@ static size_t read_line(const uint8_t *file, size_t n, enum kind *kind, enum for
     return 0;
 }
 
-static struct opened fault(const char *words)
+int is_keyed(const uint8_t *file, size_t n)
 {
-    struct opened opened = {words, KNOWLEDGE, BARE, NULL, 0};
+    enum kind kind;
+    enum form form;
+    return read_line(file, n, &kind, &form) > 0 && form == KEYED;
+}
+
+static struct opened fault(const char *words, int is_damaged)
+{
+    struct opened opened = {words, is_damaged, KNOWLEDGE, BARE, NULL, 0};
     return opened;
 }
 
 struct opened open_envelope(const struct key *key, const uint8_t *file, size_t n)
 {
-    struct opened opened = {NULL, KNOWLEDGE, BARE, NULL, 0};
+    struct opened opened = {NULL, 0, KNOWLEDGE, BARE, NULL, 0};
     uint8_t digest[DIGEST];
     size_t at, length = 0, front = read_line(file, n, &opened.kind, &opened.form);
     if (n == 0)
-        return fault("the file is empty");
+        return fault("the file is empty", 1);
+    if (front == 0 && is_envelope(file, n))
+        return fault("its first line is damaged, or is that of a later version", 1);
     if (front == 0)
-        return fault(is_envelope(file, n) ? "its first line is damaged, or is that of a later version"
-                                          : "it has no envelope; --bare reads bytes without one");
+        return fault("it has no envelope; --bare reads bytes without one", 0);
     if (n < front + LENGTH + DIGEST)
-        return fault("it was cut: the envelope is not whole");
+        return fault("it was cut: the envelope is not whole", 1);
     for (at = 0; at < LENGTH; at++)
         length = length << 8 | file[front + at];
     if (length != n - front - LENGTH - DIGEST)
-        return fault("its length is not the one that it says; it was cut or damaged");
+        return fault("its length is not the one that it says; it was cut or damaged", 1);
     if (opened.form == KEYED && key->n == 0)
-        return fault("it is sealed with a key, and there is none in the folder; give it with --key");
+        return fault("it is sealed with a key; copy the key into the folder, or give it with --key", 0);
     if (opened.form == SEALED && key->n > 0)
-        return fault("it is not sealed with the key; whoever made it does not have the key");
+        return fault("it is not sealed with the key, so it may come from a stranger", 0);
     sealed_digest(key, file, n - DIGEST, digest);
     if (CRYPTO_memcmp(digest, file + n - DIGEST, DIGEST) != 0)
-        return fault(key->n > 0 ? "it was damaged, or was sealed with another key: its digest is wrong"
-                                : "it was damaged: its digest is wrong");
+        return fault(key->n > 0 ? "it was damaged, or sealed with another key: its digest is wrong" : "it was damaged: its digest is wrong", 1);
     opened.bytes = file + front + LENGTH;
     opened.n = length;
     return opened;

@@ -32,6 +32,7 @@ size_t seal(enum kind kind, const struct key *key, const uint8_t *bytes, size_t 
 /* What was found in an envelope. */
 struct opened {
     const char *fault; /* in words, or null */
+    int is_damaged;    /* the fault is damage, and no matter of keys or options */
     enum kind kind;
     enum form form;
     const uint8_t *bytes;
@@ -40,6 +41,9 @@ struct opened {
 
 /* Whether the bytes begin as an envelope does. No knowledge, store or batch of the engine begins so. */
 int is_envelope(const uint8_t *file, size_t n);
+
+/* Whether they are an envelope whose line says that it is sealed with a key. */
+int is_keyed(const uint8_t *file, size_t n);
 
 /* Opens an envelope and compares its digest. */
 struct opened open_envelope(const struct key *key, const uint8_t *file, size_t n);

@@ -328,38 +328,39 @@ static struct path place_of(const char *name)
     return path_of(name, "", "");
 }
 
-static void replace_named(const char *name, const uint8_t *bytes, size_t n)
-{
-    struct path place = place_of(name), copy = place;
-    struct replacement new;
-    struct folder folder = {dirname(copy.text), -1};
-    const char *slash = strrchr(place.text, '/'), *base = slash ? slash + 1 : place.text;
-    folder.descriptor = open(folder.name, O_RDONLY | O_DIRECTORY | O_CLOEXEC);
-    if (folder.descriptor < 0)
-        trouble(name, "cannot be written: %s; " NOTHING_CHANGED, reason(errno));
-    need_outside(&folder, base, name);
-    prepare(&new, &folder, base, bytes, n);
-    finish(&new, NOTHING_CHANGED);
-    close_folder(&folder);
-}
-
-/* Writes to something that is there and is no regular file. */
+/* Writes to something that is no regular file. */
 static void write_through(const char *name, int descriptor, const uint8_t *bytes, size_t n)
 {
     if (descriptor < 0 || write_all(descriptor, bytes, n) != 0)
         trouble(name, "cannot be written: %s", reason(errno));
 }
 
+static void write_named(const char *name, const uint8_t *bytes, size_t n)
+{
+    struct path place = place_of(name), copy = place;
+    struct replacement new;
+    struct stat about;
+    struct folder folder = {dirname(copy.text), -1};
+    const char *slash = strrchr(place.text, '/'), *base = slash ? slash + 1 : place.text;
+    folder.descriptor = open(folder.name, O_RDONLY | O_DIRECTORY | O_CLOEXEC);
+    if (folder.descriptor < 0)
+        trouble(name, "cannot be written: %s; " NOTHING_CHANGED, reason(errno));
+    need_outside(&folder, base, name);
+    if (stat(name, &about) != 0 || S_ISREG(about.st_mode)) {
+        prepare(&new, &folder, base, bytes, n);
+        finish(&new, NOTHING_CHANGED);
+    } else {
+        write_through(name, open(name, O_WRONLY | O_CLOEXEC), bytes, n);
+    }
+    close_folder(&folder);
+}
+
 void write_result(const char *name, const uint8_t *bytes, size_t n)
 {
-    struct stat about;
-    int is_there = !is_standard(name) && stat(name, &about) == 0;
     if (is_standard(name))
         write_through("standard output", STDOUT_FILENO, bytes, n);
-    else if (is_there && S_ISDIR(about.st_mode))
+    else if (is_folder(name))
         trouble(name, "is a folder, not a file");
-    else if (is_there && !S_ISREG(about.st_mode))
-        write_through(name, open(name, O_WRONLY | O_CLOEXEC), bytes, n);
     else
-        replace_named(name, bytes, n);
+        write_named(name, bytes, n);
 }

@@ -3,6 +3,7 @@
 #include "messages.h"
 
 #include <errno.h>
+#include <signal.h>
 #include <stdarg.h>
 #include <stdio.h>
 #include <stdlib.h>
@@ -80,7 +81,7 @@ _Noreturn void refused(const char *name, uint32_t number, const char *note)
     exit(refusals_are_trouble ? STATUS_FILES : STATUS_REFUSED);
 }
 
-const char behind_words[] = "later edits by this replica are known than its store has; do not edit this store";
+const char behind_words[] = "other servers know later edits by this replica than its store has; do not edit this store";
 const char behind_more[] =
     "  This does not pass by itself. The store was put back from a copy, or two servers use one id. The ticks that are missing\n"
     "  would be given a second time, and others would never ask for these versions. The folder is held from now on: edit,\n"
@@ -105,6 +106,7 @@ void change_is_made(void)
 {
     made_words = "the change was made, but what was to follow was not done: ";
     trouble_status = STATUS_AFTER;
+    signal(SIGPIPE, SIG_IGN); /* so that a reader that is gone is told from a change that was not made */
 }
 
 _Noreturn void trouble(const char *name, const char *format, ...)

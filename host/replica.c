@@ -23,6 +23,7 @@ enum kind kind_of(const struct file *file)
 /* ---- keys */
 
 static struct key files_key; /* of files that stand in no replica's folder */
+static struct key given_key; /* that of --key */
 
 /* Takes the line ends off a key and looks at its length. */
 static void trim_key(struct key *key, const char *name)
@@ -51,7 +52,8 @@ void choose_key(char **names, int count)
 {
     int at;
     if (options.key)
-        read_given_key(&files_key, options.key);
+        read_given_key(&given_key, options.key);
+    files_key = given_key;
     for (at = 0; at < count && files_key.n == 0; at++)
         if (names[at] && is_folder(names[at])) {
             struct folder folder = open_folder(names[at]);
@@ -83,7 +85,7 @@ void take_file(struct file *file, const char *name, const uint8_t *read, size_t 
     }
     opened = open_envelope(&files_key, read, n);
     if (opened.fault)
-        trouble(name, "%s; have it sent again", opened.fault);
+        trouble(name, "%s%s", opened.fault, opened.is_damaged ? "; have it sent again" : "");
     put_bytes(file, name, opened.form, opened.bytes, opened.n);
     if (kind_of(file) != opened.kind)
         trouble(name, "its first line says %s, and the bytes in it are another thing", kind_names[opened.kind]);
@@ -91,6 +93,7 @@ void take_file(struct file *file, const char *name, const uint8_t *read, size_t 
 
 /* What to do about a store that cannot be used. */
 static const char way_out[] =
+    "\n"
     "  Only read what is there, and take what it held from a copy or from the other servers into a replica under a new\n"
     "  id, to be used instead:\n"
     "    collector new FRESH\n"
@@ -98,16 +101,16 @@ static const char way_out[] =
     "    collector make COPY asked answer         COPY: the copy, or another server's folder\n"
     "    collector apply FRESH answer";
 
-/* Takes a file of a replica's folder out of its envelope. */
+/* Takes a file of a replica's folder out of its envelope. A folder that has no key, such as a copy, has the one of --key. */
 static struct opened open_own(const struct folder *folder, const char *name, const struct key *key, size_t n)
 {
-    struct opened opened = open_envelope(key, raw, n);
+    struct opened opened = open_envelope(key->n == 0 && is_keyed(raw, n) ? &given_key : key, raw, n);
     struct opened without = key->n > 0 ? open_envelope(&no_key, raw, n) : opened;
     struct path place = inside(folder->name, name);
     if (opened.fault && !without.fault)
         trouble(place.text, "is not sealed with the key of its folder; collector seal %s puts it under the key", folder->name);
     if (opened.fault)
-        trouble(place.text, "%s\n%s", opened.fault, way_out);
+        trouble(place.text, "%s%s", opened.fault, opened.is_damaged ? way_out : "");
     if (strcmp(kind_names[opened.kind], name) != 0)
         trouble(place.text, "is no %s: its first line says %s", name, kind_names[opened.kind]);
     return opened;
@@ -139,7 +142,7 @@ static int read_last_text(const uint8_t *bytes, size_t n, struct last *last)
 static struct last read_last(const struct folder *folder, const struct key *key)
 {
     struct last last = {0, BARE, {0}, 0};
-    struct opened opened = {NULL, LAST_TICK, BARE, raw, read_in(folder, "last-tick", raw, sizeof raw)};
+    struct opened opened = {NULL, 0, LAST_TICK, BARE, raw, read_in(folder, "last-tick", raw, sizeof raw)};
     if (opened.n == NOT_THERE)
         return last;
     if (key->n > 0 || is_envelope(raw, opened.n))
@@ -155,9 +158,9 @@ static struct last read_last(const struct folder *folder, const struct key *key)
 static void read_beside(struct replica *replica)
 {
     read_folder_key(&replica->key, &replica->folder);
-    if (replica->key.n == 0 && options.key)
-        read_given_key(&replica->key, options.key);
     replica->last = read_last(&replica->folder, &replica->key);
+    if (replica->key.n == 0 && replica->last.form == KEYED)
+        replica->key = given_key;
 }
 
 void open_replica(struct replica *replica, const char *name)
@@ -182,7 +185,7 @@ static int may_be_bare(const struct replica *replica)
 void read_store(const struct replica *replica, struct file *store)
 {
     const char *name = replica->folder.name;
-    struct opened opened = {NULL, STORE, BARE, raw, read_in(&replica->folder, "store", raw, sizeof raw)};
+    struct opened opened = {NULL, 0, STORE, BARE, raw, read_in(&replica->folder, "store", raw, sizeof raw)};
     if (opened.n == NOT_THERE)
         trouble(name, "has no store in it, so it is no replica; collector new makes one");
     if (is_envelope(raw, opened.n) || !may_be_bare(replica))
@@ -459,7 +462,7 @@ void save_new(const char *name, const struct file *store)
 {
     struct replica replica;
     struct replacement key, tick, place;
-    struct key there;
+    int has_key;
     make_folder(name);
     open_locked(&replica, name);
     if (read_in(&replica.folder, "store", raw, sizeof raw) != NOT_THERE)
@@ -467,13 +470,15 @@ void save_new(const char *name, const struct file *store)
     if (replica.last.tick > 0)
         trouble(name, "its store is gone, and had given ticks up to %" PRIu64 "; make the new replica in another folder",
                 replica.last.tick);
-    read_folder_key(&there, &replica.folder);
-    if (there.n == 0 && replica.key.n > 0)
+    has_key = replica.key.n > 0;
+    if (!has_key)
+        replica.key = given_key;
+    if (!has_key && replica.key.n > 0)
         prepare_key(&key, &replica);
     /* The tick before the store, so that no store of ours is ever without one. */
     prepare_tick(&tick, &replica, store->bytes + STORE_OWN, own_tick(store));
     prepare_own(&place, &replica, STORE, store->bytes, store->n);
-    if (there.n == 0 && replica.key.n > 0)
+    if (!has_key && replica.key.n > 0)
         finish(&key, NOTHING_CHANGED);
     finish(&tick, "there is no replica yet");
     finish(&place, "there is no replica yet");
@@ -497,7 +502,7 @@ void save(struct replica *replica, const struct file *store)
 /* Opens a file of a folder under any of the keys; its form before. */
 static struct opened open_any(const struct folder *folder, const char *name, const struct key *keys, size_t count, int may_bare)
 {
-    struct opened opened = {NULL, LAST_TICK, BARE, raw, read_in(folder, name, raw, sizeof raw)};
+    struct opened opened = {NULL, 0, LAST_TICK, BARE, raw, read_in(folder, name, raw, sizeof raw)};
     size_t at, n = opened.n;
     if (n == NOT_THERE)
         trouble(folder->name, "has no file %s, so there is nothing to seal", name);
@@ -514,7 +519,7 @@ static struct opened open_any(const struct folder *folder, const char *name, con
 enum form seal_again(const char *name)
 {
     static struct file store;
-    struct key keys[3] = {{0, {0}}, {0, {0}}, {0, {0}}};
+    struct key keys[3];
     struct replica replica;
     struct replacement tick, place;
     struct opened opened;
@@ -523,8 +528,8 @@ enum form seal_again(const char *name)
     lock_folder(&replica.folder);
     read_folder_key(&replica.key, &replica.folder);
     keys[0] = replica.key;
-    if (options.key)
-        read_given_key(&keys[1], options.key);
+    keys[1] = given_key;
+    keys[2] = no_key;
     opened = open_any(&replica.folder, "last-tick", keys, 3, 1);
     replica.last.form = opened.form;
     replica.last.is_there = read_last_text(opened.bytes, opened.n, &replica.last);

@@ -75,6 +75,7 @@ int start(char *const *command, const void *input, size_t input_n, uint8_t *outp
     int in[2], out[2] = {-1, -1}, ended = 0;
     size_t none = 0;
     pid_t child;
+    signal(SIGPIPE, SIG_IGN);
     make_pipe(in);
     if (output)
         make_pipe(out);

@@ -71,7 +71,7 @@ static void need_no_later_edits(const char *name, struct part knowledge)
     open_locked(&replica, name);
     read_store(&replica, &store);
     need_store(&store);
-    if (replica.last.is_there && known > own_tick(&store)) {
+    if (replica.last.is_there && memcmp(replica.last.own, store.bytes + STORE_OWN, REPLICA) == 0 && known > own_tick(&store)) {
         say_behind(name, "");
         hold(&replica, &store, known);
         exit(STATUS_FILES);
@@ -192,9 +192,10 @@ static int apply_to(const char *folder)
     result.name = folder;
     result.n = (size_t)written;
     is_other = result.n != store.n || memcmp(result.bytes, store.bytes, store.n) != 0;
-    if (is_other)
+    if (is_other) {
         save(&replica, &result);
-    change_is_made();
+        change_is_made();
+    }
     close_folder(&replica.folder); /* so that the command of --run finds the folder unlocked */
     say_applied(stdout, options.list, is_other);
     warn_limits(&result);
@@ -218,8 +219,11 @@ int command_exchange(char **arguments)
     const uint8_t *asked;
     size_t n, got;
     int ended;
-    load(&store, arguments[0]);
+    open_replica(&replica, arguments[0]);
+    read_store(&replica, &store);
     need_store(&store);
+    need_latest(&replica, &store);
+    close_folder(&replica.folder);
     knowledge = knowledge_of(&store);
     n = knowledge.n;
     asked = options.bare ? knowledge.bytes : in_envelope(KNOWLEDGE, knowledge.bytes, &n);

@@ -1,11 +1,15 @@
 /*
- * The sync knowledge engine, for programs in C and C++. Link with libcollector.a.
+ * The sync knowledge engine, for programs in C and C++. Link with libcollector.a. Where the fields of stores, batches
+ * and comparisons stand is in sync_format.h.
  *
  * What holds for every function here:
  *
  * - No pointer is null, not even where the length beside it is 0.
  * - A pointer to bytes may be read for the length beside it, which may be any. Bytes need no alignment.
- * - Buffers that are written overlap no other buffer of the same call.
+ * - Inputs, which are only read, may overlap each other, or be the same bytes.
+ * - A buffer that is written overlaps no other buffer of the same call, neither an input nor another that is written.
+ * - Pointers to numbers that a call sets, such as written, order or sizes, overlap neither each other nor any buffer of
+ *   the call.
  * - It returns 0 when it did what it says. Else it returns the number of the refusal and changes nothing behind any
  *   pointer.
  * - It keeps no state, allocates nothing, and calls nothing but memset, memcpy and their like. So it may be called from any
@@ -23,6 +27,9 @@
 extern "C" {
 #endif
 
+/* The version of this header, of the library and of the program, which are made together. */
+#define SYNC_VERSION "0.1.0"
+
 /*
  * The longest knowledge, store and batch, in bytes. A buffer so long is never too short for a result: theorem `enough`,
  * crates/replication/proofs/Enough.antt, for stores and batches, and `lawful-length`, crates/layout/proofs/Lengths.antt, for knowledges.
@@ -33,6 +40,30 @@ extern "C" {
 
 /* No call takes more stack than this, in bytes. Not proved but measured, by tests/stack.c. */
 #define SYNC_STACK 131072
+
+/*
+ * The same for each call alone: what it took on the largest inputs, on x86-64, rounded up. Not proved but measured. The
+ * rounding leaves room for the dynamic linker, which took 2.5 KiB more where a call was the first to need memset or
+ * memcpy. tests/stack.c fails if a call takes more than its number, and if the number is far above what it takes.
+ */
+#define SYNC_STACK_CHECK 1024
+#define SYNC_STACK_CONTAIN 1024
+#define SYNC_STACK_LEAD 1024
+#define SYNC_STACK_COVER 2048
+#define SYNC_STACK_COMPARE 2048
+#define SYNC_STACK_NORMALISE 28672
+#define SYNC_STACK_MERGE 49152
+#define SYNC_STACK_PROJECT 28672
+#define SYNC_STACK_WINNER 6144
+#define SYNC_STACK_LEARNED 6144
+#define SYNC_STACK_COVERAGE 6144
+#define SYNC_STACK_KNOWLEDGE 6144
+#define SYNC_STACK_WALK 1024
+#define SYNC_STACK_NEW 1024
+#define SYNC_STACK_EDIT 32768
+#define SYNC_STACK_DELETE 32768
+#define SYNC_STACK_MAKE 57344
+#define SYNC_STACK_APPLY 53248
 
 /*
  * The numbers of the refusals. A knowledge is read from left to right, and the number is that of the first field with a

@@ -1,5 +1,5 @@
 /* Calls the engine through its C header, as C and as C++: the smallest knowledge, cut, and with a byte left over;
-   and the other calls on the paper's knowledges A and B. */
+   the other calls on the paper's knowledges A and B; and inputs that overlap. */
 
 #include <inttypes.h>
 #include <stdio.h>
@@ -213,6 +213,24 @@ static int comparing(void)
         && compare(in_a, in_b, SYNC_LARGEST_COMPARISON - 1, SYNC_SHORT_BUFFER, 7, out, 0);
 }
 
+/* Inputs may overlap: the same knowledge twice, the same id twice, and ids that are parts of each other or of the knowledge. */
+static int overlapping(void)
+{
+    const uint8_t *inside = a + 16;
+    uint32_t covers = 7, contained = 7;
+    int64_t value = 7;
+    uint32_t cover_gave = sync_cover(b, sizeof b, b, sizeof b, inside, ITEM, inside, ITEM, &covers);
+    uint32_t lead_gave = sync_lead(a, sizeof a, a, sizeof a, inside, ITEM, inside + 4, REPLICA, &value);
+    uint32_t contain_gave = sync_contain(a, sizeof a, inside, ITEM, a + 27, REPLICA, 5, &contained);
+    forget();
+    return gave("cover", cover_gave, 0, covers, 1)
+        && gave("lead", lead_gave, 0, value, 0)
+        && gave("contain", contain_gave, 0, contained, 1)
+        && compare(in_b, in_b, 0, 0, SYNC_ALIKE, lacks, 0)
+        && wrote("merge", sync_merge(b, sizeof b, b, sizeof b, out, ROOM, &written), 0, b, sizeof b)
+        && wrote("project", sync_project(a, sizeof a, inside, ITEM, inside, ITEM, out, 0, &written), SYNC_SHORT_BUFFER, out, 0);
+}
+
 int main(void)
 {
     return right(LENGTH, 0, 0, 1, 0, 1)
@@ -222,5 +240,6 @@ int main(void)
         && calls()
         && comparing()
         && writing()
+        && overlapping()
         ? 0 : 1;
 }

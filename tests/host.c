@@ -1,12 +1,13 @@
 /* A host program in C that keeps stores and batches in byte buffers and plays the paper's instances K9 to K12 to the byte: what each call
-   returns, every byte that it writes, and that it writes no other. Then the paper's figures of coverage, and knowledges of the instances K4
-   and K6 compared. */
+   returns, every byte that it writes, and that it writes no other. Then the paper's figures of coverage, knowledges of the instances K4 and
+   K6 compared, inputs that are parts of others, and the fields of what the engine wrote, where sync_format.h says that they stand. */
 
 #include <inttypes.h>
 #include <stdio.h>
 #include <string.h>
 
 #include "sync.h"
+#include "sync_format.h"
 #include "wrote.h"
 
 #define NUMBER(n) 0, 0, 0, n
@@ -262,8 +263,133 @@ static int orders(void)
     return 1;
 }
 
+/* What P, who knows its tick 1 already, is made from its own store: no records. */
+static const uint8_t batch_none[] = {BATCH(149, 149, 0), KNOWS(P, 1), KNOWS(P, 1)};
+
+/* Inputs that are parts of others: the knowledge of a store, and the item of its record. */
+static int parts(void)
+{
+    static const uint64_t every[] = {1, 1, 1000};
+    const uint8_t *own = edited_p + SYNC_STORE_KNOWLEDGE, *item = edited_p + 174 + SYNC_RECORD_ITEM;
+    uint32_t side = 7;
+    uint64_t at = 7, length = 7;
+    if (sync_winner(edited_p, sizeof edited_p, batch_q, sizeof batch_q, item, SYNC_ITEM, &side, &at, &length) != 0 || side != 2) {
+        fprintf(stderr, "host: winner of an item that stands in the store: side %" PRIu32 "\n", side);
+        return 0;
+    }
+    return make(edited_p, sizeof edited_p, own, 149, batch_none, sizeof batch_none)
+        && covered(edited_p, sizeof edited_p, own, 149, every);
+}
+
+/* Whether a number is as wanted. */
+static int same(const char *name, uint64_t number, uint64_t wanted)
+{
+    if (number != wanted)
+        fprintf(stderr, "host: %s is %" PRIu64 ", not %" PRIu64 "\n", name, number, wanted);
+    return number == wanted;
+}
+
+/* Whether the bytes at a place are these, the number of these n bytes, or a version. */
+static int bytes_at(const char *field, const uint8_t *place, const uint8_t *wanted, size_t n)
+{
+    int right = memcmp(place, wanted, n) == 0;
+    if (!right)
+        fprintf(stderr, "host: %s does not stand where sync_format.h says\n", field);
+    return right;
+}
+
+static int number_at(const char *field, const uint8_t *place, size_t n, uint64_t wanted)
+{
+    return same(field, sync_number_at(place, n), wanted);
+}
+
+static int version_at(const char *field, const uint8_t *place, const uint8_t *replica, uint64_t tick)
+{
+    return bytes_at(field, place, replica, SYNC_REPLICA) && number_at(field, place + SYNC_VERSION_TICK, 8, tick);
+}
+
+/* The store in which P deletes item 1, which Q had created, and item 2 is live. */
+static int places_of_store(void)
+{
+    static const uint8_t no_tag[SYNC_TAG] = {0};
+    const uint8_t *gone = out + SYNC_STORE_KNOWLEDGE + 177, *live = gone + SYNC_RECORD_LENGTH;
+    uint64_t at = 7, length = 7;
+    return same("what delete gives", sync_delete(p_next, sizeof p_next, item_1, SYNC_ITEM, out, ROOM, &written), 0)
+        && same("what knowledge gives", sync_knowledge(out, (size_t)written, &at, &length), 0)
+        && number_at("kind", out, 1, SYNC_KIND_STORE)
+        && bytes_at("own", out + SYNC_STORE_OWN, p, SYNC_REPLICA)
+        && same("the place of the knowledge", at, SYNC_STORE_KNOWLEDGE)
+        && number_at("knowledge length", out + SYNC_STORE_KNOWLEDGE_LENGTH, 4, length)
+        && number_at("count", out + SYNC_STORE_COUNT, 4, 2)
+        && number_at("kind", gone, 1, SYNC_KIND_TOMBSTONE)
+        && bytes_at("item", gone + SYNC_RECORD_ITEM, item_1, SYNC_ITEM)
+        && version_at("change", gone + SYNC_RECORD_CHANGE, p, 3)
+        && version_at("create", gone + SYNC_RECORD_CREATE, q, 1)
+        && bytes_at("tag", gone + SYNC_RECORD_TAG, no_tag, SYNC_TAG)
+        && number_at("kind", live, 1, SYNC_KIND_LIVE)
+        && bytes_at("item", live + SYNC_RECORD_ITEM, item_2, SYNC_ITEM)
+        && version_at("change", live + SYNC_RECORD_CHANGE, p, 2)
+        && bytes_at("tag", live + SYNC_RECORD_TAG, tag, SYNC_TAG)
+        && same("the length of the store", written, (uint64_t)(live + SYNC_RECORD_LENGTH - out));
+}
+
+/* What P knows from item 1 on: P 2 and Q 1. */
+static int places_of_knowledge(const uint8_t *knowledge, size_t n)
+{
+    const uint8_t *ranges;
+    uint64_t sizes[4] = {7, 7, 7, 7};
+    if (!same("what check gives", sync_check(knowledge, n, sizes), 0) || !same("the count of ranges", sizes[3], 2))
+        return 0;
+    ranges = knowledge + sync_ranges_at(sizes);
+    return bytes_at("replica 0", knowledge + SYNC_KNOWLEDGE_REPLICAS, p, SYNC_REPLICA)
+        && bytes_at("replica 1", knowledge + SYNC_KNOWLEDGE_REPLICAS + SYNC_REPLICA, q, SYNC_REPLICA)
+        && bytes_at("range 0", ranges, bottom, SYNC_ITEM)
+        && number_at("its index", ranges + SYNC_RANGE_INDEX, 4, 0)
+        && bytes_at("range 1", ranges + SYNC_RANGE_LENGTH, item_1, SYNC_ITEM)
+        && number_at("its index", ranges + SYNC_RANGE_LENGTH + SYNC_RANGE_INDEX, 4, 1);
+}
+
+/* A batch of both records for nothing, from item 1 to the last. */
+static int places_of_batch(void)
+{
+    uint64_t at = 7, length = 7;
+    uint32_t given;
+    forget();
+    given = sync_make(p_next, sizeof p_next, nothing, sizeof nothing, item_1, SYNC_ITEM, top, SYNC_ITEM, out, ROOM, &written);
+    return same("what make gives", given, 0)
+        && same("what learned gives", sync_learned(out, (size_t)written, &at, &length), 0)
+        && number_at("kind", out, 1, SYNC_KIND_BATCH)
+        && bytes_at("first", out + SYNC_BATCH_FIRST, item_1, SYNC_ITEM)
+        && bytes_at("last", out + SYNC_BATCH_LAST, top, SYNC_ITEM)
+        && number_at("needed length", out + SYNC_BATCH_NEEDED_LENGTH, 4, sizeof nothing)
+        && number_at("learned length", out + SYNC_BATCH_LEARNED_LENGTH, 4, length)
+        && number_at("count", out + SYNC_BATCH_COUNT, 4, 2)
+        && bytes_at("needed", out + SYNC_BATCH_NEEDED, nothing, sizeof nothing)
+        && same("the place of what was learned", at, SYNC_BATCH_NEEDED + sizeof nothing)
+        && bytes_at("item", out + at + length + SYNC_RECORD_LENGTH + SYNC_RECORD_ITEM, item_2, SYNC_ITEM)
+        && places_of_knowledge(out + at, (size_t)length);
+}
+
+/* A from item 2 on lacks tick 5 of P at item 1, and A on item 1 alone lacks it at item 2. */
+static int places_of_comparison(void)
+{
+    const uint8_t *second = out + SYNC_LACK_LENGTH;
+    uint32_t order = 7;
+    forget();
+    return same("what compare gives", sync_compare(a_from_2, sizeof a_from_2, a_on_1, sizeof a_on_1, &order, out, ROOM, &written), 0)
+        && bytes_at("item", out + SYNC_LACK_ITEM, item_1, SYNC_ITEM)
+        && bytes_at("replica", out + SYNC_LACK_REPLICA, p, SYNC_REPLICA)
+        && number_at("first tick", out + SYNC_LACK_FIRST_TICK, 8, 0)
+        && number_at("second tick", out + SYNC_LACK_SECOND_TICK, 8, 5)
+        && bytes_at("item", second + SYNC_LACK_ITEM, item_2, SYNC_ITEM)
+        && number_at("first tick", second + SYNC_LACK_FIRST_TICK, 8, 5)
+        && number_at("second tick", second + SYNC_LACK_SECOND_TICK, 8, 0)
+        && same("the length of the comparison", written, 2 * SYNC_LACK_LENGTH);
+}
+
 int main(void)
 {
     forget();
-    return k9() && k10() && k11() && k12() && others() && figures() && orders() ? 0 : 1;
+    return k9() && k10() && k11() && k12() && others() && figures() && orders() && parts()
+        && places_of_store() && places_of_batch() && places_of_comparison() ? 0 : 1;
 }

@@ -1,6 +1,7 @@
 /*
  * How much stack each call of the engine takes: it runs on a stack of its own that is filled with a pattern, and what the pattern has lost
- * is counted. The inputs are as large as they can be. Fails where a call takes more than the header says; prints the most of all of them.
+ * is counted. The inputs are as large as they can be. Fails if a call takes more than the header says of it, or so much less that the
+ * header should say less. Prints the most of all of them; with any argument, each of them.
  */
 
 #define _XOPEN_SOURCE 700
@@ -132,6 +133,31 @@ static uint32_t call(int number)
     }
 }
 
+/* What the header says that each call takes at most, by its number. */
+static const struct {
+    const char *name;
+    size_t bound;
+} calls[] = {
+    {"check", SYNC_STACK_CHECK},
+    {"contain", SYNC_STACK_CONTAIN},
+    {"lead", SYNC_STACK_LEAD},
+    {"cover", SYNC_STACK_COVER},
+    {"normalise", SYNC_STACK_NORMALISE},
+    {"merge", SYNC_STACK_MERGE},
+    {"project", SYNC_STACK_PROJECT},
+    {"new", SYNC_STACK_NEW},
+    {"edit", SYNC_STACK_EDIT},
+    {"delete", SYNC_STACK_DELETE},
+    {"make", SYNC_STACK_MAKE},
+    {"apply", SYNC_STACK_APPLY},
+    {"winner", SYNC_STACK_WINNER},
+    {"learned", SYNC_STACK_LEARNED},
+    {"coverage", SYNC_STACK_COVERAGE},
+    {"knowledge", SYNC_STACK_KNOWLEDGE},
+    {"walk", SYNC_STACK_WALK},
+    {"compare", SYNC_STACK_COMPARE}
+};
+
 static ucontext_t here, there;
 static int present;
 static uint32_t answer;
@@ -141,31 +167,54 @@ static void run(void)
     answer = call(present);
 }
 
-int main(void)
+/* What the present call takes, in bytes; 0 if it cannot be run or does not do what it should. */
+static size_t taken(void)
 {
-    static size_t most;
+    static size_t untouched;
+    memset(stack, PATTERN, sizeof stack);
+    if (getcontext(&there) != 0)
+        return 0;
+    there.uc_stack.ss_sp = stack;
+    there.uc_stack.ss_size = sizeof stack;
+    there.uc_link = &here;
+    makecontext(&there, run, 0);
+    if (swapcontext(&here, &there) != 0 || answer != 0)
+        return 0;
+    for (untouched = 0; untouched < ROOM && stack[untouched] == PATTERN; untouched++)
+        ;
+    return ROOM - untouched;
+}
+
+/* Whether what the header says of the present call is enough, and at most 4096 bytes more than twice what it takes. */
+static int right(size_t bytes)
+{
+    const char *name = calls[present].name;
+    size_t bound = calls[present].bound;
+    if (bytes == 0)
+        fprintf(stderr, "stack: %s gave %" PRIu32 "\n", name, answer);
+    else if (bytes > bound || bound > PROMISED)
+        fprintf(stderr, "stack: %s takes %zu bytes; the header says %zu, and %d for all calls\n", name, bytes, bound, PROMISED);
+    else if (bound > 2 * bytes + 4096)
+        fprintf(stderr, "stack: %s takes %zu bytes, far less than the %zu that the header says\n", name, bytes, bound);
+    else
+        return 1;
+    return 0;
+}
+
+int main(int count, char **arguments)
+{
+    static size_t bytes, most;
+    (void)arguments;
     put_all();
-    for (present = 0; present < 18; present++) {
-        static size_t untouched;
-        untouched = 0;
-        memset(stack, PATTERN, sizeof stack);
-        if (getcontext(&there) != 0)
+    for (present = 0; present < (int)(sizeof calls / sizeof *calls); present++) {
+        bytes = taken();
+        if (!right(bytes))
             return 1;
-        there.uc_stack.ss_sp = stack;
-        there.uc_stack.ss_size = sizeof stack;
-        there.uc_link = &here;
-        makecontext(&there, run, 0);
-        if (swapcontext(&here, &there) != 0)
-            return 1;
-        while (untouched < ROOM && stack[untouched] == PATTERN)
-            untouched++;
-        if (answer != 0) {
-            fprintf(stderr, "stack: call %d gave %" PRIu32 "\n", present, answer);
-            return 1;
-        }
-        if (ROOM - untouched > most)
-            most = ROOM - untouched;
+        if (count > 1)
+            printf("%-9s %5zu of %5zu\n", calls[present].name, bytes, calls[present].bound);
+        if (bytes > most)
+            most = bytes;
     }
     printf("stack: the most of all calls is %zu bytes of the %d that the header says\n", most, PROMISED);
-    return most > PROMISED;
+    return 0;
 }

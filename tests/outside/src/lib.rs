@@ -15,6 +15,7 @@ mod lenient;
 pub mod lists;
 pub mod moves;
 mod one;
+pub mod overview;
 pub mod reading;
 pub mod stand_in;
 mod tally;

@@ -20,21 +20,22 @@ struct Row {
     covers: Times,
 }
 
-/// Measures all sizes and prints the table.
-pub fn measure() {
+/// Measures all sizes and gives the table.
+pub fn measured() -> String {
     let mut sizes = sample::each(rows);
     for _ in 0..ROUNDS {
         sizes.iter_mut().flat_map(|(_, rows)| rows).for_each(Row::measure);
     }
-    println!("\n`compare`\n");
-    println!(
-        "| Knowledge | Input | Bytes | Number | Engine | Rust | Engine / Rust | {ROUNDS} rounds, least to most | Goal \
-         | Cover | Cover, other way | Compare / longer cover | Goal |"
+    let mut text = format!(
+        "\n`compare`\n\n\
+         | Knowledge | Input | Bytes | Number | Engine | Rust | Engine / Rust | {ROUNDS} rounds, least to most | Goal \
+         | Cover | Cover, other way | Compare / longer cover | Goal |\n\
+         |---|---|---:|---:|---:|---:|---:|---:|---:|---:|---:|---:|---:|\n"
     );
-    println!("|---|---|---:|---:|---:|---:|---:|---:|---:|---:|---:|---:|---:|");
     for (size, rows) in &sizes {
-        rows.iter().for_each(|row| row.print(size));
+        text.extend(rows.iter().map(|row| row.line(size)));
     }
+    text
 }
 
 fn rows(sample: &Sample) -> Vec<Row> {
@@ -106,14 +107,15 @@ impl Row {
         }
     }
 
-    fn print(&self, size: &str) {
+    /// A line of the table.
+    fn line(&self, size: &str) -> String {
         let bytes = self.first.len() + self.second.len();
         let Self { name, number, times, .. } = self;
-        print!("| {size} | {name} | {bytes} | {number} | {} | 1.0 |", times.cells());
+        let line = format!("| {size} | {name} | {bytes} | {number} | {} | 1.0 |", times.cells());
         if self.number != 0 {
-            return println!(" | | | |");
+            return line + " | | | |\n";
         }
         let [cover, other] = self.covers.both();
-        println!(" {cover:.1} | {other:.1} | {:.2} | 2 |", times.both()[0] / cover.max(other));
+        line + &format!(" {cover:.1} | {other:.1} | {:.2} | 2 |\n", times.both()[0] / cover.max(other))
     }
 }

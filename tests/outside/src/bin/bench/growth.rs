@@ -39,32 +39,35 @@ const TABLES: [Table; 3] = [
     Table { count: "Records", values: &[0, 1, 4, 16, 64, 256], rows: |records| on_store(Size { records, ..MIDDLE }) },
 ];
 
-/// Measures and prints a table for each count.
-pub fn measure() {
+/// Measures and gives a table for each count.
+pub fn measured() -> String {
     let Size { replicas, ranges, records } = MIDDLE;
-    println!(
-        "\nHow cost grows with one count where the others are {replicas} replicas, {ranges} ranges, {records} records"
+    let mut text = format!(
+        "\nHow cost grows with one count where the others are {replicas} replicas, {ranges} ranges, {records} records\n\n\
+         {} turns of each side on each input; engine / Rust in ns per call.\n{NOTES}\n",
+        ROUNDS * TURNS
     );
-    println!("\n{} turns of each side on each input; engine / Rust in ns per call.\n{NOTES}", ROUNDS * TURNS);
-    TABLES.iter().for_each(Table::measure);
+    text.extend(TABLES.iter().map(Table::measured));
+    text
 }
 
 impl Table {
-    fn measure(&self) {
+    fn measured(&self) -> String {
         let mut columns: Vec<Vec<Row>> = self.values.iter().map(|value| (self.rows)(*value)).collect();
         for _ in 0..ROUNDS {
             columns.iter_mut().flatten().for_each(Row::measure);
         }
         let values: Vec<String> = self.values.iter().map(usize::to_string).collect();
-        println!("\n| {} | {} |", self.count, values.join(" | "));
-        println!("|---|{}", "---:|".repeat(values.len()));
+        let mut text =
+            format!("\n| {} | {} |\n|---|{}\n", self.count, values.join(" | "), "---:|".repeat(values.len()));
         for (place, Row { name, .. }) in columns[0].iter().enumerate() {
             let cell = |column: &Vec<Row>| {
                 let [engine, rust] = column[place].times.both();
                 format!("{engine:.0} / {rust:.0}")
             };
-            println!("| {name} | {} |", columns.iter().map(cell).collect::<Vec<_>>().join(" | "));
+            text += &format!("| {name} | {} |\n", columns.iter().map(cell).collect::<Vec<_>>().join(" | "));
         }
+        text
     }
 }
 

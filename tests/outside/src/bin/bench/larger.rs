@@ -18,8 +18,8 @@ struct Row {
     times: Times,
 }
 
-/// Measures the three rows and prints the table.
-pub fn measure() {
+/// Measures the three rows and gives the table.
+pub fn measured() -> String {
     let mut rows = [
         Row::new("always the first's", |_| true),
         Row::new("always the second's", |_| false),
@@ -28,10 +28,13 @@ pub fn measure() {
     for _ in 0..ROUNDS {
         rows.iter_mut().for_each(Row::measure);
     }
-    println!("\nMerge at full size by which tick is the larger, {PAIRS} pairs of knowledges in turn\n");
-    println!("| Larger | Bytes | Engine | Rust | Engine / Rust | {ROUNDS} rounds, least to most |");
-    println!("|---|---:|---:|---:|---:|---:|");
-    rows.iter().for_each(Row::print);
+    let mut text = format!(
+        "\nMerge at full size by which tick is the larger, {PAIRS} pairs of knowledges in turn\n\n\
+         | Larger | Bytes | Engine | Rust | Engine / Rust | {ROUNDS} rounds, least to most |\n\
+         |---|---:|---:|---:|---:|---:|\n"
+    );
+    text.extend(rows.iter().map(Row::line));
+    text
 }
 
 impl Row {
@@ -71,8 +74,9 @@ impl Row {
         );
     }
 
-    fn print(&self) {
+    /// A line of the table.
+    fn line(&self) -> String {
         let bytes = self.pairs[0].iter().map(Vec::len).sum::<usize>();
-        println!("| {} | {bytes} | {} |", self.name, self.times.cells());
+        format!("| {} | {bytes} | {} |\n", self.name, self.times.cells())
     }
 }

@@ -20,20 +20,19 @@ struct Row {
     times: Times,
 }
 
-/// Measures the three sizes and prints the table.
-pub fn measure() {
+/// Measures the three sizes and gives the table.
+pub fn measured() -> String {
     let mut sizes = stores::each(Row::new);
     for _ in 0..ROUNDS {
         sizes.iter_mut().for_each(|(_, row)| row.measure());
     }
-    println!(
-        "\nApply in memcpys: the first input of `apply`, against one memcpy of the bytes read and written together\n"
+    let mut text = format!(
+        "\nApply in memcpys: the first input of `apply`, against one memcpy of the bytes read and written together\n\n\
+         | Store | Bytes read | Bytes written | Apply | memcpy | Apply / memcpy | {ROUNDS} rounds, least to most | Goal |\n\
+         |---|---:|---:|---:|---:|---:|---:|---:|\n"
     );
-    println!(
-        "| Store | Bytes read | Bytes written | Apply | memcpy | Apply / memcpy | {ROUNDS} rounds, least to most | Goal |"
-    );
-    println!("|---|---:|---:|---:|---:|---:|---:|---:|");
-    sizes.iter().for_each(|(size, row)| row.print(size));
+    text.extend(sizes.iter().map(|(size, row)| row.line(size)));
+    text
 }
 
 impl Row {
@@ -64,8 +63,9 @@ impl Row {
         );
     }
 
-    fn print(&self, size: &str) {
+    /// A line of the table.
+    fn line(&self, size: &str) -> String {
         let read = self.store.len() + self.batch.len();
-        println!("| {size} | {read} | {} | {} | {GOAL} |", self.out.len(), self.times.cells());
+        format!("| {size} | {read} | {} | {} | {GOAL} |\n", self.out.len(), self.times.cells())
     }
 }

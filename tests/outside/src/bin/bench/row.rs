@@ -138,15 +138,16 @@ impl Row {
         }
     }
 
-    pub fn print(&self, size: &str) {
-        println!(
-            "| {size} | {} | {} | {} | {} | {} |",
+    /// A line of a table.
+    pub fn line(&self, size: &str) -> String {
+        format!(
+            "| {size} | {} | {} | {} | {} | {} |\n",
             self.name,
             self.bytes(),
             self.number,
             self.times.cells(),
             if self.number == 0 { "0.8" } else { "1.0" },
-        );
+        )
     }
 
     /// How many bytes the knowledges, stores and batches have together.
