@@ -67,16 +67,16 @@ static void need_different(char **names)
                                     : "%s and %s are the same store; give each one once", names[at], names[other]);
 }
 
-/* Reads a store, also one that is held. The key that was given is that of the new folder, and of stores that stand in no folder. */
-static void load_old(struct file *old, const char *name)
+/* Reads the stores, also those that are held. */
+static void load_stores(void)
 {
-    const char *key = options.key;
-    if (is_folder(name))
-        options.key = NULL;
-    load(old, name);
-    options.key = key;
-    need_store(old);
-    add_ids(old);
+    size_t at;
+    stores = need_memory(folder_count * sizeof *stores);
+    for (at = 0; at < folder_count; at++) {
+        load(&stores[at], folders[at]);
+        need_store(&stores[at]);
+        add_ids(&stores[at]);
+    }
 }
 
 /*
@@ -254,6 +254,18 @@ static void json_renewed(const struct file *new)
     json_end();
 }
 
+/* The new store does not know what was deleted, so a file of such an item that is still in the directory would be a new item. */
+static void warn_deleted(const char *folder)
+{
+    size_t at;
+    for (at = 0; at < winner_count; at++) {
+        const struct name *name = is_live(&winners[at]) ? NULL : find_name(winners[at].record + RECORD_ITEM);
+        if (name && name->is_seen)
+            warn(folder, "warning: %s is deleted, and was in the directory of %s at its last scan: remove it there before the next one",
+                 printable(name->text), folders[0]);
+    }
+}
+
 /* Writes the new folder: the replica, and the names of its items. */
 static void write_folder(const struct file *new)
 {
@@ -270,15 +282,12 @@ static void write_folder(const struct file *new)
 int command_renew(char **arguments)
 {
     struct draft draft = {&store, &spare};
-    size_t at;
     folders = arguments + 1;
     while (folders[folder_count])
         folder_count++;
     begin_store(&store, arguments[0], options.id);
     need_different(arguments);
-    stores = need_memory(folder_count * sizeof *stores);
-    for (at = 0; at < folder_count; at++)
-        load_old(&stores[at], folders[at]);
+    load_stores();
     load_old_names();
     collect_records();
     keep_greatest();
@@ -289,6 +298,7 @@ int command_renew(char **arguments)
         json_renewed(draft.now);
     else
         say_renewed(draft.now);
+    warn_deleted(draft.now->name);
     warn_limits(draft.now);
     return 0;
 }
