@@ -18,11 +18,7 @@ static struct file store, other, after;
 /* Reads a file, and the names of its items if it is a folder's store. */
 static void load_with_names(struct file *file, const char *name)
 {
-    if (is_folder(name)) {
-        struct folder folder = open_folder(name);
-        load_names(&folder);
-        close_folder(&folder);
-    }
+    load_names_of(name);
     load(file, name);
 }
 
@@ -196,7 +192,7 @@ static void say_why(const uint8_t *item, const uint8_t *record, const struct out
     const char *name = name_of(item);
     printf("item %s", id_text(&items, item, text));
     if (name)
-        printf(" (%s)", name);
+        printf(" (%s)", printable(name));
     printf(" on replica %s\n  holds   ", id_text(&replicas, store.bytes + STORE_OWN, own));
     if (record)
         show_record(record);
@@ -351,7 +347,8 @@ static void say_comparison(const struct comparison *found)
              "was used twice, or a file was changed. Edit neither; README, \"Never put a store back from a copy\", has the way out.");
     for (at = 0; at < found->unlike_count; at++) {
         const char *name = name_of(found->unlike[at]);
-        printf("  item %s%s%s%s differs\n", id_text(&items, found->unlike[at], text), name ? " (" : "", name ? name : "", name ? ")" : "");
+        printf("  item %s%s%s%s differs\n", id_text(&items, found->unlike[at], text), name ? " (" : "",
+               name ? printable(name) : "", name ? ")" : "");
     }
 }
 

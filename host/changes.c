@@ -33,8 +33,7 @@ static int contains(struct part knowledge, const uint8_t *record)
                         number_at(record + RECORD_CHANGE + VERSION_TICK, 8), &contained) == 0 && contained;
 }
 
-/* Whether the first record's version is the greater: by tick, then replica. */
-static int is_greater(const uint8_t *first, const uint8_t *second)
+int is_greater(const uint8_t *first, const uint8_t *second)
 {
     int ticks = memcmp(first + RECORD_CHANGE + VERSION_TICK, second + RECORD_CHANGE + VERSION_TICK, 8);
     return (ticks != 0 ? ticks : memcmp(first + RECORD_CHANGE, second + RECORD_CHANGE, REPLICA)) > 0;

@@ -19,6 +19,9 @@ struct changes {
     struct change of[512]; /* at most two for each record of a batch */
 };
 
+/* Whether the first record's change version is the greater: by tick, then replica. */
+int is_greater(const uint8_t *first, const uint8_t *second);
+
 /* The changes that a batch makes to a valid store which it is applied to. The records are parts of the two. */
 void find_changes(struct changes *changes, const struct file *store, const struct file *batch);
 

@@ -7,6 +7,7 @@
 #include <string.h>
 #include <sys/random.h>
 
+#include "changing.h"
 #include "commands.h"
 #include "format.h"
 #include "messages.h"
@@ -18,25 +19,46 @@
 static struct file result, store;
 static struct replica replica;
 
-int command_new(char **arguments)
+void begin_store(struct file *new, const char *folder, const char *id)
 {
     uint8_t own[REPLICA];
-    char text[ID_TEXT];
     uint64_t written = 0;
     uint32_t number;
-    if (arguments[1])
-        read_id(&replicas, arguments[1], own);
+    if (id)
+        read_id(&replicas, id, own);
     else if (getrandom(own, sizeof own, 0) != sizeof own)
         trouble("random bytes", "cannot be had; give an id");
-    number = sync_new(own, REPLICA, result.bytes, sizeof result.bytes, &written);
+    number = sync_new(own, REPLICA, new->bytes, sizeof new->bytes, &written);
     if (number != 0)
-        refused(arguments[0], number, NULL);
-    result.name = arguments[0];
-    result.n = (size_t)written;
+        refused(folder, number, NULL);
+    new->name = folder;
+    new->n = (size_t)written;
+}
+
+int command_new(char **arguments)
+{
+    char text[ID_TEXT];
+    begin_store(&result, arguments[0], arguments[1]);
     save_new(arguments[0], &result);
     change_is_made();
     full_ids = full_ids || !arguments[1];
-    printf("%s is replica %s\n", arguments[0], id_text(&replicas, own, text));
+    printf("%s is replica %s\n", arguments[0], id_text(&replicas, result.bytes + STORE_OWN, text));
+    return 0;
+}
+
+uint32_t change(struct draft *draft, const uint8_t *item, const uint8_t *tag)
+{
+    struct file *now = draft->now, *next = draft->next;
+    uint64_t written = 0;
+    uint32_t number = tag ? sync_edit(now->bytes, now->n, item, ITEM, tag, TAG, next->bytes, sizeof next->bytes, &written)
+                          : sync_delete(now->bytes, now->n, item, ITEM, next->bytes, sizeof next->bytes, &written);
+    if (number != 0)
+        return number;
+    next->name = now->name;
+    next->form = now->form;
+    next->n = (size_t)written;
+    draft->now = next;
+    draft->next = now;
     return 0;
 }
 
@@ -86,9 +108,8 @@ int command_delete(char **arguments)
 
 int command_seal(char **arguments)
 {
-    enum form before = seal_again(arguments[0]);
+    enum form after, before = seal_again(arguments[0], &after);
     change_is_made();
-    open_replica(&replica, arguments[0]);
-    printf("%s: its files were %s, and are %s now\n", arguments[0], form_names[before], form_names[replica.last.form]);
+    printf("%s: its files were %s, and are %s now\n", arguments[0], form_names[before], form_names[after]);
     return 0;
 }

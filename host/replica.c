@@ -23,7 +23,7 @@ enum kind kind_of(const struct file *file)
 /* ---- keys */
 
 static struct key files_key; /* of files that stand in no replica's folder */
-static struct key given_key; /* that of --key */
+static struct key given_key; /* of --key; it is read once, for it may come through a pipe */
 
 /* Takes the line ends off a key and looks at its length. */
 static void trim_key(struct key *key, const char *name)
@@ -32,12 +32,6 @@ static void trim_key(struct key *key, const char *name)
         key->n--;
     if (key->n < KEY_LEAST)
         trouble(name, "is no key: it has fewer than %d bytes", KEY_LEAST);
-}
-
-static void read_given_key(struct key *key, const char *name)
-{
-    key->n = read_named(name, key->bytes, sizeof key->bytes);
-    trim_key(key, name);
 }
 
 static void read_folder_key(struct key *key, const struct folder *folder)
@@ -51,8 +45,10 @@ static void read_folder_key(struct key *key, const struct folder *folder)
 void choose_key(char **names, int count)
 {
     int at;
-    if (options.key)
-        read_given_key(&given_key, options.key);
+    if (options.key) {
+        given_key.n = read_named(options.key, given_key.bytes, sizeof given_key.bytes);
+        trim_key(&given_key, is_standard(options.key) ? "standard input" : options.key);
+    }
     files_key = given_key;
     for (at = 0; at < count && files_key.n == 0; at++)
         if (names[at] && is_folder(names[at])) {
@@ -105,9 +101,9 @@ static const char way_out[] =
 static struct opened open_own(const struct folder *folder, const char *name, const struct key *key, size_t n)
 {
     struct opened opened = open_envelope(key->n == 0 && is_keyed(raw, n) ? &given_key : key, raw, n);
-    struct opened without = key->n > 0 ? open_envelope(&no_key, raw, n) : opened;
     struct path place = inside(folder->name, name);
-    if (opened.fault && !without.fault)
+    int is_before = n > 0 && !is_envelope(raw, n) && strcmp(name, "last-tick") == 0; /* the store beside it may then be so too */
+    if (opened.fault && key->n > 0 && (is_before || !open_envelope(&no_key, raw, n).fault))
         trouble(place.text, "is not sealed with the key of its folder; collector seal %s puts it under the key", folder->name);
     if (opened.fault)
         trouble(place.text, "%s%s", opened.fault, opened.is_damaged ? way_out : "");
@@ -188,6 +184,8 @@ void read_store(const struct replica *replica, struct file *store)
     struct opened opened = {NULL, 0, STORE, BARE, raw, read_in(&replica->folder, "store", raw, sizeof raw)};
     if (opened.n == NOT_THERE)
         trouble(name, "has no store in it, so it is no replica; collector new makes one");
+    if (opened.n > 0 && !is_envelope(raw, opened.n) && !may_be_bare(replica) && replica->last.is_there)
+        trouble(inside(name, "store").text, "has no envelope, and the tick beside it has one: something else put it there%s", way_out);
     if (is_envelope(raw, opened.n) || !may_be_bare(replica))
         opened = open_own(&replica->folder, "store", &replica->key, opened.n);
     put_bytes(store, name, opened.form, opened.bytes, opened.n);
@@ -443,7 +441,8 @@ static void prepare_tick(struct replacement *new, const struct replica *replica,
 void hold(struct replica *replica, const struct file *store, uint64_t tick)
 {
     struct replacement new;
-    if (tick <= replica->last.tick)
+    /* A store from elsewhere is held as it is, and the tick of the folder's own replica must not be forgotten for it. */
+    if (tick <= replica->last.tick || memcmp(replica->last.own, store->bytes + STORE_OWN, REPLICA) != 0)
         return;
     prepare_tick(&new, replica, store->bytes + STORE_OWN, tick);
     finish(&new, "the folder could not be held");
@@ -516,7 +515,7 @@ static struct opened open_any(const struct folder *folder, const char *name, con
     trouble(inside(folder->name, name).text, "opens under none of these keys: %s", opened.fault ? opened.fault : "it is another file");
 }
 
-enum form seal_again(const char *name)
+enum form seal_again(const char *name, enum form *after)
 {
     static struct file store;
     struct key keys[3];
@@ -527,6 +526,7 @@ enum form seal_again(const char *name)
     replica.folder = open_folder(name);
     lock_folder(&replica.folder);
     read_folder_key(&replica.key, &replica.folder);
+    *after = replica.key.n > 0 ? KEYED : SEALED;
     keys[0] = replica.key;
     keys[1] = given_key;
     keys[2] = no_key;

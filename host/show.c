@@ -185,11 +185,7 @@ static void show_ticks(struct part knowledge)
 static void put_item_name(char *cell, const uint8_t *item)
 {
     const char *name = name_of(item);
-    size_t at;
-    snprintf(cell, CELL, "%s", name ? name : "-");
-    for (at = 0; cell[at]; at++)
-        if ((unsigned char)cell[at] < 0x20 || cell[at] == 0x7f)
-            cell[at] = '?';
+    snprintf(cell, CELL, "%s", name ? printable(name) : "-");
 }
 
 static void put_version(char *cell, const uint8_t *version)

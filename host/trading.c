@@ -52,11 +52,13 @@ int command_knowledge(char **arguments)
 
 /* ---- a store that was put back */
 
-/* Says that others know later edits of the replica than its store has. */
-static void say_behind(const char *name, const char *number)
+/* Says that others know later edits of the replica than its store has, and holds the folder. That it is held is said when it is. */
+static void hold_behind(const char *name, const char *number, uint64_t known)
 {
     fflush(stdout);
-    fprintf(stderr, "collector: %s: %s%s\n%s", name, number, behind_words, behind_more);
+    fprintf(stderr, "collector: %s: %s%s\n", name, number, behind_words);
+    hold(&replica, &store, known);
+    fputs(behind_more, stderr);
 }
 
 /*
@@ -71,9 +73,8 @@ static void need_no_later_edits(const char *name, struct part knowledge)
     open_locked(&replica, name);
     read_store(&replica, &store);
     need_store(&store);
-    if (replica.last.is_there && memcmp(replica.last.own, store.bytes + STORE_OWN, REPLICA) == 0 && known > own_tick(&store)) {
-        say_behind(name, "");
-        hold(&replica, &store, known);
+    if (replica.last.is_there && known > own_tick(&store)) {
+        hold_behind(name, "", known);
         exit(STATUS_FILES);
     }
     close_folder(&replica.folder);
@@ -126,8 +127,7 @@ static _Noreturn void refuse_batch(void)
     uint64_t known = largest_tick(knowledge_of(&other), store.bytes + STORE_OWN);
     if (known <= own_tick(&store))
         refused(other.name, SYNC_NOT_COVERED, NULL);
-    say_behind(other.name, "18: ");
-    hold(&replica, &store, known);
+    hold_behind(other.name, "18: ", known);
     exit(STATUS_REFUSED);
 }
 
