@@ -189,6 +189,8 @@ void read_store(const struct replica *replica, struct file *store)
     if (is_envelope(raw, opened.n) || !may_be_bare(replica))
         opened = open_own(&replica->folder, "store", &replica->key, opened.n);
     put_bytes(store, name, opened.form, opened.bytes, opened.n);
+    if (opened.form != BARE && kind_of(store) != STORE)
+        trouble(inside(name, "store").text, "its first line says store, and the bytes in it are another thing\n%s", way_out);
 }
 
 void load(struct file *file, const char *name)
