@@ -1,19 +1,23 @@
 /*
- * The sync knowledge engine, for programs in C and C++. Link with libcollector.a. Where the fields of stores, batches
- * and comparisons stand is in sync_format.h.
+ * The sync knowledge engine, for programs in C and C++. Link with libcollector.a. The places of the fields of stores,
+ * batches and comparisons are in sync_format.h.
  *
- * What holds for every function here:
+ * What the caller of any function here must see to:
  *
- * - No pointer is null, not even where the length beside it is 0.
- * - A pointer to bytes may be read for the length beside it, which may be any. Bytes need no alignment.
- * - Inputs, which are only read, may overlap each other, or be the same bytes.
+ * - No pointer is null, not even if the length that belongs to it is 0.
+ * - Behind a pointer to bytes, as many bytes can be read as the length that belongs to it says. Any length will do, and
+ *   bytes need no alignment.
+ * - Inputs are only read. They may overlap each other, or be the same bytes.
  * - A buffer that is written overlaps no other buffer of the same call, neither an input nor another that is written.
  * - Pointers to numbers that a call sets, such as written, order or sizes, overlap neither each other nor any buffer of
  *   the call.
- * - It returns 0 when it did what it says. Else it returns the number of the refusal and changes nothing behind any
+ *
+ * What every function here does:
+ *
+ * - It returns 0 if it did what it says. Otherwise it returns the number of the refusal and changes nothing behind any
  *   pointer.
- * - It keeps no state, allocates nothing, and calls nothing but memset, memcpy and their like. So it may be called from any
- *   thread, and from several at once, each with output buffers of its own.
+ * - It keeps no state, allocates nothing, and calls nothing but memset, memcpy and the like. So it may be called from
+ *   any thread, and from several at once, each with its own output buffers.
  * - It always ends; docs/BENCHMARKS.md has times.
  */
 
@@ -31,20 +35,22 @@ extern "C" {
 #define SYNC_VERSION "0.1.0"
 
 /*
- * The longest knowledge, store and batch, in bytes. A buffer so long is never too short for a result: theorem `enough`,
- * crates/replication/proofs/Enough.antt, for stores and batches, and `lawful-length`, crates/layout/proofs/Lengths.antt, for knowledges.
+ * The lengths of the longest knowledge, store and batch, in bytes. A buffer of this length is never too short for a
+ * result. That is proved by theorem `enough`, crates/replication/proofs/Enough.antt, for stores and batches, and by
+ * `lawful-length`, crates/layout/proofs/Lengths.antt, for knowledges.
  */
 #define SYNC_LARGEST_KNOWLEDGE 14933
 #define SYNC_LARGEST_STORE 37742
 #define SYNC_LARGEST_BATCH 52711
 
-/* No call takes more stack than this, in bytes. Not proved but measured, by tests/stack.c. */
+/* No call takes more stack than this, in bytes. This is measured by tests/stack.c, not proved. */
 #define SYNC_STACK 131072
 
 /*
- * The same for each call alone: what it took on the largest inputs, on x86-64, rounded up. Not proved but measured. The
- * rounding leaves room for the dynamic linker, which took 2.5 KiB more where a call was the first to need memset or
- * memcpy. tests/stack.c fails if a call takes more than its number, and if the number is far above what it takes.
+ * The same for each call by itself: the stack that it took on the largest inputs, on x86-64, rounded up. This too is
+ * measured, not proved. The rounding leaves room for the dynamic linker, which took 2.5 KiB more when a call was the
+ * first to need memset or memcpy. tests/stack.c fails if a call takes more than its number, or if the number is far
+ * above what the call takes.
  */
 #define SYNC_STACK_CHECK 1024
 #define SYNC_STACK_CONTAIN 1024
@@ -69,16 +75,16 @@ extern "C" {
  * The numbers of the refusals. A knowledge is read from left to right, and the number is that of the first field with a
  * fault. Each id, count, key, tick, bound and index is a field of its own.
  *
- * Where several inputs have a fault, the first knowledge comes before the second, a store before a batch or a knowledge, and all of these
- * before ids. Inputs come before the result. Each function says which numbers it returns.
+ * If several inputs have a fault, the first knowledge comes before the second, a store before a batch or a knowledge,
+ * and all of these before ids. Inputs come before the result. Each function says which numbers it returns.
  */
 enum sync_refusal {
-    /* The bytes end inside the field. At a field this comes before any other number. */
+    /* The bytes end inside the field. This comes before any other fault of the field. */
     SYNC_CUT = 1,
-    /* A fixed field differs. */
+    /* A fixed field has another value. */
     SYNC_FIXED_FIELD = 2,
-    /* The count of replicas is above 16, of vectors not 1 to 65, of ranges not 1 to 64, or an element count is above
-       the count of replicas. */
+    /* The count of replicas is above 16, the count of vectors is not from 1 to 65, the count of ranges is not from 1 to
+       64, or an element count is above the count of replicas. */
     SYNC_COUNT = 3,
     /* The first clock vector is not empty, whatever its count. */
     SYNC_FIRST_VECTOR = 4,
@@ -92,7 +98,7 @@ enum sync_refusal {
     SYNC_BOUND = 8,
     /* A clock vector index is at or above the count of vectors. */
     SYNC_INDEX = 9,
-    /* Bytes are left over behind a knowledge that is otherwise without fault. */
+    /* Bytes are left over after a knowledge that is otherwise without fault. */
     SYNC_LEFT_OVER = 10,
     /* The result has over 16 replicas. */
     SYNC_OVER_REPLICAS = 11,
@@ -125,9 +131,9 @@ enum sync_refusal {
  *   sizes[1] to v, the count of clock vectors,
  *   sizes[2] to e, the count of elements of all clock vectors together,
  *   sizes[3] to g, the count of ranges,
- * each as it stands in the bytes, whether or not they are in normal form.
+ * each as it is in the bytes, whether or not they are in normal form.
  *
- * Else returns the number of the refusal, 1 to 10, and leaves sizes as they were.
+ * Otherwise returns the number of the refusal, 1 to 10, and leaves sizes as they were.
  */
 uint32_t sync_check(const uint8_t *knowledge, size_t n, uint64_t sizes[4]);
 
@@ -138,20 +144,20 @@ uint32_t sync_check(const uint8_t *knowledge, size_t n, uint64_t sizes[4]);
  *
  * Returns 0 and sets *contained to 1 if it does and to 0 if it does not.
  *
- * Else returns the number of the refusal, 1 to 10 for the knowledge and then 17 for the ids, and leaves *contained as
- * it was.
+ * Otherwise returns the number of the refusal, 1 to 10 for the knowledge and then 17 for the ids, and leaves *contained
+ * as it was.
  */
 uint32_t sync_contain(const uint8_t *knowledge, size_t knowledge_n, const uint8_t *item, size_t item_n,
                       const uint8_t *replica, size_t replica_n, uint64_t tick, uint32_t *contained);
 
 /*
  * Gives the lead of the first knowledge over the second for an item and a replica: the tick that the first knows minus
- * the tick that the second knows, 0 for a tick that is absent. An item id has 24 bytes and a replica id 16.
+ * the tick that the second knows. A tick that is absent counts as 0. An item id has 24 bytes and a replica id 16.
  *
  * Returns 0 and sets *lead to the difference, which may be negative.
  *
- * Else returns the number of the refusal, 1 to 10 for the first knowledge, then 1 to 10 for the second, then 17 for the
- * ids, and leaves *lead as it was.
+ * Otherwise returns the number of the refusal, 1 to 10 for the first knowledge, then 1 to 10 for the second, then 17
+ * for the ids, and leaves *lead as it was.
  */
 uint32_t sync_lead(const uint8_t *first, size_t first_n, const uint8_t *second, size_t second_n, const uint8_t *item,
                    size_t item_n, const uint8_t *replica, size_t replica_n, int64_t *lead);
@@ -163,15 +169,15 @@ uint32_t sync_lead(const uint8_t *first, size_t first_n, const uint8_t *second, 
  *
  * Returns 0 and sets *covers to 1 if it does and to 0 if it does not.
  *
- * Else returns the number of the refusal, 1 to 10 for the first knowledge, then 1 to 10 for the second, then 17 for the
- * ids, also where the first id is above the last, and leaves *covers as it was.
+ * Otherwise returns the number of the refusal, 1 to 10 for the first knowledge, then 1 to 10 for the second, then 17
+ * for the ids or if the first id is above the last, and leaves *covers as it was.
  */
 uint32_t sync_cover(const uint8_t *first_knowledge, size_t first_knowledge_n, const uint8_t *second_knowledge,
                     size_t second_knowledge_n, const uint8_t *first, size_t first_n, const uint8_t *last, size_t last_n,
                     uint32_t *covers);
 
 /*
- * Which of two knowledges is ahead, as sync_compare gives it: bit 0 is set where the first lacks something, bit 1 where
+ * Which of two knowledges is ahead, as sync_compare gives it: bit 0 is set if the first lacks something, and bit 1 if
  * the second does.
  */
 enum sync_order {
@@ -186,33 +192,34 @@ enum sync_order {
 };
 
 /*
- * The longest result of sync_compare, in bytes. A buffer so long is never too short for it: theorem `compared-length`,
- * crates/ticks/proofs/Comparing.antt.
+ * The length of the longest result of sync_compare, in bytes. A buffer of this length is never too short for it:
+ * theorem `compared-length`, crates/ticks/proofs/Comparing.antt.
  */
 #define SYNC_LARGEST_COMPARISON 112
 
 /*
- * Says which of two knowledges is ahead, over all item ids, and where each that lacks something lacks it first. A
- * knowledge lacks something where its tick for an item and a replica is smaller than the other's.
+ * Says which of two knowledges is ahead, over all item ids, and gives, for each of the two that lacks something, the
+ * first place where it does. A knowledge lacks something at an item and a replica if its tick for them is smaller than
+ * the other's.
  *
- * Returns 0, sets *order to one of the four numbers above, and writes to the front of a buffer, out, which has out_n
- * bytes, 56 bytes for each of the two that lacks something, those of the first before those of the second:
+ * Returns 0 and sets *order to one of the four numbers above. Writes to the front of a buffer (out, which has out_n
+ * bytes) 56 bytes for each of the two that lacks something, those for the first before those for the second:
  *   24 bytes: the lowest item id at which its tick for some replica is smaller,
  *   16 bytes: the lowest replica id for which its tick at that item is smaller,
  *    8 bytes: the tick that the first knows for that item and that replica,
- *    8 bytes: the tick that the second knows for them,
- * each tick with its highest byte first, and 0 for one that is absent. Sets *written to the length of the result, which
- * is 0, 56 or 112. The bytes of the buffer behind the result stay as they were.
+ *    8 bytes: the tick that the second knows for them.
+ * Each tick has its highest byte first, and is 0 if it is absent. Sets *written to the length of the result, which is
+ * 0, 56 or 112. The bytes of the buffer after the result stay as they were.
  *
- * Else returns the number of the refusal, 1 to 10 for the first knowledge, then 1 to 10 for the second, then 14 for the
- * result, and leaves *order, out and *written as they were.
+ * Otherwise returns the number of the refusal, 1 to 10 for the first knowledge, then 1 to 10 for the second, then 14
+ * for the result, and leaves *order, out and *written as they were.
  */
 uint32_t sync_compare(const uint8_t *first, size_t first_n, const uint8_t *second, size_t second_n, uint32_t *order,
                       uint8_t *out, size_t out_n, uint64_t *written);
 
 /*
- * The next functions write a knowledge in normal form to the front of a buffer: out, which has out_n bytes. The bytes of
- * the buffer behind the result stay as they were. No result has over 14,933 bytes.
+ * The next three functions write a knowledge in normal form to the front of a buffer: out, which has out_n bytes. The
+ * bytes of the buffer after the result stay as they were. No result has over 14,933 bytes.
  */
 
 /*
@@ -220,19 +227,19 @@ uint32_t sync_compare(const uint8_t *first, size_t first_n, const uint8_t *secon
  *
  * Returns 0 and sets *written to the length of the result.
  *
- * Else returns the number of the refusal, 1 to 10 for the knowledge, then 12 and 14 for the result, and leaves out and
- * *written as they were. A knowledge of 64 ranges that begins above the first item id can have 65 in normal form.
+ * Otherwise returns the number of the refusal, 1 to 10 for the knowledge, then 12 and 14 for the result, and leaves out
+ * and *written as they were. A knowledge of 64 ranges that begins above the first item id can have 65 in normal form.
  */
 uint32_t sync_normalise(const uint8_t *knowledge, size_t knowledge_n, uint8_t *out, size_t out_n, uint64_t *written);
 
 /*
- * Merges two knowledges: writes the knowledge that knows, for every item and every replica, the larger of the ticks that
- * the two know.
+ * Merges two knowledges: writes the knowledge that knows, for every item and every replica, the larger of the two ticks
+ * that they know.
  *
  * Returns 0 and sets *written to the length of the result.
  *
- * Else returns the number of the refusal, 1 to 10 for the first knowledge, then 1 to 10 for the second, then 11, 12 and 14
- * for the result, in this order, and leaves out and *written as they were.
+ * Otherwise returns the number of the refusal, 1 to 10 for the first knowledge, then 1 to 10 for the second, then 11,
+ * 12 and 14 for the result, in this order, and leaves out and *written as they were.
  */
 uint32_t sync_merge(const uint8_t *first, size_t first_n, const uint8_t *second, size_t second_n, uint8_t *out,
                     size_t out_n, uint64_t *written);
@@ -243,40 +250,42 @@ uint32_t sync_merge(const uint8_t *first, size_t first_n, const uint8_t *second,
  *
  * Returns 0 and sets *written to the length of the result.
  *
- * Else returns the number of the refusal, 1 to 10 for the knowledge, then 17 for the ids, also where the first id is above
- * the last, then 12 and 14 for the result, and leaves out and *written as they were.
+ * Otherwise returns the number of the refusal, 1 to 10 for the knowledge, then 17 for the ids or if the first id is
+ * above the last, then 12 and 14 for the result, and leaves out and *written as they were.
  */
 uint32_t sync_project(const uint8_t *knowledge, size_t knowledge_n, const uint8_t *first, size_t first_n,
                       const uint8_t *last, size_t last_n, uint8_t *out, size_t out_n, uint64_t *written);
 
 /*
- * Stores, batches and records. A store is what a replica holds: its knowledge and a record for each item. A batch is what one replica
- * hands to others: a part of its knowledge, what a replica must know already to take it, and records. A record is live or a
- * tombstone, and has 89 bytes.
+ * Stores, batches and records. A store is what a replica holds: its own replica id, its knowledge and a record for each
+ * item. A batch is what one replica hands to others: a part of its knowledge, the knowledge that a replica must have
+ * already to apply it, and records. A record is live or a tombstone, and has 89 bytes.
  *
  * A part of an input is given by its place, counted from the input's first byte, and its length. Nothing is copied.
  */
 
 /*
- * Finds the record that an item has in a store, or would have after a batch: of the two records the one with the greater change tick, then
- * with the greater change replica, and the store's where both are equal. An item id has 24 bytes.
+ * Finds the record that an item would have if a batch were applied to a store: of the store's record and the batch's,
+ * the one with the greater change tick. If the ticks are equal, it is the one with the greater change replica, and if
+ * these are equal too, the store's. If only one of the two has a record of the item, it is that one. An item id has 24
+ * bytes.
  *
  * Returns 0 and sets
- *   *side to 1 where the record is the store's, to 2 where it is the batch's, and to 0 where neither has one,
- *   *at to its place in the store or the batch, and *length to its length; both to 0 where neither has one.
+ *   *side to 1 if the record is the store's, to 2 if it is the batch's, and to 0 if neither has one,
+ *   *at to its place in the store or the batch, and *length to its length; both to 0 if neither has one.
  *
- * Else returns the number of the refusal, 15 for the store, then 16 for the batch, then 17 for the id, and leaves *side, *at and *length as
- * they were.
+ * Otherwise returns the number of the refusal, 15 for the store, then 16 for the batch, then 17 for the id, and leaves
+ * *side, *at and *length as they were.
  */
 uint32_t sync_winner(const uint8_t *store, size_t store_n, const uint8_t *batch, size_t batch_n, const uint8_t *item,
                      size_t item_n, uint32_t *side, uint64_t *at, uint64_t *length);
 
 /*
- * Finds the learned knowledge of a batch: what its maker knew in the span.
+ * Finds the learned knowledge of a batch: what its maker knew of the span.
  *
  * Returns 0 and sets *at to its place in the batch and *length to its length.
  *
- * Else returns 16 and leaves *at and *length as they were.
+ * Otherwise returns 16 and leaves *at and *length as they were.
  */
 uint32_t sync_learned(const uint8_t *batch, size_t batch_n, uint64_t *at, uint64_t *length);
 
@@ -285,95 +294,103 @@ uint32_t sync_learned(const uint8_t *batch, size_t batch_n, uint64_t *at, uint64
  *
  * Returns 0 and sets
  *   *contained to the count of records whose change version the knowledge contains,
- *   *all to the count of all records, tombstones too,
- *   *thousandths to 1000 times the first by the second, to the nearest, an exact half up, and to 1000 where there are no records.
- *   It is 1000 only where all records are contained. With the same knowledge, one record of a new item moves it, up or down, by at
- *   most 1000 / (*all + 1), rounded up.
+ *   *all to the count of all records, tombstones included,
+ *   *thousandths to 1000 times the first divided by the second, rounded to the nearest whole number, an exact half up,
+ *   and to 1000 if there are no records.
  *
- * Else returns the number of the refusal, 15 for the store and then 1 to 10 for the knowledge, and leaves *contained, *all and
- * *thousandths as they were.
+ * *thousandths is 1000 only if all records are contained. With the same knowledge, one record of a new item moves it,
+ * up or down, by at most 1000 / (*all + 1), rounded up, with *all as it was before.
+ *
+ * Otherwise returns the number of the refusal, 15 for the store and then 1 to 10 for the knowledge, and leaves
+ * *contained, *all and *thousandths as they were.
  */
 uint32_t sync_coverage(const uint8_t *store, size_t store_n, const uint8_t *knowledge, size_t knowledge_n,
                        uint64_t *contained, uint64_t *all, uint64_t *thousandths);
 
 /*
- * Finds the knowledge of a store: what a replica tells another to be made a batch.
+ * Finds the knowledge of a store. A replica sends it to another to ask for a batch.
  *
  * Returns 0 and sets *at to its place in the store and *length to its length.
  *
- * Else returns 15 and leaves *at and *length as they were.
+ * Otherwise returns 15 and leaves *at and *length as they were.
  */
 uint32_t sync_knowledge(const uint8_t *store, size_t store_n, uint64_t *at, uint64_t *length);
 
 /*
- * Looks at a place of a table of records, which are live or tombstones. To go through the table, start at 0 and add each length.
+ * Looks at a place in a table of records, which are live or tombstones. To go through the table, start at place 0 and
+ * add each length.
  *
- * Returns 0 always, and sets *length to the length of the record at the place; to 0 where no whole record follows there, also where the
- * place is beyond the table. Of the record only kind and length are looked at.
+ * Always returns 0. Sets *length to the length of the record at the place, or to 0 if no whole record follows there or
+ * the place is beyond the table. It looks only at the record's kind and length.
  */
 uint32_t sync_walk(const uint8_t *table, size_t table_n, uint64_t at, uint64_t *length);
 
 /*
- * The functions below write a store or a batch to the front of a buffer: out, which has out_n bytes. The bytes of the buffer behind the
- * result stay as they were. No store has over 37,742 bytes, and no batch over 52,711. A store is never changed where it lies: the result
- * takes its place once the caller has kept it.
+ * The functions below write a store or a batch to the front of a buffer: out, which has out_n bytes. The bytes of the
+ * buffer after the result stay as they were. No store has over 37,742 bytes, and no batch over 52,711. The store that
+ * is given is never changed. The caller must keep the new one in its place.
  */
 
 /*
- * Writes the store of a replica that has seen nothing, of 138 bytes. A replica id has 16 bytes, and no two replicas have the same.
+ * Writes the store of a new replica, which knows nothing and holds nothing; it has 138 bytes. A replica id has 16
+ * bytes, and no two replicas have the same.
  *
  * Returns 0 and sets *written to the length of the result.
  *
- * Else returns the number of the refusal, 17 for the id and then 14 for the result, and leaves out and *written as they were.
+ * Otherwise returns the number of the refusal, 17 for the id and then 14 for the result, and leaves out and *written as
+ * they were.
  */
 uint32_t sync_new(const uint8_t *own, size_t own_n, uint8_t *out, size_t out_n, uint64_t *written);
 
 /*
- * Edits an item: writes the store in which it has a live record with the given tag, made by the store's own replica at a tick of 1 more
- * than any that the store knows. An item that has a record keeps its create version, also where that is a tombstone. An item id has 24
- * bytes and a tag 16.
+ * Edits an item: writes the store in which the item has a live record with the given tag. The record's change version
+ * is made by the store's own replica, at a tick of 1 more than the largest that the store knows. An item that has a
+ * record, even a tombstone, keeps its create version. An item id has 24 bytes and a tag 16.
  *
  * Returns 0 and sets *written to the length of the result.
  *
- * Else returns the number of the refusal, 15 for the store, then 17 for id and tag, then 20, then 11, 13 and 14 for the result, in this
- * order, and leaves out and *written as they were.
+ * Otherwise returns the number of the refusal, 15 for the store, then 17 for the id and the tag, then 20, then 11, 13
+ * and 14 for the result, in this order, and leaves out and *written as they were.
  */
 uint32_t sync_edit(const uint8_t *store, size_t store_n, const uint8_t *item, size_t item_n, const uint8_t *tag,
                    size_t tag_n, uint8_t *out, size_t out_n, uint64_t *written);
 
 /*
- * Deletes an item: writes the store in which its record is a tombstone, made like an edit. An item id has 24 bytes.
+ * Deletes an item: writes the store in which its record is a tombstone. The change version is made as in an edit. An
+ * item id has 24 bytes.
  *
  * Returns 0 and sets *written to the length of the result.
  *
- * Else returns the number of the refusal, 15 for the store, then 17 for the id, then 19, 20, then 11 and 14 for the result, in this order,
- * and leaves out and *written as they were.
+ * Otherwise returns the number of the refusal, 15 for the store, then 17 for the id, then 19, then 20, then 11 and 14
+ * for the result, in this order, and leaves out and *written as they were.
  */
 uint32_t sync_delete(const uint8_t *store, size_t store_n, const uint8_t *item, size_t item_n, uint8_t *out,
                      size_t out_n, uint64_t *written);
 
 /*
- * Makes a batch for a replica with a given knowledge: what the store knows in a span of item ids, from the first id to the last, both
- * included, and the records there whose change version the given knowledge lacks. A replica takes it only if it knows in the span
- * what was given here. An item id has 24 bytes.
+ * Makes a batch for a replica with a given knowledge. The batch has what the store knows of a span of item ids, from
+ * the first id to the last, both included, and the records in the span whose change version the given knowledge does
+ * not contain. Only a store that covers the given knowledge in the span accepts the batch; for any other, sync_apply
+ * refuses it with 18. An item id has 24 bytes.
  *
  * Returns 0 and sets *written to the length of the result.
  *
- * Else returns the number of the refusal, 15 for the store, then 1 to 10 for the knowledge, then 17 for the ids, also where the first id is
- * above the last, then 12 and 14 for the result, and leaves out and *written as they were.
+ * Otherwise returns the number of the refusal, 15 for the store, then 1 to 10 for the knowledge, then 17 for the ids or
+ * if the first id is above the last, then 12 and 14 for the result, and leaves out and *written as they were.
  */
 uint32_t sync_make(const uint8_t *store, size_t store_n, const uint8_t *knowledge, size_t knowledge_n,
                    const uint8_t *first, size_t first_n, const uint8_t *last, size_t last_n, uint8_t *out, size_t out_n,
                    uint64_t *written);
 
 /*
- * Applies a batch: writes the store that has, of each item, the record that sync_winner finds, and whose knowledge is merged with what
- * the batch has learned.
+ * Applies a batch: writes the store that has, for each item, the record that sync_winner finds. Its knowledge is the
+ * store's merged with the learned knowledge of the batch.
  *
  * Returns 0 and sets *written to the length of the result.
  *
- * Else returns the number of the refusal, 15 for the store, then 16 for the batch, then 18, then 11, 12, 13 and 14 for the result, in this
- * order, and leaves out and *written as they were. A batch that is refused with 18 may be taken later.
+ * Otherwise returns the number of the refusal, 15 for the store, then 16 for the batch, then 18, then 11, 12, 13 and 14
+ * for the result, in this order, and leaves out and *written as they were. A batch that is refused with 18 may be
+ * accepted later.
  */
 uint32_t sync_apply(const uint8_t *store, size_t store_n, const uint8_t *batch, size_t batch_n, uint8_t *out,
                     size_t out_n, uint64_t *written);
