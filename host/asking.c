@@ -5,7 +5,7 @@
 #include <string.h>
 
 #include "commands.h"
-#include "format.h"
+#include "sync_format.h"
 #include "json.h"
 #include "messages.h"
 #include "names.h"
@@ -101,7 +101,7 @@ static void say_known(const uint8_t *item)
     sync_check(own.bytes, own.n, sizes);
     printf("  knows   ");
     for (at = 0; at < sizes[0]; at++) {
-        const uint8_t *replica = own.bytes + KNOWLEDGE_REPLICAS + REPLICA * at;
+        const uint8_t *replica = own.bytes + SYNC_KNOWLEDGE_REPLICAS + SYNC_REPLICA * at;
         uint64_t tick = known_tick(own, item, replica);
         printf(tick > 0 ? "%s%s's edits to tick %" PRIu64 : "%snone of %s's edits", at > 0 ? ", " : "",
                id_text(&replicas, replica, text), tick);
@@ -117,8 +117,8 @@ static void json_known(const uint8_t *item)
     sync_check(own.bytes, own.n, sizes);
     json_open("knows", '{');
     for (at = 0; at < sizes[0]; at++) {
-        const uint8_t *replica = own.bytes + KNOWLEDGE_REPLICAS + REPLICA * at;
-        all_digits(replica, REPLICA, text);
+        const uint8_t *replica = own.bytes + SYNC_KNOWLEDGE_REPLICAS + SYNC_REPLICA * at;
+        all_digits(replica, SYNC_REPLICA, text);
         json_number(text, known_tick(own, item, replica));
     }
     json_close('}');
@@ -142,10 +142,10 @@ static struct outcome outcome_of(int is_held, const uint8_t *item)
     outcome.number = sync_apply(store.bytes, store.n, other.bytes, other.n, after.bytes, sizeof after.bytes, &written);
     if (outcome.number != 0)
         outcome.words = words_of(outcome.number);
-    if (outcome.number == SYNC_NOT_COVERED && largest_tick(knowledge_of(&other), store.bytes + STORE_OWN) > own_tick(&store))
+    if (outcome.number == SYNC_NOT_COVERED && largest_tick(knowledge_of(&other), store.bytes + SYNC_STORE_OWN) > own_tick(&store))
         outcome.words = behind_words;
     if (outcome.number == 0)
-        sync_winner(store.bytes, store.n, other.bytes, other.n, item, ITEM, &outcome.side, &at, &length);
+        sync_winner(store.bytes, store.n, other.bytes, other.n, item, SYNC_ITEM, &outcome.side, &at, &length);
     outcome.record = outcome.side == 2 ? other.bytes + at : NULL;
     return outcome;
 }
@@ -193,7 +193,7 @@ static void say_why(const uint8_t *item, const uint8_t *record, const struct out
     printf("item %s", id_text(&items, item, text));
     if (name)
         printf(" (%s)", printable(name));
-    printf(" on replica %s\n  holds   ", id_text(&replicas, store.bytes + STORE_OWN, own));
+    printf(" on replica %s\n  holds   ", id_text(&replicas, store.bytes + SYNC_STORE_OWN, own));
     if (record)
         show_record(record);
     else
@@ -209,10 +209,10 @@ static void say_why(const uint8_t *item, const uint8_t *record, const struct out
 static void json_why(const uint8_t *item, const uint8_t *record, const struct outcome *outcome)
 {
     json_open(NULL, '{');
-    json_digits("item", item, ITEM);
+    json_digits("item", item, SYNC_ITEM);
     if (name_of(item))
         json_text("name", name_of(item));
-    json_digits("replica", store.bytes + STORE_OWN, REPLICA);
+    json_digits("replica", store.bytes + SYNC_STORE_OWN, SYNC_REPLICA);
     if (record) {
         json_open("holds", '{');
         json_record(record);
@@ -246,7 +246,7 @@ static int load_and_look(const char *name)
 
 int command_why(char **arguments)
 {
-    uint8_t item[ITEM];
+    uint8_t item[SYNC_ITEM];
     struct outcome outcome = {0, 0, NULL, NULL};
     const uint8_t *record;
     int is_held;
@@ -277,7 +277,7 @@ int command_why(char **arguments)
 static uint32_t covers(struct part first, struct part second, const struct span *span)
 {
     uint32_t answer = 0;
-    uint32_t number = sync_cover(first.bytes, first.n, second.bytes, second.n, span->first, ITEM, span->last, ITEM, &answer);
+    uint32_t number = sync_cover(first.bytes, first.n, second.bytes, second.n, span->first, SYNC_ITEM, span->last, SYNC_ITEM, &answer);
     if (number == SYNC_ARGUMENT)
         wrong_usage("FIRST and LAST: %s", words_of(number));
     if (number != 0)
@@ -297,10 +297,10 @@ struct comparison {
 static void find_unlike(struct comparison *found, struct part first, struct part second, const struct span *span, int only_missing)
 {
     size_t at;
-    for (at = 0; at + RECORD <= first.n; at += RECORD) {
-        const uint8_t *item = first.bytes + at + RECORD_ITEM, *same = find_record(second, item);
-        int differs = !same || (!only_missing && memcmp(same, first.bytes + at, RECORD) != 0);
-        if (differs && memcmp(span->first, item, ITEM) <= 0 && memcmp(item, span->last, ITEM) <= 0)
+    for (at = 0; at + SYNC_RECORD_LENGTH <= first.n; at += SYNC_RECORD_LENGTH) {
+        const uint8_t *item = first.bytes + at + SYNC_RECORD_ITEM, *same = find_record(second, item);
+        int differs = !same || (!only_missing && memcmp(same, first.bytes + at, SYNC_RECORD_LENGTH) != 0);
+        if (differs && memcmp(span->first, item, SYNC_ITEM) <= 0 && memcmp(item, span->last, SYNC_ITEM) <= 0)
             found->unlike[found->unlike_count++] = item;
     }
 }
@@ -324,10 +324,10 @@ static void say_order(uint32_t order)
 static void say_lack(const struct file *file, const uint8_t *lack)
 {
     int is_first = file == &store;
-    uint64_t first = number_at(lack + LACK_FIRST_TICK, 8), second = number_at(lack + LACK_SECOND_TICK, 8);
+    uint64_t first = sync_number_at(lack + SYNC_LACK_FIRST_TICK, 8), second = sync_number_at(lack + SYNC_LACK_SECOND_TICK, 8);
     char item[ID_TEXT], replica[ID_TEXT];
     printf("  %s lacks first: item %s of replica %s, where it knows %" PRIu64 " and %s knows %" PRIu64 "\n", file->name,
-           id_text(&items, lack + LACK_ITEM, item), id_text(&replicas, lack + LACK_REPLICA, replica), is_first ? first : second,
+           id_text(&items, lack + SYNC_LACK_ITEM, item), id_text(&replicas, lack + SYNC_LACK_REPLICA, replica), is_first ? first : second,
            is_first ? other.name : store.name, is_first ? second : first);
 }
 
@@ -356,10 +356,10 @@ static void json_lack(const struct file *file, const uint8_t *lack)
 {
     json_open(NULL, '{');
     json_text("file", file->name);
-    json_digits("item", lack + LACK_ITEM, ITEM);
-    json_digits("replica", lack + LACK_REPLICA, REPLICA);
-    json_number("first_knows", number_at(lack + LACK_FIRST_TICK, 8));
-    json_number("second_knows", number_at(lack + LACK_SECOND_TICK, 8));
+    json_digits("item", lack + SYNC_LACK_ITEM, SYNC_ITEM);
+    json_digits("replica", lack + SYNC_LACK_REPLICA, SYNC_REPLICA);
+    json_number("first_knows", sync_number_at(lack + SYNC_LACK_FIRST_TICK, 8));
+    json_number("second_knows", sync_number_at(lack + SYNC_LACK_SECOND_TICK, 8));
     json_close('}');
 }
 
@@ -378,7 +378,7 @@ static void json_comparison(const struct comparison *found)
     json_close(']');
     json_open("unlike", '[');
     for (at = 0; at < found->unlike_count; at++)
-        json_digits(NULL, found->unlike[at], ITEM);
+        json_digits(NULL, found->unlike[at], SYNC_ITEM);
     json_close(']');
     json_close('}');
     json_end();
@@ -395,7 +395,7 @@ static void compare_all(struct comparison *found, struct part first, struct part
     if (found->order & SYNC_BEHIND)
         found->lacks[0] = lacks;
     if (found->order & SYNC_AHEAD)
-        found->lacks[1] = found->order & SYNC_BEHIND ? lacks + LACK : lacks;
+        found->lacks[1] = found->order & SYNC_BEHIND ? lacks + SYNC_LACK_LENGTH : lacks;
 }
 
 int command_compare(char **arguments)

@@ -3,7 +3,7 @@
 #include <string.h>
 
 #include "changes.h"
-#include "format.h"
+#include "sync_format.h"
 #include "ids.h"
 #include "json.h"
 #include "names.h"
@@ -22,27 +22,27 @@ static void add(struct changes *changes, enum change_kind kind, const uint8_t *r
 
 static int is_live(const uint8_t *record)
 {
-    return record && record[0] == KIND_LIVE;
+    return record && record[0] == SYNC_KIND_LIVE;
 }
 
 /* Whether a knowledge contains the version that a record was changed with. */
 static int contains(struct part knowledge, const uint8_t *record)
 {
     uint32_t contained = 0;
-    return sync_contain(knowledge.bytes, knowledge.n, record + RECORD_ITEM, ITEM, record + RECORD_CHANGE, REPLICA,
-                        number_at(record + RECORD_CHANGE + VERSION_TICK, 8), &contained) == 0 && contained;
+    return sync_contain(knowledge.bytes, knowledge.n, record + SYNC_RECORD_ITEM, SYNC_ITEM, record + SYNC_RECORD_CHANGE, SYNC_REPLICA,
+                        sync_number_at(record + SYNC_RECORD_CHANGE + SYNC_VERSION_TICK, 8), &contained) == 0 && contained;
 }
 
 int is_greater(const uint8_t *first, const uint8_t *second)
 {
-    int ticks = memcmp(first + RECORD_CHANGE + VERSION_TICK, second + RECORD_CHANGE + VERSION_TICK, 8);
-    return (ticks != 0 ? ticks : memcmp(first + RECORD_CHANGE, second + RECORD_CHANGE, REPLICA)) > 0;
+    int ticks = memcmp(first + SYNC_RECORD_CHANGE + SYNC_VERSION_TICK, second + SYNC_RECORD_CHANGE + SYNC_VERSION_TICK, 8);
+    return (ticks != 0 ? ticks : memcmp(first + SYNC_RECORD_CHANGE, second + SYNC_RECORD_CHANGE, SYNC_REPLICA)) > 0;
 }
 
 /* What one record of the batch comes to. */
 static void find_change(struct changes *changes, const struct file *store, const struct file *batch, const uint8_t *record)
 {
-    const uint8_t *old = find_record(records_of(store), record + RECORD_ITEM);
+    const uint8_t *old = find_record(records_of(store), record + SYNC_RECORD_ITEM);
     if (!old || is_greater(record, old)) {
         if (old && !contains(knowledge_of(batch), old))
             add(changes, CHANGE_LOST, old);
@@ -57,7 +57,7 @@ void find_changes(struct changes *changes, const struct file *store, const struc
     struct part table = records_of(batch);
     size_t at;
     changes->count = 0;
-    for (at = 0; at + RECORD <= table.n; at += RECORD)
+    for (at = 0; at + SYNC_RECORD_LENGTH <= table.n; at += SYNC_RECORD_LENGTH)
         find_change(changes, store, batch, table.bytes + at);
 }
 
@@ -81,15 +81,16 @@ void print_changes(FILE *out, const struct changes *changes)
     size_t at;
     for (at = 0; at < changes->count; at++) {
         const uint8_t *record = changes->of[at].record;
-        const char *name = name_of(record + RECORD_ITEM);
+        const char *name = name_of(record + SYNC_RECORD_ITEM);
         fputs(change_names[changes->of[at].kind], out);
-        print_digits(out, record + RECORD_ITEM, ITEM);
+        print_digits(out, record + SYNC_RECORD_ITEM, SYNC_ITEM);
         if (is_live(record))
-            print_digits(out, record + RECORD_TAG, TAG);
+            print_digits(out, record + SYNC_RECORD_TAG, SYNC_TAG);
         else
             fputs(" -", out);
-        print_digits(out, record + RECORD_CHANGE, REPLICA);
-        fprintf(out, " %" PRIu64 "%s%s\n", number_at(record + RECORD_CHANGE + VERSION_TICK, 8), name ? " " : "", name ? name : "");
+        print_digits(out, record + SYNC_RECORD_CHANGE, SYNC_REPLICA);
+        fprintf(out, " %" PRIu64 "%s%s\n", sync_number_at(record + SYNC_RECORD_CHANGE + SYNC_VERSION_TICK, 8), name ? " " : "",
+                name ? name : "");
     }
 }
 

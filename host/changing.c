@@ -9,7 +9,7 @@
 
 #include "changing.h"
 #include "commands.h"
-#include "format.h"
+#include "sync_format.h"
 #include "messages.h"
 #include "options.h"
 #include "replica.h"
@@ -21,14 +21,14 @@ static struct replica replica;
 
 void begin_store(struct file *new, const char *folder, const char *id)
 {
-    uint8_t own[REPLICA];
+    uint8_t own[SYNC_REPLICA];
     uint64_t written = 0;
     uint32_t number;
     if (id)
         read_id(&replicas, id, own);
     else if (getrandom(own, sizeof own, 0) != sizeof own)
         trouble("random bytes", "cannot be had; give an id");
-    number = sync_new(own, REPLICA, new->bytes, sizeof new->bytes, &written);
+    number = sync_new(own, SYNC_REPLICA, new->bytes, sizeof new->bytes, &written);
     if (number != 0)
         refused(folder, number, NULL);
     new->name = folder;
@@ -42,7 +42,7 @@ int command_new(char **arguments)
     save_new(arguments[0], &result);
     change_is_made();
     full_ids = full_ids || !arguments[1];
-    printf("%s is replica %s\n", arguments[0], id_text(&replicas, result.bytes + STORE_OWN, text));
+    printf("%s is replica %s\n", arguments[0], id_text(&replicas, result.bytes + SYNC_STORE_OWN, text));
     return 0;
 }
 
@@ -50,8 +50,8 @@ uint32_t change(struct draft *draft, const uint8_t *item, const uint8_t *tag)
 {
     struct file *now = draft->now, *next = draft->next;
     uint64_t written = 0;
-    uint32_t number = tag ? sync_edit(now->bytes, now->n, item, ITEM, tag, TAG, next->bytes, sizeof next->bytes, &written)
-                          : sync_delete(now->bytes, now->n, item, ITEM, next->bytes, sizeof next->bytes, &written);
+    uint32_t number = tag ? sync_edit(now->bytes, now->n, item, SYNC_ITEM, tag, SYNC_TAG, next->bytes, sizeof next->bytes, &written)
+                          : sync_delete(now->bytes, now->n, item, SYNC_ITEM, next->bytes, sizeof next->bytes, &written);
     if (number != 0)
         return number;
     next->name = now->name;
@@ -74,14 +74,14 @@ static int keep(uint32_t number, uint64_t written, const char *done, const uint8
     change_is_made();
     add_id(&items, item);
     printf("%s item %s: tick %" PRIu64 " of replica %s\n", done, id_text(&items, item, item_id), own_tick(&result),
-           id_text(&replicas, result.bytes + STORE_OWN, own));
+           id_text(&replicas, result.bytes + SYNC_STORE_OWN, own));
     warn_limits(&result);
     return 0;
 }
 
 int command_edit(char **arguments)
 {
-    uint8_t item[ITEM], tag[TAG];
+    uint8_t item[SYNC_ITEM], tag[SYNC_TAG];
     uint64_t written = 0;
     uint32_t number;
     need_id(&items, arguments[1]);
@@ -89,28 +89,27 @@ int command_edit(char **arguments)
     load_to_change(&replica, &store, arguments[0]);
     add_ids(&store);
     read_id(&items, arguments[1], item);
-    number = sync_edit(store.bytes, store.n, item, ITEM, tag, TAG, result.bytes, sizeof result.bytes, &written);
+    number = sync_edit(store.bytes, store.n, item, SYNC_ITEM, tag, SYNC_TAG, result.bytes, sizeof result.bytes, &written);
     return keep(number, written, "edited", item);
 }
 
 int command_delete(char **arguments)
 {
-    uint8_t item[ITEM];
+    uint8_t item[SYNC_ITEM];
     uint64_t written = 0;
     uint32_t number;
     need_id(&items, arguments[1]);
     load_to_change(&replica, &store, arguments[0]);
     add_ids(&store);
     read_id(&items, arguments[1], item);
-    number = sync_delete(store.bytes, store.n, item, ITEM, result.bytes, sizeof result.bytes, &written);
+    number = sync_delete(store.bytes, store.n, item, SYNC_ITEM, result.bytes, sizeof result.bytes, &written);
     return keep(number, written, "deleted", item);
 }
 
 int command_seal(char **arguments)
 {
-    enum form before = seal_again(arguments[0]);
+    enum form after, before = seal_again(arguments[0], &after);
     change_is_made();
-    open_replica(&replica, arguments[0]);
-    printf("%s: its files were %s, and are %s now\n", arguments[0], form_names[before], form_names[replica.last.form]);
+    printf("%s: its files were %s, and are %s now\n", arguments[0], form_names[before], form_names[after]);
     return 0;
 }

@@ -13,10 +13,6 @@
 #include "options.h"
 #include "replica.h"
 
-#ifndef SYNC_VERSION
-#define SYNC_VERSION "0.1.0"
-#endif
-
 struct options options;
 
 enum option { FULL = 1, LIST = 2, JSON = 4, RUN = 8, WAIT = 16, BARE_FILES = 32, KEY = 64, DRY_RUN = 128, ID = 256 };

@@ -32,7 +32,7 @@ int command_status(char **arguments);
 
 /* A span of items, and the one of the two arguments, or all items if there are none. */
 struct span {
-    uint8_t first[ITEM], last[ITEM];
+    uint8_t first[SYNC_ITEM], last[SYNC_ITEM];
 };
 struct span read_span(char **arguments);
 

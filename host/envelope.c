@@ -133,7 +133,8 @@ struct opened open_envelope(const struct key *key, const uint8_t *file, size_t n
         return fault("it is not sealed with the key, so it may come from a stranger", 0);
     sealed_digest(key, file, n - DIGEST, digest);
     if (CRYPTO_memcmp(digest, file + n - DIGEST, DIGEST) != 0)
-        return fault(key->n > 0 ? "it was damaged, or sealed with another key: its digest is wrong" : "it was damaged: its digest is wrong", 1);
+        return fault(key->n > 0 ? "it was damaged, or sealed with another key: its digest is wrong" : "it was damaged: its digest is wrong",
+                     1);
     opened.bytes = file + front + LENGTH;
     opened.n = length;
     return opened;

@@ -34,7 +34,7 @@ struct opened {
     const char *fault; /* in words, or null */
     int is_damaged;    /* the fault is damage, and no matter of keys or options */
     enum kind kind;
-    enum form form;
+    enum form form; /* KEYED also where the key is missing, which is no damage */
     const uint8_t *bytes;
     size_t n;
 };

@@ -8,8 +8,8 @@
 #define WHOLE 16 /* an id of so many digits, without leading zeros, is shown whole */
 #define FRONT 4  /* of a longer one at least so many bytes */
 
-struct ids items = {.length = ITEM, .front = FRONT};
-struct ids replicas = {.length = REPLICA, .front = FRONT};
+struct ids items = {.length = SYNC_ITEM, .front = FRONT};
+struct ids replicas = {.length = SYNC_REPLICA, .front = FRONT};
 int full_ids;
 
 void all_digits(const uint8_t *bytes, size_t n, char *text)
@@ -51,7 +51,7 @@ static int is_top(const struct ids *ids, const uint8_t *id)
     size_t at = 0;
     while (at < ids->length && id[at] == 255)
         at++;
-    return ids->length == ITEM && at == ITEM;
+    return ids->length == SYNC_ITEM && at == SYNC_ITEM;
 }
 
 const char *id_text(const struct ids *ids, const uint8_t *id, char text[ID_TEXT])
@@ -118,15 +118,15 @@ static size_t front_of(const char *text)
 
 static int is_top_text(const struct ids *ids, const char *text)
 {
-    return ids->length == ITEM && strcmp(text, "top") == 0;
+    return ids->length == SYNC_ITEM && strcmp(text, "top") == 0;
 }
 
 void need_id(const struct ids *ids, const char *text)
 {
-    uint8_t id[ITEM];
+    uint8_t id[SYNC_ITEM];
     size_t front = front_of(text);
     if (!is_top_text(ids, text) && !read_digits(text, front ? front : strlen(text), id, ids->length))
-        wrong_usage("%s: %s id is 1 to %zu hexadecimal digits", text, ids->length == ITEM ? "an item's" : "a replica's",
+        wrong_usage("%s: %s id is 1 to %zu hexadecimal digits", text, ids->length == SYNC_ITEM ? "an item's" : "a replica's",
                     2 * ids->length);
 }
 
@@ -134,22 +134,22 @@ void read_id(const struct ids *ids, const char *text, uint8_t *id)
 {
     need_id(ids, text);
     if (is_top_text(ids, text))
-        memset(id, 255, ITEM);
+        memset(id, 255, SYNC_ITEM);
     else if (front_of(text) > 0)
         find_id(ids, text, front_of(text), id);
     else
         read_digits(text, strlen(text), id, ids->length);
 }
 
-void read_tag(const char *text, uint8_t tag[TAG])
+void read_tag(const char *text, uint8_t tag[SYNC_TAG])
 {
-    if (!read_digits(text, strlen(text), tag, TAG))
-        wrong_usage("%s: a tag is 1 to %d hexadecimal digits", text, 2 * TAG);
+    if (!read_digits(text, strlen(text), tag, SYNC_TAG))
+        wrong_usage("%s: a tag is 1 to %d hexadecimal digits", text, 2 * SYNC_TAG);
 }
 
 const char *tag_text(const uint8_t *tag, char text[ID_TEXT])
 {
-    size_t digits = full_ids ? 2 * TAG : digits_of(tag, TAG);
-    all_digits(tag, TAG, text);
-    return memmove(text, text + 2 * TAG - digits, digits + 1);
+    size_t digits = full_ids ? 2 * SYNC_TAG : digits_of(tag, SYNC_TAG);
+    all_digits(tag, SYNC_TAG, text);
+    return memmove(text, text + 2 * SYNC_TAG - digits, digits + 1);
 }

@@ -6,9 +6,9 @@
 #include <stddef.h>
 #include <stdint.h>
 
-enum { ITEM = 24, REPLICA = 16, TAG = 16 };
+#include "sync_format.h"
 
-#define ID_TEXT (2 * ITEM + 1) /* room for any id as text */
+#define ID_TEXT (2 * SYNC_ITEM + 1) /* room for any id as text */
 
 /* The ids that are shown together. Each is shown so that it is none of the others. */
 struct ids {
@@ -40,7 +40,7 @@ int read_digits(const char *text, size_t length, uint8_t *bytes, size_t n);
 void all_digits(const uint8_t *bytes, size_t n, char *text);
 
 /* Reads a tag, whose digits are shown and read like those of an id. */
-void read_tag(const char *text, uint8_t tag[TAG]);
+void read_tag(const char *text, uint8_t tag[SYNC_TAG]);
 const char *tag_text(const uint8_t *tag, char text[ID_TEXT]);
 
 #endif

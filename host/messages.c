@@ -46,7 +46,7 @@ static const struct {
                           "  This does not pass by itself: each span adds up to two ranges. A batch over all items, made by a server that\n"
                           "  has caught up, joins them: ask it with your present knowledge, and give no FIRST and LAST.\n"},
     [SYNC_OVER_RECORDS] = {"the store would have over 256 records; put further items into another folder",
-                           RENEW "  Another folder has replicas of its own, under ids of their own. If most items are live, only that helps.\n"},
+                           RENEW "  Another folder has replicas with ids of their own. If most items are live, only that helps.\n"},
     [SYNC_SHORT_BUFFER] = {"the buffer is too short; this program's buffers never are: please report it", ""},
     [SYNC_STORE] = {"this is no valid store; do not mend it, and do not put a copy in its place",
                     "  This does not pass by itself: something else wrote the file, or the disk damaged it. Keep it, and take what it\n"

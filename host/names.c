@@ -13,17 +13,17 @@
 #include "messages.h"
 #include "show.h"
 
-enum { LINE_MOST = 2 * ITEM + 1 + 2 * TAG + 1 + NAME_MOST + 1, TEXT_MOST = NAMES_MOST * LINE_MOST };
+enum { LINE_MOST = 2 * SYNC_ITEM + 1 + 2 * SYNC_TAG + 1 + NAME_MOST + 1, TEXT_MOST = NAMES_MOST * LINE_MOST };
 
 /* All names, in the order of their items. */
 static struct name **names;
 static size_t count, room;
 
-void item_of(const char *text, size_t n, uint8_t item[ITEM])
+void item_of(const char *text, size_t n, uint8_t item[SYNC_ITEM])
 {
     uint8_t digest[DIGEST];
     digest_of(text, n, digest);
-    memcpy(item, digest, ITEM);
+    memcpy(item, digest, SYNC_ITEM);
     item[0] |= 0x80; /* 1 for a file and 0 for a directory: [MS-FSVCA] 2.1 */
 }
 
@@ -33,7 +33,7 @@ static size_t place_of(const uint8_t *item)
     size_t low = 0, high = count;
     while (low < high) {
         size_t middle = low + (high - low) / 2;
-        if (memcmp(names[middle]->item, item, ITEM) < 0)
+        if (memcmp(names[middle]->item, item, SYNC_ITEM) < 0)
             low = middle + 1;
         else
             high = middle;
@@ -44,7 +44,7 @@ static size_t place_of(const uint8_t *item)
 struct name *find_name(const uint8_t *item)
 {
     size_t at = place_of(item);
-    return at < count && memcmp(names[at]->item, item, ITEM) == 0 ? names[at] : NULL;
+    return at < count && memcmp(names[at]->item, item, SYNC_ITEM) == 0 ? names[at] : NULL;
 }
 
 const char *name_of(const uint8_t *item)
@@ -62,7 +62,7 @@ struct name *name_at(size_t at)
 static struct name *put(const struct name *name)
 {
     size_t at = place_of(name->item);
-    if (at == count || memcmp(names[at]->item, name->item, ITEM) != 0) {
+    if (at == count || memcmp(names[at]->item, name->item, SYNC_ITEM) != 0) {
         if (count == room) {
             room = 2 * room + NAMES_MOST;
             names = realloc(names, room * sizeof *names);
@@ -122,15 +122,15 @@ static size_t read_text(const struct folder *folder, char text[TEXT_MOST + 1], c
 /* Reads a line of n bytes. Whether it is one. */
 static int read_line(const char *line, size_t n, struct name *name)
 {
-    size_t front = 2 * ITEM + 1, length;
-    uint8_t item[ITEM];
+    size_t front = 2 * SYNC_ITEM + 1, length;
+    uint8_t item[SYNC_ITEM];
     memset(name, 0, sizeof *name);
-    if (n < front + 2 || !read_digits(line, 2 * ITEM, name->item, ITEM) || line[front - 1] != ' ')
+    if (n < front + 2 || !read_digits(line, 2 * SYNC_ITEM, name->item, SYNC_ITEM) || line[front - 1] != ' ')
         return 0;
     name->is_seen = line[front] != '-';
-    if (name->is_seen && (n < front + 2 * TAG || !read_digits(line + front, 2 * TAG, name->seen, TAG)))
+    if (name->is_seen && (n < front + 2 * SYNC_TAG || !read_digits(line + front, 2 * SYNC_TAG, name->seen, SYNC_TAG)))
         return 0;
-    front += name->is_seen ? 2 * TAG : 1;
+    front += name->is_seen ? 2 * SYNC_TAG : 1;
     if (front + 1 >= n || line[front] != ' ')
         return 0;
     length = n - front - 1;
@@ -138,7 +138,7 @@ static int read_line(const char *line, size_t n, struct name *name)
         return 0;
     memcpy(name->text, line + front + 1, length);
     item_of(name->text, length, item);
-    return memcmp(item, name->item, ITEM) == 0;
+    return memcmp(item, name->item, SYNC_ITEM) == 0;
 }
 
 /* Goes through the lines of a text, and puts the names among the others if that is wanted. What is wrong with the text, or null. */
@@ -146,16 +146,16 @@ static const char *read_lines(const char *text, size_t n, int are_wanted)
 {
     static char fault[64];
     struct name name;
-    uint8_t before[ITEM] = {0};
+    uint8_t before[SYNC_ITEM] = {0};
     size_t at, length, line = 1;
     for (at = 0; at < n; at += length + 1, line++) {
         const char *end = memchr(text + at, '\n', n - at);
         length = end ? (size_t)(end - text) - at : 0;
-        if (!end || line > NAMES_MOST || !read_line(text + at, length, &name) || memcmp(before, name.item, ITEM) >= 0) {
+        if (!end || line > NAMES_MOST || !read_line(text + at, length, &name) || memcmp(before, name.item, SYNC_ITEM) >= 0) {
             snprintf(fault, sizeof fault, "line %zu is not as this program wrote it", line);
             return fault;
         }
-        memcpy(before, name.item, ITEM);
+        memcpy(before, name.item, SYNC_ITEM);
         if (are_wanted)
             put(&name);
     }
@@ -206,14 +206,14 @@ static size_t write_text(struct part records, char text[TEXT_MOST])
     for (at = 0; at < count; at++) {
         if (!find_record(records, names[at]->item))
             continue;
-        all_digits(names[at]->item, ITEM, text + n);
-        n += 2 * ITEM;
+        all_digits(names[at]->item, SYNC_ITEM, text + n);
+        n += 2 * SYNC_ITEM;
         text[n++] = ' ';
         if (names[at]->is_seen)
-            all_digits(names[at]->seen, TAG, text + n);
+            all_digits(names[at]->seen, SYNC_TAG, text + n);
         else
             text[n] = '-';
-        n += names[at]->is_seen ? 2 * TAG : 1;
+        n += names[at]->is_seen ? 2 * SYNC_TAG : 1;
         n += (size_t)sprintf(text + n, " %s\n", names[at]->text);
     }
     return n;

@@ -14,9 +14,9 @@
 enum { NAME_MOST = 1000, NAMES_MOST = 256 };
 
 struct name {
-    uint8_t item[ITEM];
+    uint8_t item[SYNC_ITEM];
     int is_seen; /* whether the file was in the directory when that was last scanned; if so, what was seen of it: */
-    uint8_t seen[TAG];
+    uint8_t seen[SYNC_TAG];
     char text[NAME_MOST + 1];
 };
 
@@ -44,7 +44,7 @@ struct name *add_name(const char *text);
 void forget_seen(void);
 
 /* The id of the item that has a name. */
-void item_of(const char *text, size_t n, uint8_t item[ITEM]);
+void item_of(const char *text, size_t n, uint8_t item[SYNC_ITEM]);
 
 /*
  * Writes the names of items that have a record in the store beside the folder's file, to be put in its place by finish (files.h). The

@@ -8,7 +8,7 @@
 #include "changes.h"
 #include "changing.h"
 #include "commands.h"
-#include "format.h"
+#include "sync_format.h"
 #include "json.h"
 #include "messages.h"
 #include "names.h"
@@ -35,7 +35,7 @@ static size_t winner_count, live_count;
 
 static int is_live(const struct winner *winner)
 {
-    return winner->record[0] == KIND_LIVE;
+    return winner->record[0] == SYNC_KIND_LIVE;
 }
 
 static void *need_memory(size_t n)
@@ -99,7 +99,7 @@ static void load_old_names(void)
 static int by_version(const void *one, const void *another)
 {
     const struct winner *first = one, *second = another;
-    int order = memcmp(first->record + RECORD_ITEM, second->record + RECORD_ITEM, ITEM);
+    int order = memcmp(first->record + SYNC_RECORD_ITEM, second->record + SYNC_RECORD_ITEM, SYNC_ITEM);
     if (order == 0)
         order = is_greater(second->record, first->record) - is_greater(first->record, second->record);
     return order != 0 ? order : first->of < second->of ? -1 : first->of > second->of;
@@ -110,11 +110,11 @@ static void collect_records(void)
 {
     size_t at, place, total = 0;
     for (at = 0; at < folder_count; at++)
-        total += records_of(&stores[at]).n / RECORD;
+        total += records_of(&stores[at]).n / SYNC_RECORD_LENGTH;
     winners = need_memory(total * sizeof *winners);
     for (at = 0; at < folder_count; at++) {
         struct part table = records_of(&stores[at]);
-        for (place = 0; place + RECORD <= table.n; place += RECORD, winner_count++) {
+        for (place = 0; place + SYNC_RECORD_LENGTH <= table.n; place += SYNC_RECORD_LENGTH, winner_count++) {
             winners[winner_count].record = table.bytes + place;
             winners[winner_count].of = at;
             winners[winner_count].is_only = 1;
@@ -129,7 +129,7 @@ static void warn_unlike(const struct winner *winner, const struct winner *other)
 {
     char text[ID_TEXT];
     warn(folders[other->of], "holds another record of item %s than %s, under the same version: a store was put back from a copy, or an id "
-         "was used twice; that of %s is taken", id_text(&items, winner->record + RECORD_ITEM, text), folders[winner->of],
+         "was used twice; that of %s is taken", id_text(&items, winner->record + SYNC_RECORD_ITEM, text), folders[winner->of],
          folders[winner->of]);
 }
 
@@ -139,11 +139,11 @@ static void keep_greatest(void)
     size_t at, kept = 0;
     for (at = 0; at < winner_count; at++) {
         struct winner *last = kept > 0 ? &winners[kept - 1] : NULL;
-        if (!last || memcmp(last->record + RECORD_ITEM, winners[at].record + RECORD_ITEM, ITEM) != 0) {
+        if (!last || memcmp(last->record + SYNC_RECORD_ITEM, winners[at].record + SYNC_RECORD_ITEM, SYNC_ITEM) != 0) {
             winners[kept++] = winners[at];
         } else if (!is_greater(last->record, winners[at].record)) {
             last->is_only = 0;
-            if (memcmp(last->record, winners[at].record, RECORD) != 0)
+            if (memcmp(last->record, winners[at].record, SYNC_RECORD_LENGTH) != 0)
                 warn_unlike(last, &winners[at]);
         }
     }
@@ -163,7 +163,8 @@ static void edit_all(struct draft *draft)
         exit(STATUS_REFUSED);
     }
     for (at = 0; at < winner_count; at++) {
-        uint32_t number = is_live(&winners[at]) ? change(draft, winners[at].record + RECORD_ITEM, winners[at].record + RECORD_TAG) : 0;
+        const uint8_t *record = winners[at].record;
+        uint32_t number = is_live(&winners[at]) ? change(draft, record + SYNC_RECORD_ITEM, record + SYNC_RECORD_TAG) : 0;
         if (number != 0)
             refused(draft->now->name, number, NULL);
     }
@@ -194,8 +195,8 @@ static void say_only_in(size_t folder)
     else
         printf("only %s had the greatest version of %zu %s:\n", folders[folder], count, count == 1 ? "item" : "items");
     for (at = 0; (winner = next_only(folder, &at));) {
-        const char *name = name_of(winner->record + RECORD_ITEM);
-        printf("  item %s", id_text(&items, winner->record + RECORD_ITEM, text));
+        const char *name = name_of(winner->record + SYNC_RECORD_ITEM);
+        printf("  item %s", id_text(&items, winner->record + SYNC_RECORD_ITEM, text));
         if (name)
             printf(" (%s)", printable(name));
         puts(is_live(winner) ? "" : ", deleted");
@@ -206,9 +207,9 @@ static void say_renewed(const struct file *new)
 {
     char text[ID_TEXT];
     size_t at;
-    id_text(&replicas, new->bytes + STORE_OWN, text);
+    id_text(&replicas, new->bytes + SYNC_STORE_OWN, text);
     if (!options.id)
-        all_digits(new->bytes + STORE_OWN, REPLICA, text);
+        all_digits(new->bytes + SYNC_STORE_OWN, SYNC_REPLICA, text);
     printf("%s is replica %s: ", new->name, text);
     show_count(live_count, "item, ", "items, ");
     show_count(winner_count - live_count, "deleted item is left out\n", "deleted items are left out\n");
@@ -226,9 +227,9 @@ static void json_only_in(size_t folder)
     json_text("folder", folders[folder]);
     json_open("items", '[');
     while ((winner = next_only(folder, &at))) {
-        const char *name = name_of(winner->record + RECORD_ITEM);
+        const char *name = name_of(winner->record + SYNC_RECORD_ITEM);
         json_open(NULL, '{');
-        json_digits("item", winner->record + RECORD_ITEM, ITEM);
+        json_digits("item", winner->record + SYNC_RECORD_ITEM, SYNC_ITEM);
         if (name)
             json_text("name", name);
         json_text("state", is_live(winner) ? "live" : "deleted");
@@ -243,7 +244,7 @@ static void json_renewed(const struct file *new)
     size_t at;
     json_open(NULL, '{');
     json_text("folder", new->name);
-    json_digits("replica", new->bytes + STORE_OWN, REPLICA);
+    json_digits("replica", new->bytes + SYNC_STORE_OWN, SYNC_REPLICA);
     json_number("items", live_count);
     json_number("deleted_left_out", winner_count - live_count);
     json_open("only_in", '[');
@@ -259,7 +260,7 @@ static void warn_deleted(const char *folder)
 {
     size_t at;
     for (at = 0; at < winner_count; at++) {
-        const struct name *name = is_live(&winners[at]) ? NULL : find_name(winners[at].record + RECORD_ITEM);
+        const struct name *name = is_live(&winners[at]) ? NULL : find_name(winners[at].record + SYNC_RECORD_ITEM);
         if (name && name->is_seen)
             warn(folder, "warning: %s is deleted, and was in the directory of %s at its last scan: remove it there before the next one",
                  printable(name->text), folders[0]);

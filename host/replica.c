@@ -8,7 +8,7 @@
 #include <string.h>
 #include <sys/stat.h>
 
-#include "format.h"
+#include "sync_format.h"
 #include "ids.h"
 #include "messages.h"
 #include "options.h"
@@ -17,13 +17,13 @@ static uint8_t raw[FILE_MOST]; /* a file as it stands on the disk */
 
 enum kind kind_of(const struct file *file)
 {
-    return file->n > 0 && file->bytes[0] == KIND_STORE ? STORE : file->n > 0 && file->bytes[0] == KIND_BATCH ? BATCH : KNOWLEDGE;
+    return file->n > 0 && file->bytes[0] == SYNC_KIND_STORE ? STORE : file->n > 0 && file->bytes[0] == SYNC_KIND_BATCH ? BATCH : KNOWLEDGE;
 }
 
 /* ---- keys */
 
 static struct key files_key; /* of files that stand in no replica's folder */
-static struct key given_key; /* that of --key */
+static struct key given_key; /* of --key; it is read once, for it may come through a pipe */
 
 /* Takes the line ends off a key and looks at its length. */
 static void trim_key(struct key *key, const char *name)
@@ -32,12 +32,6 @@ static void trim_key(struct key *key, const char *name)
         key->n--;
     if (key->n < KEY_LEAST)
         trouble(name, "is no key: it has fewer than %d bytes", KEY_LEAST);
-}
-
-static void read_given_key(struct key *key, const char *name)
-{
-    key->n = read_named(name, key->bytes, sizeof key->bytes);
-    trim_key(key, name);
 }
 
 static void read_folder_key(struct key *key, const struct folder *folder)
@@ -51,8 +45,10 @@ static void read_folder_key(struct key *key, const struct folder *folder)
 void choose_key(char **names, int count)
 {
     int at;
-    if (options.key)
-        read_given_key(&given_key, options.key);
+    if (options.key) {
+        given_key.n = read_named(options.key, given_key.bytes, sizeof given_key.bytes);
+        trim_key(&given_key, is_standard(options.key) ? "standard input" : options.key);
+    }
     files_key = given_key;
     for (at = 0; at < count && files_key.n == 0; at++)
         if (names[at] && is_folder(names[at])) {
@@ -105,9 +101,9 @@ static const char way_out[] =
 static struct opened open_own(const struct folder *folder, const char *name, const struct key *key, size_t n)
 {
     struct opened opened = open_envelope(key->n == 0 && is_keyed(raw, n) ? &given_key : key, raw, n);
-    struct opened without = key->n > 0 ? open_envelope(&no_key, raw, n) : opened;
     struct path place = inside(folder->name, name);
-    if (opened.fault && !without.fault)
+    int is_before = n > 0 && !is_envelope(raw, n) && strcmp(name, "last-tick") == 0; /* the store beside it may then be so too */
+    if (opened.fault && key->n > 0 && (is_before || !open_envelope(&no_key, raw, n).fault))
         trouble(place.text, "is not sealed with the key of its folder; collector seal %s puts it under the key", folder->name);
     if (opened.fault)
         trouble(place.text, "%s%s", opened.fault, opened.is_damaged ? way_out : "");
@@ -117,25 +113,25 @@ static struct opened open_own(const struct folder *folder, const char *name, con
 }
 
 /* The text of a file last-tick, and its length: a replica id in 32 digits, a space, a tick in decimal digits, a line feed. */
-enum { LAST_TEXT = 2 * REPLICA + 24 };
+enum { LAST_TEXT = 2 * SYNC_REPLICA + 24 };
 
 static size_t last_text(const uint8_t *own, uint64_t tick, char text[LAST_TEXT])
 {
-    all_digits(own, REPLICA, text);
-    return 2 * REPLICA + (size_t)sprintf(text + 2 * REPLICA, " %" PRIu64 "\n", tick);
+    all_digits(own, SYNC_REPLICA, text);
+    return 2 * SYNC_REPLICA + (size_t)sprintf(text + 2 * SYNC_REPLICA, " %" PRIu64 "\n", tick);
 }
 
 /* Reads the text of a file last-tick. Whether it is one. */
 static int read_last_text(const uint8_t *bytes, size_t n, struct last *last)
 {
     char text[LAST_TEXT], same[LAST_TEXT];
-    if (n <= 2 * REPLICA || n >= LAST_TEXT)
+    if (n <= 2 * SYNC_REPLICA || n >= LAST_TEXT)
         return 0;
     memcpy(text, bytes, n);
     text[n] = 0;
-    if (!read_digits(text, 2 * REPLICA, last->own, REPLICA))
+    if (!read_digits(text, 2 * SYNC_REPLICA, last->own, SYNC_REPLICA))
         return 0;
-    last->tick = strtoull(text + 2 * REPLICA, NULL, 10);
+    last->tick = strtoull(text + 2 * SYNC_REPLICA, NULL, 10);
     return last_text(last->own, last->tick, same) == n && memcmp(same, text, n) == 0;
 }
 
@@ -188,9 +184,13 @@ void read_store(const struct replica *replica, struct file *store)
     struct opened opened = {NULL, 0, STORE, BARE, raw, read_in(&replica->folder, "store", raw, sizeof raw)};
     if (opened.n == NOT_THERE)
         trouble(name, "has no store in it, so it is no replica; collector new makes one");
+    if (opened.n > 0 && !is_envelope(raw, opened.n) && !may_be_bare(replica) && replica->last.is_there)
+        trouble(inside(name, "store").text, "has no envelope, and the tick beside it has one: something else put it there%s", way_out);
     if (is_envelope(raw, opened.n) || !may_be_bare(replica))
         opened = open_own(&replica->folder, "store", &replica->key, opened.n);
     put_bytes(store, name, opened.form, opened.bytes, opened.n);
+    if (opened.form != BARE && kind_of(store) != STORE)
+        trouble(inside(name, "store").text, "its first line says store, and the bytes in it are another thing\n%s", way_out);
 }
 
 void load(struct file *file, const char *name)
@@ -226,7 +226,7 @@ static int is_store_file(const char *name)
     size_t n = old ? fread(front, 1, sizeof front, old) : 0;
     if (old)
         fclose(old);
-    return n > 0 && (front[0] == KIND_STORE || memcmp(front, line, sizeof line - 1) == 0);
+    return n > 0 && (front[0] == SYNC_KIND_STORE || memcmp(front, line, sizeof line - 1) == 0);
 }
 
 void write_bare(const char *name, const uint8_t *bytes, size_t n)
@@ -255,7 +255,7 @@ void write_out(const char *name, enum kind kind, const uint8_t *bytes, size_t n)
 const char *fault_of(const struct file *file, enum kind wanted)
 {
     static char note[128];
-    size_t front = wanted == STORE ? STORE_KNOWLEDGE : BATCH_NEEDED;
+    size_t front = wanted == STORE ? SYNC_STORE_KNOWLEDGE : SYNC_BATCH_NEEDED;
     uint64_t length;
     if (file->n == 0)
         return "the file is empty";
@@ -268,9 +268,10 @@ const char *fault_of(const struct file *file, enum kind wanted)
     if (file->n < front)
         return "the file ends inside its header";
     length = wanted == STORE
-        ? front + number_at(file->bytes + STORE_KNOWLEDGE_LENGTH, 4) + RECORD * number_at(file->bytes + STORE_COUNT, 4)
-        : front + number_at(file->bytes + BATCH_NEEDED_LENGTH, 4) + number_at(file->bytes + BATCH_LEARNED_LENGTH, 4) +
-            RECORD * number_at(file->bytes + BATCH_COUNT, 4);
+        ? front + sync_number_at(file->bytes + SYNC_STORE_KNOWLEDGE_LENGTH, 4) +
+            SYNC_RECORD_LENGTH * sync_number_at(file->bytes + SYNC_STORE_COUNT, 4)
+        : front + sync_number_at(file->bytes + SYNC_BATCH_NEEDED_LENGTH, 4) + sync_number_at(file->bytes + SYNC_BATCH_LEARNED_LENGTH, 4) +
+            SYNC_RECORD_LENGTH * sync_number_at(file->bytes + SYNC_BATCH_COUNT, 4);
     if (length == file->n)
         return "the length is right, but not all that stands in it";
     snprintf(note, sizeof note, "its header says %" PRIu64 " bytes, and it has %zu", length, file->n);
@@ -334,13 +335,13 @@ void need_batch(const struct file *file)
 uint64_t known_tick(struct part knowledge, const uint8_t *item, const uint8_t *replica)
 {
     /* The lead over a knowledge that knows nothing, which a new store has. */
-    uint8_t empty[STORE_KNOWLEDGE + 113];
+    uint8_t empty[SYNC_STORE_KNOWLEDGE + 113];
     uint64_t written;
     int64_t tick = 0;
-    uint32_t number = sync_new(replica, REPLICA, empty, sizeof empty, &written);
+    uint32_t number = sync_new(replica, SYNC_REPLICA, empty, sizeof empty, &written);
     if (number == 0)
-        number = sync_lead(knowledge.bytes, knowledge.n, empty + STORE_KNOWLEDGE, sizeof empty - STORE_KNOWLEDGE, item, ITEM, replica,
-                           REPLICA, &tick);
+        number = sync_lead(knowledge.bytes, knowledge.n, empty + SYNC_STORE_KNOWLEDGE, sizeof empty - SYNC_STORE_KNOWLEDGE, item, SYNC_ITEM,
+                           replica, SYNC_REPLICA, &tick);
     if (number != 0)
         refused("the known tick", number, NULL);
     return (uint64_t)tick;
@@ -351,7 +352,7 @@ uint64_t largest_tick(struct part knowledge, const uint8_t *replica)
     uint64_t sizes[4] = {0}, at, tick, largest = 0;
     sync_check(knowledge.bytes, knowledge.n, sizes);
     for (at = 0; at < sizes[3]; at++) {
-        tick = known_tick(knowledge, knowledge.bytes + ranges_at(sizes) + RANGE * at, replica);
+        tick = known_tick(knowledge, knowledge.bytes + sync_ranges_at(sizes) + SYNC_RANGE_LENGTH * at, replica);
         largest = tick > largest ? tick : largest;
     }
     return largest;
@@ -359,8 +360,8 @@ uint64_t largest_tick(struct part knowledge, const uint8_t *replica)
 
 uint64_t own_tick(const struct file *store)
 {
-    static const uint8_t any[ITEM];
-    return known_tick(knowledge_of(store), any, store->bytes + STORE_OWN);
+    static const uint8_t any[SYNC_ITEM];
+    return known_tick(knowledge_of(store), any, store->bytes + SYNC_STORE_OWN);
 }
 
 /* ---- the latest store */
@@ -381,7 +382,7 @@ static _Noreturn void not_latest(const char *folder, const char *words)
 
 int is_latest(const struct last *last, const struct file *store)
 {
-    return last->is_there && memcmp(last->own, store->bytes + STORE_OWN, REPLICA) == 0 && own_tick(store) >= last->tick;
+    return last->is_there && memcmp(last->own, store->bytes + SYNC_STORE_OWN, SYNC_REPLICA) == 0 && own_tick(store) >= last->tick;
 }
 
 void need_latest(const struct replica *replica, const struct file *store)
@@ -392,7 +393,7 @@ void need_latest(const struct replica *replica, const struct file *store)
         return;
     if (!last->is_there)
         not_latest(replica->folder.name, "the store was put here from elsewhere: there is no file last-tick beside it");
-    if (memcmp(last->own, store->bytes + STORE_OWN, REPLICA) != 0)
+    if (memcmp(last->own, store->bytes + SYNC_STORE_OWN, SYNC_REPLICA) != 0)
         snprintf(words, sizeof words, "the store was put here from elsewhere: this folder is replica %s's",
                  id_text(&replicas, last->own, text));
     else
@@ -443,9 +444,10 @@ static void prepare_tick(struct replacement *new, const struct replica *replica,
 void hold(struct replica *replica, const struct file *store, uint64_t tick)
 {
     struct replacement new;
-    if (tick <= replica->last.tick)
+    /* A store from elsewhere is held as it is, and the tick of the folder's own replica must not be forgotten for it. */
+    if (tick <= replica->last.tick || memcmp(replica->last.own, store->bytes + SYNC_STORE_OWN, SYNC_REPLICA) != 0)
         return;
-    prepare_tick(&new, replica, store->bytes + STORE_OWN, tick);
+    prepare_tick(&new, replica, store->bytes + SYNC_STORE_OWN, tick);
     finish(&new, "the folder could not be held");
     replica->last.tick = tick;
 }
@@ -476,7 +478,7 @@ void save_new(const char *name, const struct file *store)
     if (!has_key && replica.key.n > 0)
         prepare_key(&key, &replica);
     /* The tick before the store, so that no store of ours is ever without one. */
-    prepare_tick(&tick, &replica, store->bytes + STORE_OWN, own_tick(store));
+    prepare_tick(&tick, &replica, store->bytes + SYNC_STORE_OWN, own_tick(store));
     prepare_own(&place, &replica, STORE, store->bytes, store->n);
     if (!has_key && replica.key.n > 0)
         finish(&key, NOTHING_CHANGED);
@@ -489,7 +491,7 @@ void save(struct replica *replica, const struct file *store)
     struct replacement tick, place;
     int grown = replica->last.tick != own_tick(store) || replica->last.form == BARE;
     if (grown)
-        prepare_tick(&tick, replica, store->bytes + STORE_OWN, own_tick(store));
+        prepare_tick(&tick, replica, store->bytes + SYNC_STORE_OWN, own_tick(store));
     prepare_own(&place, replica, STORE, store->bytes, store->n);
     /* The store before the tick: a crash between the two leaves a store that is ahead of the tick, which is no fault. */
     finish(&place, NOTHING_CHANGED);
@@ -516,7 +518,7 @@ static struct opened open_any(const struct folder *folder, const char *name, con
     trouble(inside(folder->name, name).text, "opens under none of these keys: %s", opened.fault ? opened.fault : "it is another file");
 }
 
-enum form seal_again(const char *name)
+enum form seal_again(const char *name, enum form *after)
 {
     static struct file store;
     struct key keys[3];
@@ -527,6 +529,7 @@ enum form seal_again(const char *name)
     replica.folder = open_folder(name);
     lock_folder(&replica.folder);
     read_folder_key(&replica.key, &replica.folder);
+    *after = replica.key.n > 0 ? KEYED : SEALED;
     keys[0] = replica.key;
     keys[1] = given_key;
     keys[2] = no_key;

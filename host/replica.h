@@ -113,7 +113,7 @@ void save_new(const char *name, const struct file *store);
 /* Replaces the store, and the tick beside it if that has grown or has no envelope yet. */
 void save(struct replica *replica, const struct file *store);
 
-/* Puts the files of a folder under the key that stands there now. What they were under before. */
-enum form seal_again(const char *name);
+/* Puts the files of a folder under the key that stands there now. What they were under before, and are under after it. */
+enum form seal_again(const char *name, enum form *after);
 
 #endif

@@ -14,7 +14,7 @@
 
 #include "changing.h"
 #include "commands.h"
-#include "format.h"
+#include "sync_format.h"
 #include "json.h"
 #include "messages.h"
 #include "names.h"
@@ -34,7 +34,7 @@ static int top;
 static size_t file_count;
 static struct found {
     const char *name;
-    uint8_t item[ITEM], tag[TAG];
+    uint8_t item[SYNC_ITEM], tag[SYNC_TAG];
 } found[NAMES_MOST];
 
 /* The place of a name in the directory, for messages. */
@@ -81,7 +81,7 @@ static char **entries_of(int directory, const char *name, size_t *count)
 }
 
 /* The tag of the content of a regular file. */
-static void read_content(int directory, const char *entry, const char *name, uint8_t tag[TAG])
+static void read_content(int directory, const char *entry, const char *name, uint8_t tag[SYNC_TAG])
 {
     struct stat before, after;
     uint8_t digest[DIGEST];
@@ -95,7 +95,7 @@ static void read_content(int directory, const char *entry, const char *name, uin
     if (before.st_size != after.st_size || before.st_mtim.tv_sec != after.st_mtim.tv_sec || before.st_mtim.tv_nsec != after.st_mtim.tv_nsec)
         trouble(place(name), "was written to while it was read; " NOTHING_CHANGED ", try again");
     close(descriptor);
-    memcpy(tag, digest, TAG);
+    memcpy(tag, digest, SYNC_TAG);
 }
 
 /* Takes a regular file, or only counts it if there is no room for so many. */
@@ -164,7 +164,7 @@ static void walk(int directory, const char *path)
 
 static int by_item(const void *first, const void *second)
 {
-    return memcmp(((const struct found *)first)->item, ((const struct found *)second)->item, ITEM);
+    return memcmp(((const struct found *)first)->item, ((const struct found *)second)->item, SYNC_ITEM);
 }
 
 /* Ends the program because a store has no room for so many records. */
@@ -191,7 +191,7 @@ static void find_files(void)
 static int is_found(const uint8_t *item)
 {
     size_t at = 0;
-    while (at < file_count && memcmp(found[at].item, item, ITEM) != 0)
+    while (at < file_count && memcmp(found[at].item, item, SYNC_ITEM) != 0)
         at++;
     return at < file_count;
 }
@@ -241,7 +241,7 @@ static void add_step(const uint8_t *item, const uint8_t *tag, const char *name)
 /* Whether a record, or null, is live and has the tag. */
 static int has_tag(const uint8_t *record, const uint8_t *tag)
 {
-    return record && record[0] == KIND_LIVE && memcmp(record + RECORD_TAG, tag, TAG) == 0;
+    return record && record[0] == SYNC_KIND_LIVE && memcmp(record + SYNC_RECORD_TAG, tag, SYNC_TAG) == 0;
 }
 
 /*
@@ -255,11 +255,11 @@ static void find_edits(struct part records)
         const struct found *file = &found[at];
         const uint8_t *record = find_record(records, file->item);
         struct name *name = add_name(file->name);
-        int stayed = record && name->is_seen && memcmp(name->seen, file->tag, TAG) == 0;
+        int stayed = record && name->is_seen && memcmp(name->seen, file->tag, SYNC_TAG) == 0;
         if (!stayed && !has_tag(record, file->tag))
             add_step(file->item, file->tag, file->name);
         name->is_seen = 1;
-        memcpy(name->seen, file->tag, TAG);
+        memcpy(name->seen, file->tag, SYNC_TAG);
     }
 }
 
@@ -279,7 +279,7 @@ static void find_deletions(struct part records)
 
 static int by_step(const void *first, const void *second)
 {
-    return memcmp(((const struct step *)first)->item, ((const struct step *)second)->item, ITEM);
+    return memcmp(((const struct step *)first)->item, ((const struct step *)second)->item, SYNC_ITEM);
 }
 
 /* Finds what is to be changed, and makes the changes in memory. */
@@ -303,7 +303,7 @@ static void change_all(struct draft *draft)
 /* The tick that a change was made at. */
 static uint64_t tick_of(const struct file *after, const struct step *step)
 {
-    return number_at(find_record(records_of(after), step->item) + RECORD_CHANGE + VERSION_TICK, 8);
+    return sync_number_at(find_record(records_of(after), step->item) + SYNC_RECORD_CHANGE + SYNC_VERSION_TICK, 8);
 }
 
 static void json_steps(const struct file *after)
@@ -318,9 +318,9 @@ static void json_steps(const struct file *after)
         json_open(NULL, '{');
         json_text("change", steps[at].tag ? "edited" : "deleted");
         json_text("name", steps[at].name);
-        json_digits("item", steps[at].item, ITEM);
+        json_digits("item", steps[at].item, SYNC_ITEM);
         if (steps[at].tag)
-            json_digits("tag", steps[at].tag, TAG);
+            json_digits("tag", steps[at].tag, SYNC_TAG);
         json_number("tick", tick_of(after, &steps[at]));
         json_close('}');
     }
@@ -335,10 +335,10 @@ static void list_steps(void)
     char item[ID_TEXT], tag[ID_TEXT];
     size_t at;
     for (at = 0; at < step_count; at++) {
-        all_digits(steps[at].item, ITEM, item);
+        all_digits(steps[at].item, SYNC_ITEM, item);
         strcpy(tag, "-");
         if (steps[at].tag)
-            all_digits(steps[at].tag, TAG, tag);
+            all_digits(steps[at].tag, SYNC_TAG, tag);
         printf("%s %s %s %s\n", steps[at].tag ? "edited" : "deleted", item, tag, steps[at].name);
     }
 }
@@ -352,7 +352,7 @@ static void say_steps(const struct file *after)
     add_ids(after);
     for (at = 0; at < step_count; at++)
         printf("%s %s: item %s, tick %" PRIu64 " of replica %s\n", verbs[options.dry_run][steps[at].tag != NULL], printable(steps[at].name),
-               id_text(&items, steps[at].item, item), tick_of(after, &steps[at]), id_text(&replicas, after->bytes + STORE_OWN, own));
+               id_text(&items, steps[at].item, item), tick_of(after, &steps[at]), id_text(&replicas, after->bytes + SYNC_STORE_OWN, own));
     printf("%zu %sedited, %zu %sdeleted, %zu unchanged in %s\n", edit_count, would, step_count - edit_count, would,
            file_count - edit_count, top_name);
 }

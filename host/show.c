@@ -4,7 +4,7 @@
 #include <stdio.h>
 #include <string.h>
 
-#include "format.h"
+#include "sync_format.h"
 #include "ids.h"
 #include "json.h"
 #include "names.h"
@@ -47,8 +47,9 @@ struct part records_of(const struct file *file)
 {
     struct part part;
     size_t at = kind_of(file) == STORE
-        ? STORE_KNOWLEDGE + (size_t)number_at(file->bytes + STORE_KNOWLEDGE_LENGTH, 4)
-        : BATCH_NEEDED + (size_t)number_at(file->bytes + BATCH_NEEDED_LENGTH, 4) + (size_t)number_at(file->bytes + BATCH_LEARNED_LENGTH, 4);
+        ? SYNC_STORE_KNOWLEDGE + (size_t)sync_number_at(file->bytes + SYNC_STORE_KNOWLEDGE_LENGTH, 4)
+        : SYNC_BATCH_NEEDED + (size_t)sync_number_at(file->bytes + SYNC_BATCH_NEEDED_LENGTH, 4) +
+            (size_t)sync_number_at(file->bytes + SYNC_BATCH_LEARNED_LENGTH, 4);
     part.bytes = file->bytes + at;
     part.n = file->n - at;
     return part;
@@ -69,7 +70,7 @@ const uint8_t *find_record(struct part table, const uint8_t *item)
     uint64_t at = 0;
     const uint8_t *record;
     while ((record = next_record(table, &at)))
-        if (memcmp(record + RECORD_ITEM, item, ITEM) == 0)
+        if (memcmp(record + SYNC_RECORD_ITEM, item, SYNC_ITEM) == 0)
             return record;
     return NULL;
 }
@@ -88,7 +89,7 @@ static struct sizes sizes_of(struct part knowledge)
 
 static struct part needed_of(const struct file *batch)
 {
-    struct part part = {batch->bytes + BATCH_NEEDED, (size_t)number_at(batch->bytes + BATCH_NEEDED_LENGTH, 4)};
+    struct part part = {batch->bytes + SYNC_BATCH_NEEDED, (size_t)sync_number_at(batch->bytes + SYNC_BATCH_NEEDED_LENGTH, 4)};
     return part;
 }
 
@@ -97,9 +98,9 @@ static void add_knowledge(struct part knowledge)
     struct sizes sizes = sizes_of(knowledge);
     uint64_t at;
     for (at = 0; at < sizes.of[0]; at++)
-        add_id(&replicas, knowledge.bytes + KNOWLEDGE_REPLICAS + REPLICA * at);
+        add_id(&replicas, knowledge.bytes + SYNC_KNOWLEDGE_REPLICAS + SYNC_REPLICA * at);
     for (at = 0; at < sizes.of[3]; at++)
-        add_id(&items, knowledge.bytes + ranges_at(sizes.of) + RANGE * at);
+        add_id(&items, knowledge.bytes + sync_ranges_at(sizes.of) + SYNC_RANGE_LENGTH * at);
 }
 
 static void add_records(struct part table)
@@ -107,9 +108,9 @@ static void add_records(struct part table)
     uint64_t at = 0;
     const uint8_t *record;
     while ((record = next_record(table, &at))) {
-        add_id(&items, record + RECORD_ITEM);
-        add_id(&replicas, record + RECORD_CHANGE);
-        add_id(&replicas, record + RECORD_CREATE);
+        add_id(&items, record + SYNC_RECORD_ITEM);
+        add_id(&replicas, record + SYNC_RECORD_CHANGE);
+        add_id(&replicas, record + SYNC_RECORD_CREATE);
     }
 }
 
@@ -118,11 +119,11 @@ void add_ids(const struct file *file)
     enum kind kind = kind_of(file);
     add_knowledge(knowledge_of(file));
     if (kind == STORE)
-        add_id(&replicas, file->bytes + STORE_OWN);
+        add_id(&replicas, file->bytes + SYNC_STORE_OWN);
     if (kind == BATCH) {
         add_knowledge(needed_of(file));
-        add_id(&items, file->bytes + BATCH_FIRST);
-        add_id(&items, file->bytes + BATCH_LAST);
+        add_id(&items, file->bytes + SYNC_BATCH_FIRST);
+        add_id(&items, file->bytes + SYNC_BATCH_LAST);
     }
     if (kind != KNOWLEDGE)
         add_records(records_of(file));
@@ -151,12 +152,12 @@ void show_kind(const struct file *file)
         show_count(sizes.of[3], "range", "ranges");
         printf("%s\n", is_normal(knowledge) ? "" : "; not in normal form");
     } else if (kind == STORE) {
-        printf("store of replica %s, %zu bytes: ", id_text(&replicas, file->bytes + STORE_OWN, first), file->n);
-        show_count(records_of(file).n / RECORD, "record\n", "records\n");
+        printf("store of replica %s, %zu bytes: ", id_text(&replicas, file->bytes + SYNC_STORE_OWN, first), file->n);
+        show_count(records_of(file).n / SYNC_RECORD_LENGTH, "record\n", "records\n");
     } else {
-        printf("batch for items %s to %s, %zu bytes: ", id_text(&items, file->bytes + BATCH_FIRST, first),
-               id_text(&items, file->bytes + BATCH_LAST, last), file->n);
-        show_count(records_of(file).n / RECORD, "record\n", "records\n");
+        printf("batch for items %s to %s, %zu bytes: ", id_text(&items, file->bytes + SYNC_BATCH_FIRST, first),
+               id_text(&items, file->bytes + SYNC_BATCH_LAST, last), file->n);
+        show_count(records_of(file).n / SYNC_RECORD_LENGTH, "record\n", "records\n");
     }
 }
 
@@ -171,12 +172,13 @@ static void show_ticks(struct part knowledge)
     }
     strcpy(cells[0][0], "from item");
     for (row = 1; row <= g; row++)
-        id_text(&items, knowledge.bytes + ranges_at(sizes.of) + RANGE * (row - 1), cells[row][0]);
+        id_text(&items, knowledge.bytes + sync_ranges_at(sizes.of) + SYNC_RANGE_LENGTH * (row - 1), cells[row][0]);
     for (column = 1; column <= r; column++) {
-        const uint8_t *replica = knowledge.bytes + KNOWLEDGE_REPLICAS + REPLICA * (column - 1);
+        const uint8_t *replica = knowledge.bytes + SYNC_KNOWLEDGE_REPLICAS + SYNC_REPLICA * (column - 1);
         id_text(&replicas, replica, cells[0][column]);
         for (row = 1; row <= g; row++)
-            put_tick(cells[row][column], known_tick(knowledge, knowledge.bytes + ranges_at(sizes.of) + RANGE * (row - 1), replica));
+            put_tick(cells[row][column],
+                     known_tick(knowledge, knowledge.bytes + sync_ranges_at(sizes.of) + SYNC_RANGE_LENGTH * (row - 1), replica));
     }
     print_table(1 + g, 1 + r, 1);
 }
@@ -191,7 +193,7 @@ static void put_item_name(char *cell, const uint8_t *item)
 static void put_version(char *cell, const uint8_t *version)
 {
     char text[ID_TEXT];
-    snprintf(cell, CELL, "%s %" PRIu64, id_text(&replicas, version, text), number_at(version + VERSION_TICK, 8));
+    snprintf(cell, CELL, "%s %" PRIu64, id_text(&replicas, version, text), sync_number_at(version + SYNC_VERSION_TICK, 8));
 }
 
 /* Whether one of the records has a name. */
@@ -200,7 +202,7 @@ static int has_names(struct part table)
     uint64_t at = 0;
     const uint8_t *record;
     while ((record = next_record(table, &at)))
-        if (name_of(record + RECORD_ITEM))
+        if (name_of(record + SYNC_RECORD_ITEM))
             return 1;
     return 0;
 }
@@ -215,16 +217,16 @@ static void show_records(struct part table)
     for (column = 0; column < columns; column++)
         strcpy(cells[0][column], titles[column]);
     for (row = 1; row < ROWS && (record = next_record(table, &at)); row++) {
-        int live = record[0] == KIND_LIVE;
-        id_text(&items, record + RECORD_ITEM, cells[row][0]);
+        int live = record[0] == SYNC_KIND_LIVE;
+        id_text(&items, record + SYNC_RECORD_ITEM, cells[row][0]);
         strcpy(cells[row][1], live ? "live" : "deleted");
-        put_version(cells[row][2], record + RECORD_CHANGE);
-        put_version(cells[row][3], record + RECORD_CREATE);
+        put_version(cells[row][2], record + SYNC_RECORD_CHANGE);
+        put_version(cells[row][3], record + SYNC_RECORD_CREATE);
         strcpy(cells[row][4], "-");
         if (live)
-            tag_text(record + RECORD_TAG, cells[row][4]);
+            tag_text(record + SYNC_RECORD_TAG, cells[row][4]);
         if (columns == 6)
-            put_item_name(cells[row][5], record + RECORD_ITEM);
+            put_item_name(cells[row][5], record + SYNC_RECORD_ITEM);
     }
     print_table(row, columns, columns);
 }
@@ -256,42 +258,44 @@ void show_list(struct part table)
     const uint8_t *record;
     char item[ID_TEXT], tag[ID_TEXT];
     full_ids = 1;
-    while ((record = next_record(table, &at)))
-        if (record[0] == KIND_LIVE)
-            printf("%s %s%s%s\n", id_text(&items, record + RECORD_ITEM, item), tag_text(record + RECORD_TAG, tag),
-                   name_of(record + RECORD_ITEM) ? " " : "", name_of(record + RECORD_ITEM) ? name_of(record + RECORD_ITEM) : "");
+    while ((record = next_record(table, &at))) {
+        const char *name = name_of(record + SYNC_RECORD_ITEM);
+        if (record[0] == SYNC_KIND_LIVE)
+            printf("%s %s%s%s\n", id_text(&items, record + SYNC_RECORD_ITEM, item), tag_text(record + SYNC_RECORD_TAG, tag),
+                   name ? " " : "", name ? name : "");
+    }
 }
 
 void show_record(const uint8_t *record)
 {
     char text[ID_TEXT];
-    printf("%s, changed by %s at tick %" PRIu64, record[0] == KIND_LIVE ? "live" : "deleted",
-           id_text(&replicas, record + RECORD_CHANGE, text), number_at(record + RECORD_CHANGE + VERSION_TICK, 8));
-    printf(", created by %s at tick %" PRIu64, id_text(&replicas, record + RECORD_CREATE, text),
-           number_at(record + RECORD_CREATE + VERSION_TICK, 8));
-    if (record[0] == KIND_LIVE)
-        printf(", tag %s", tag_text(record + RECORD_TAG, text));
+    printf("%s, changed by %s at tick %" PRIu64, record[0] == SYNC_KIND_LIVE ? "live" : "deleted",
+           id_text(&replicas, record + SYNC_RECORD_CHANGE, text), sync_number_at(record + SYNC_RECORD_CHANGE + SYNC_VERSION_TICK, 8));
+    printf(", created by %s at tick %" PRIu64, id_text(&replicas, record + SYNC_RECORD_CREATE, text),
+           sync_number_at(record + SYNC_RECORD_CREATE + SYNC_VERSION_TICK, 8));
+    if (record[0] == SYNC_KIND_LIVE)
+        printf(", tag %s", tag_text(record + SYNC_RECORD_TAG, text));
 }
 
 static void json_version(const char *name, const uint8_t *version)
 {
     json_open(name, '{');
-    json_digits("replica", version, REPLICA);
-    json_number("tick", number_at(version + VERSION_TICK, 8));
+    json_digits("replica", version, SYNC_REPLICA);
+    json_number("tick", sync_number_at(version + SYNC_VERSION_TICK, 8));
     json_close('}');
 }
 
 void json_record(const uint8_t *record)
 {
-    const char *name = name_of(record + RECORD_ITEM);
-    json_digits("item", record + RECORD_ITEM, ITEM);
+    const char *name = name_of(record + SYNC_RECORD_ITEM);
+    json_digits("item", record + SYNC_RECORD_ITEM, SYNC_ITEM);
     if (name)
         json_text("name", name);
-    json_text("state", record[0] == KIND_LIVE ? "live" : "deleted");
-    json_version("changed", record + RECORD_CHANGE);
-    json_version("created", record + RECORD_CREATE);
-    if (record[0] == KIND_LIVE)
-        json_digits("tag", record + RECORD_TAG, TAG);
+    json_text("state", record[0] == SYNC_KIND_LIVE ? "live" : "deleted");
+    json_version("changed", record + SYNC_RECORD_CHANGE);
+    json_version("created", record + SYNC_RECORD_CREATE);
+    if (record[0] == SYNC_KIND_LIVE)
+        json_digits("tag", record + SYNC_RECORD_TAG, SYNC_TAG);
 }
 
 /* The ticks from each range's item on, of each replica that has one there. */
@@ -302,14 +306,14 @@ static void json_ticks(const char *name, struct part knowledge)
     char text[ID_TEXT];
     json_open(name, '[');
     for (row = 0; row < sizes.of[3]; row++) {
-        const uint8_t *item = knowledge.bytes + ranges_at(sizes.of) + RANGE * row;
+        const uint8_t *item = knowledge.bytes + sync_ranges_at(sizes.of) + SYNC_RANGE_LENGTH * row;
         json_open(NULL, '{');
-        json_digits("from", item, ITEM);
+        json_digits("from", item, SYNC_ITEM);
         json_open("ticks", '{');
         for (column = 0; column < sizes.of[0]; column++) {
-            const uint8_t *replica = knowledge.bytes + KNOWLEDGE_REPLICAS + REPLICA * column;
+            const uint8_t *replica = knowledge.bytes + SYNC_KNOWLEDGE_REPLICAS + SYNC_REPLICA * column;
             tick = known_tick(knowledge, item, replica);
-            all_digits(replica, REPLICA, text);
+            all_digits(replica, SYNC_REPLICA, text);
             if (tick > 0)
                 json_number(text, tick);
         }
@@ -332,10 +336,10 @@ void json_kind(const struct file *file)
     if (kind == KNOWLEDGE)
         json_truth("normal_form", is_normal(knowledge_of(file)));
     if (kind == STORE)
-        json_digits("replica", file->bytes + STORE_OWN, REPLICA);
+        json_digits("replica", file->bytes + SYNC_STORE_OWN, SYNC_REPLICA);
     if (kind == BATCH) {
-        json_digits("first", file->bytes + BATCH_FIRST, ITEM);
-        json_digits("last", file->bytes + BATCH_LAST, ITEM);
+        json_digits("first", file->bytes + SYNC_BATCH_FIRST, SYNC_ITEM);
+        json_digits("last", file->bytes + SYNC_BATCH_LAST, SYNC_ITEM);
     }
 }
 

@@ -25,10 +25,19 @@ static _Noreturn void become(char *const *command, int in, int out)
     _exit(127);
 }
 
+/* A pipe. Its ends are none of the three standard descriptors, even where one of these is closed: those are the command's own. */
 static void make_pipe(int ends[2])
 {
-    if (pipe2(ends, O_CLOEXEC) != 0)
+    int low[2], at;
+    if (pipe2(low, O_CLOEXEC) != 0)
         trouble("a pipe", "cannot be made: %s", strerror(errno));
+    for (at = 0; at < 2; at++) {
+        ends[at] = fcntl(low[at], F_DUPFD_CLOEXEC, STDERR_FILENO + 1);
+        if (ends[at] < 0)
+            trouble("a pipe", "cannot be made: %s", strerror(errno));
+    }
+    close(low[0]);
+    close(low[1]);
 }
 
 /* Writes some of the input. How much is done; all of it if the program reads no more. */

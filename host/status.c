@@ -5,7 +5,7 @@
 #include <string.h>
 
 #include "commands.h"
-#include "format.h"
+#include "sync_format.h"
 #include "json.h"
 #include "messages.h"
 #include "options.h"
@@ -37,8 +37,8 @@ static struct figures figures_of(const struct file *store)
                               0, 0, own_tick(store)};
     uint64_t sizes[4] = {0}, at, tick;
     sync_check(knowledge.bytes, knowledge.n, sizes);
-    for (at = 0; at + RECORD <= table.n; at += RECORD)
-        if (table.bytes[at] == KIND_LIVE)
+    for (at = 0; at + SYNC_RECORD_LENGTH <= table.n; at += SYNC_RECORD_LENGTH)
+        if (table.bytes[at] == SYNC_KIND_LIVE)
             figures.live++;
         else
             figures.deleted++;
@@ -46,7 +46,7 @@ static struct figures figures_of(const struct file *store)
     figures.limits[REPLICAS].count = sizes[0];
     figures.limits[RANGES].count = sizes[3];
     for (at = 0; at < sizes[0]; at++) {
-        tick = largest_tick(knowledge, knowledge.bytes + KNOWLEDGE_REPLICAS + REPLICA * at);
+        tick = largest_tick(knowledge, knowledge.bytes + SYNC_KNOWLEDGE_REPLICAS + SYNC_REPLICA * at);
         if (tick > figures.limits[TICK].count)
             figures.limits[TICK].count = tick;
     }
@@ -94,7 +94,7 @@ static void json_status(const struct file *store, const struct figures *figures,
     size_t at;
     json_open(NULL, '{');
     json_text("folder", store->name);
-    json_digits("replica", store->bytes + STORE_OWN, REPLICA);
+    json_digits("replica", store->bytes + SYNC_STORE_OWN, SYNC_REPLICA);
     for (at = 0; at < TICK; at++) {
         json_open(figures->limits[at].what, '{');
         json_number("count", figures->limits[at].count);
@@ -123,7 +123,7 @@ static void say_status(const struct file *store, const struct figures *figures, 
 {
     char text[ID_TEXT];
     size_t at;
-    printf("%s is replica %s\n", store->name, id_text(&replicas, store->bytes + STORE_OWN, text));
+    printf("%s is replica %s\n", store->name, id_text(&replicas, store->bytes + SYNC_STORE_OWN, text));
     printf("  records       %" PRIu64 " of %" PRIu64 ": %" PRIu64 " live, %" PRIu64 " deleted\n", figures->limits[RECORDS].count,
            figures->limits[RECORDS].most, figures->live, figures->deleted);
     printf("  replicas      %" PRIu64 " of %" PRIu64 "\n", figures->limits[REPLICAS].count, figures->limits[REPLICAS].most);

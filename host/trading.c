@@ -9,7 +9,7 @@
 
 #include "changes.h"
 #include "commands.h"
-#include "format.h"
+#include "sync_format.h"
 #include "json.h"
 #include "messages.h"
 #include "names.h"
@@ -26,8 +26,8 @@ static struct changes changes;
 struct span read_span(char **arguments)
 {
     struct span span;
-    memset(span.first, 0, ITEM);
-    memset(span.last, 255, ITEM);
+    memset(span.first, 0, SYNC_ITEM);
+    memset(span.last, 255, SYNC_ITEM);
     if (arguments[0]) {
         if (!arguments[1])
             wrong_usage("a span has two items, FIRST and LAST");
@@ -52,11 +52,13 @@ int command_knowledge(char **arguments)
 
 /* ---- a store that was put back */
 
-/* Says that others know later edits of the replica than its store has. */
-static void say_behind(const char *name, const char *number)
+/* Says that others know later edits of the replica than its store has, and holds the folder. That it is held is said when it is. */
+static void hold_behind(const char *name, const char *number, uint64_t known)
 {
     fflush(stdout);
-    fprintf(stderr, "collector: %s: %s%s\n%s", name, number, behind_words, behind_more);
+    fprintf(stderr, "collector: %s: %s%s\n", name, number, behind_words);
+    hold(&replica, &store, known);
+    fputs(behind_more, stderr);
 }
 
 /*
@@ -65,15 +67,14 @@ static void say_behind(const char *name, const char *number)
  */
 static void need_no_later_edits(const char *name, struct part knowledge)
 {
-    uint64_t known = largest_tick(knowledge, store.bytes + STORE_OWN);
+    uint64_t known = largest_tick(knowledge, store.bytes + SYNC_STORE_OWN);
     if (known <= own_tick(&store) || !is_folder(name))
         return;
     open_locked(&replica, name);
     read_store(&replica, &store);
     need_store(&store);
-    if (replica.last.is_there && memcmp(replica.last.own, store.bytes + STORE_OWN, REPLICA) == 0 && known > own_tick(&store)) {
-        say_behind(name, "");
-        hold(&replica, &store, known);
+    if (replica.last.is_there && known > own_tick(&store)) {
+        hold_behind(name, "", known);
         exit(STATUS_FILES);
     }
     close_folder(&replica.folder);
@@ -91,7 +92,7 @@ static void make_batch(const char *folder, const char *asked, char **span_argume
     load(&other, asked);
     knowledge = knowledge_of(&other);
     need_no_later_edits(folder, knowledge);
-    number = sync_make(store.bytes, store.n, knowledge.bytes, knowledge.n, span.first, ITEM, span.last, ITEM, result.bytes,
+    number = sync_make(store.bytes, store.n, knowledge.bytes, knowledge.n, span.first, SYNC_ITEM, span.last, SYNC_ITEM, result.bytes,
                        sizeof result.bytes, &written);
     if (number != 0)
         refused(number == SYNC_ARGUMENT ? "FIRST and LAST" : store.name, number, NULL);
@@ -123,11 +124,10 @@ int command_answer(char **arguments)
 /* Refuses with 18, in the words of its second half if that holds: then the folder is held too. */
 static _Noreturn void refuse_batch(void)
 {
-    uint64_t known = largest_tick(knowledge_of(&other), store.bytes + STORE_OWN);
+    uint64_t known = largest_tick(knowledge_of(&other), store.bytes + SYNC_STORE_OWN);
     if (known <= own_tick(&store))
         refused(other.name, SYNC_NOT_COVERED, NULL);
-    say_behind(other.name, "18: ");
-    hold(&replica, &store, known);
+    hold_behind(other.name, "18: ", known);
     exit(STATUS_REFUSED);
 }
 

@@ -2,7 +2,7 @@
  * Faults for the tests of the host program. It is linked with the program, in front of the calls that touch files (gcc -Wl,--wrap=open and
  * so on). The environment variable COLLECTOR_FAULT says what happens:
  *
- *   stop N   the program ends right after the N-th call of open, write, fsync, rename or mkdir
+ *   stop N   the program ends right after the N-th call of open, openat, write, fsync, rename, renameat, unlinkat or mkdir
  *   half N   likewise, and if that is a write only half of its bytes are written
  *   lose N   likewise, and as after a power failure the bytes of files that were not synced are lost
  *   undo N   likewise, and the first renaming that no sync of a folder has followed is undone
@@ -29,10 +29,13 @@
 #include <unistd.h>
 
 int __real_open(const char *path, int flags, ...);
+int __real_openat(int folder, const char *name, int flags, ...);
 ssize_t __real_read(int descriptor, void *bytes, size_t n);
 ssize_t __real_write(int descriptor, const void *bytes, size_t n);
 int __real_fsync(int descriptor);
 int __real_rename(const char *from, const char *to);
+int __real_renameat(int from_folder, const char *from, int to_folder, const char *to);
+int __real_unlinkat(int folder, const char *name, int flags);
 int __real_mkdir(const char *path, mode_t mode);
 int __real_flock(int descriptor, int operation);
 int __real_nanosleep(const struct timespec *time, struct timespec *left);
@@ -48,11 +51,22 @@ static int file_count;
 
 /* The renamings that no sync of a folder has followed yet; what was there before has a second name. */
 static struct {
-    char path[ROOM], before[ROOM];
+    char path[ROOM], before[ROOM + 8];
 } renamings[MOST];
 static int renaming_count;
 
 static int calls;
+
+/* The path of a name in an open folder, or of the name alone. */
+static void put_path(char path[ROOM], int folder, const char *name)
+{
+    char link[40];
+    ssize_t n = 0;
+    snprintf(link, sizeof link, "/proc/self/fd/%d", folder);
+    if (folder != AT_FDCWD && name[0] != '/' && (n = readlink(link, path, ROOM - 1)) < 0)
+        abort();
+    snprintf(path + n, (size_t)(ROOM - n), "%s%s", n > 0 ? "/" : "", name);
+}
 
 static int is_mode(const char *mode)
 {
@@ -106,27 +120,47 @@ static int fails(const char *call)
     return 1;
 }
 
+/* Keeps in mind a file that has been opened. */
+static void add_file(int descriptor, int folder, const char *name, int flags)
+{
+    int at;
+    for (at = 0; at < file_count; at++)
+        if (files[at].descriptor == descriptor)
+            files[at].descriptor = -1; /* it was closed */
+    if (descriptor < 0 || !(flags & O_WRONLY))
+        return;
+    if (file_count == MOST)
+        abort();
+    put_path(files[file_count].path, folder, name);
+    files[file_count++].descriptor = descriptor;
+}
+
 int __wrap_open(const char *path, int flags, ...)
 {
+    int descriptor;
+    if (fails("open"))
+        return -1;
+    descriptor = __real_open(path, flags); /* the program makes files with openat only */
+    add_file(descriptor, AT_FDCWD, path, flags);
+    stop("open");
+    return descriptor;
+}
+
+int __wrap_openat(int folder, const char *name, int flags, ...)
+{
     mode_t mode = 0;
-    int descriptor, at;
+    int descriptor;
     if (flags & O_CREAT) {
         va_list rest;
         va_start(rest, flags);
         mode = va_arg(rest, mode_t);
         va_end(rest);
     }
-    if (fails("open"))
+    if (fails("openat"))
         return -1;
-    descriptor = __real_open(path, flags, mode);
-    for (at = 0; at < file_count; at++)
-        if (files[at].descriptor == descriptor)
-            files[at].descriptor = -1; /* it was closed */
-    if (descriptor >= 0 && (flags & O_WRONLY) && file_count < MOST) {
-        snprintf(files[file_count].path, ROOM, "%s", path);
-        files[file_count++].descriptor = descriptor;
-    }
-    stop("open");
+    descriptor = __real_openat(folder, name, flags, mode);
+    add_file(descriptor, folder, name, flags);
+    stop("openat");
     return descriptor;
 }
 
@@ -174,23 +208,48 @@ int __wrap_fsync(int descriptor)
     return done;
 }
 
+/* Keeps in mind what a renaming is about to replace, under a second name. */
+static void add_renaming(const char *to)
+{
+    if (renaming_count == MOST)
+        abort();
+    snprintf(renamings[renaming_count].path, ROOM, "%s", to);
+    snprintf(renamings[renaming_count].before, ROOM + 8, "%s.before", to);
+    if (link(to, renamings[renaming_count].before) != 0 && errno != ENOENT)
+        abort();
+    renaming_count++;
+}
+
+int __wrap_renameat(int from_folder, const char *from, int to_folder, const char *to)
+{
+    static char from_path[ROOM], to_path[ROOM];
+    int done, at;
+    if (fails("renameat"))
+        return -1;
+    put_path(from_path, from_folder, from);
+    put_path(to_path, to_folder, to);
+    if (is_mode("undo"))
+        add_renaming(to_path);
+    done = __real_renameat(from_folder, from, to_folder, to);
+    for (at = 0; at < file_count; at++)
+        if (strcmp(files[at].path, from_path) == 0)
+            strcpy(files[at].path, to_path);
+    stop("renameat");
+    return done;
+}
+
 int __wrap_rename(const char *from, const char *to)
 {
-    int done, at;
-    if (fails("rename"))
+    return __wrap_renameat(AT_FDCWD, from, AT_FDCWD, to);
+}
+
+int __wrap_unlinkat(int folder, const char *name, int flags)
+{
+    int done;
+    if (fails("unlinkat"))
         return -1;
-    if (is_mode("undo") && renaming_count < MOST) {
-        snprintf(renamings[renaming_count].path, ROOM, "%s", to);
-        snprintf(renamings[renaming_count].before, ROOM, "%s.before", to);
-        if (link(to, renamings[renaming_count].before) != 0 && errno != ENOENT)
-            abort();
-        renaming_count++;
-    }
-    done = __real_rename(from, to);
-    for (at = 0; at < file_count; at++)
-        if (strcmp(files[at].path, from) == 0)
-            snprintf(files[at].path, ROOM, "%s", to);
-    stop("rename");
+    done = __real_unlinkat(folder, name, flags);
+    stop("unlinkat");
     return done;
 }
 
