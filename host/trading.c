@@ -215,6 +215,7 @@ int command_apply(char **arguments)
 int command_exchange(char **arguments)
 {
     static uint8_t answered[FILE_MOST];
+    static struct path name;
     struct part knowledge;
     const uint8_t *asked;
     size_t n, got;
@@ -232,7 +233,8 @@ int command_exchange(char **arguments)
         trouble(arguments[1], "ended with status %d; " NOTHING_CHANGED, ended);
     if (got > sizeof answered)
         trouble(arguments[1], "printed over %zu bytes, which no batch has; " NOTHING_CHANGED, sizeof answered);
-    take_file(&other, arguments[1], answered, got);
+    name = path_of("the answer of ", arguments[1], "");
+    take_file(&other, name.text, answered, got);
     return apply_to(arguments[0]);
 }
 
