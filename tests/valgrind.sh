@@ -15,5 +15,7 @@ cargo build --quiet --release --offline --locked --bin inputs
 echo "valgrind: $SYNC_INPUTS inputs, calls of each row likewise, and $SYNC_LISTS lists of calls, under memcheck"
 valgrind --quiet --tool=memcheck --leak-check=full --error-exitcode=1 target/release/inputs
 echo "valgrind: the host program under memcheck"
-COLLECTOR_UNDER="valgrind --quiet --tool=memcheck --leak-check=full --error-exitcode=99" ./try-host
+export COLLECTOR_UNDER="valgrind --quiet --tool=memcheck --leak-check=full --error-exitcode=99"
+./try-host
+./try-scan
 echo "valgrind: no errors"
