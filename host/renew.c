@@ -86,10 +86,13 @@ static void load_stores(void)
 static void load_old_names(void)
 {
     size_t at;
-    for (at = folder_count; at-- > 0;) {
-        if (at == 0)
-            forget_seen();
+    for (at = 1; at < folder_count; at++)
         load_names_of(folders[at]);
+    forget_seen();
+    if (is_folder(folders[0])) {
+        struct folder first = open_folder(folders[0]);
+        need_names(&first);
+        close_folder(&first);
     }
 }
 
