@@ -7,7 +7,7 @@ _collector() {
   case $command in
     edit | delete) options='--wait' ;;
     new | seal) options='--key --wait' ;;
-    scan) options='--dry-run --list --json --wait' ;;
+    scan) options='--dry-run --empty --list --json --wait' ;;
     status) options='--json --full' ;;
     renew) options='--id --key --json --full --wait' ;;
     knowledge | answer) options='--key --bare' ;;

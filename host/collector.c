@@ -15,7 +15,7 @@
 
 struct options options;
 
-enum option { FULL = 1, LIST = 2, JSON = 4, RUN = 8, WAIT = 16, BARE_FILES = 32, KEY = 64, DRY_RUN = 128, ID = 256 };
+enum option { FULL = 1, LIST = 2, JSON = 4, RUN = 8, WAIT = 16, BARE_FILES = 32, KEY = 64, DRY_RUN = 128, ID = 256, EMPTY = 512 };
 
 static const struct {
     const char *name;
@@ -26,6 +26,7 @@ static const struct {
                     {"--list", LIST, &options.list, NULL},
                     {"--json", JSON, &options.json, NULL},
                     {"--dry-run", DRY_RUN, &options.dry_run, NULL},
+                    {"--empty", EMPTY, &options.empty, NULL},
                     {"--bare", BARE_FILES, &options.bare, NULL},
                     {"--run", RUN, NULL, &options.run},
                     {"--key", KEY, NULL, &options.key},
@@ -44,9 +45,9 @@ static const struct command {
     {"new", help_new, 1, 2, 0, command_new, FULL | WAIT | KEY},
     {"edit", help_edit, 3, 3, 1, command_edit, FULL | WAIT},
     {"delete", help_delete, 2, 2, 1, command_delete, FULL | WAIT},
-    {"scan", help_scan, 2, 2, 1, command_scan, FULL | LIST | JSON | WAIT | DRY_RUN},
+    {"scan", help_scan, 2, 2, 1, command_scan, FULL | LIST | JSON | WAIT | DRY_RUN | EMPTY},
     {"status", help_status, 1, 1, 1, command_status, FULL | JSON},
-    {"renew", help_renew, 2, ANY, 0, command_renew, FULL | JSON | WAIT | KEY | ID},
+    {"renew", help_renew, 2, ANY, ANY, command_renew, FULL | JSON | WAIT | KEY | ID},
     {"seal", help_seal, 1, 1, 0, command_seal, WAIT | KEY},
     {"knowledge", help_knowledge, 2, 2, 1, command_knowledge, FULL | BARE_FILES | KEY},
     {"make", help_make, 3, 5, 2, command_make, FULL | WAIT | BARE_FILES | KEY},

@@ -189,6 +189,8 @@ const char help_scan[] =
     "its name, its tag from its content; the names stand in a file of FOLDER.\n"
     "\n"
     "  --dry-run   only says what would change; the status is 1 if something would\n"
+    "  --empty     DIRECTORY may be empty: without this several files that are gone\n"
+    "              from an empty directory are not deleted, for a disk may be missing\n"
     "  --list      a line for each change: edited or deleted, ITEM, TAG or -, NAME\n"
     "\n"
     "Options: --json, --wait SECONDS\n";
@@ -207,7 +209,8 @@ const char help_renew[] =
     "directory would be deleted.\n"
     "\n"
     "  --id ID      the id of the new replica; drawn at random if none is given\n"
-    "  --key FILE   the key of the new folder\n"
+    "  --key FILE   the key of the new folder; without it that of the first FOLDER\n"
+    "               that has one\n"
     "\n"
     "Options: --json, --full, --wait SECONDS\n";
 

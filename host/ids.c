@@ -1,6 +1,7 @@
 #include "ids.h"
 
 #include <stdio.h>
+#include <stdlib.h>
 #include <string.h>
 
 #include "messages.h"
@@ -42,8 +43,13 @@ void add_id(struct ids *ids, const uint8_t *id)
     for (at = 0; is_long(ids, id) && at < ids->count; at++)
         while (is_long(ids, ids->id[at]) && memcmp(ids->id[at], id, ids->front) == 0)
             ids->front++;
-    if (ids->count < sizeof ids->id / sizeof *ids->id)
-        ids->id[ids->count++] = id;
+    if (ids->count == ids->room) {
+        ids->room = 2 * ids->room + 256;
+        ids->id = realloc(ids->id, ids->room * sizeof *ids->id);
+    }
+    if (!ids->id)
+        trouble("the ids", "have no room in memory");
+    ids->id[ids->count++] = id;
 }
 
 static int is_top(const struct ids *ids, const uint8_t *id)

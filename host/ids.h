@@ -14,8 +14,8 @@
 struct ids {
     size_t length;        /* of each, in bytes */
     size_t front;         /* how many bytes of a long one are shown */
-    size_t count;
-    const uint8_t *id[1024];
+    size_t count, room;
+    const uint8_t **id;
 };
 extern struct ids items, replicas;
 

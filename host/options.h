@@ -4,7 +4,7 @@
 #define OPTIONS_H
 
 struct options {
-    int json, list, bare, dry_run;
+    int json, list, bare, dry_run, empty;
     const char *key, *run, *id;
 };
 extern struct options options;

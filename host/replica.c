@@ -474,7 +474,7 @@ void save_new(const char *name, const struct file *store)
                 replica.last.tick);
     has_key = replica.key.n > 0;
     if (!has_key)
-        replica.key = given_key;
+        replica.key = files_key;
     if (!has_key && replica.key.n > 0)
         prepare_key(&key, &replica);
     /* The tick before the store, so that no store of ours is ever without one. */

@@ -367,6 +367,14 @@ static void say(const struct file *after)
         say_steps(after);
 }
 
+/* A directory from which several files are gone and in which there is nothing may be the place of a disk that is not there. */
+static void need_files(void)
+{
+    if (file_count == 0 && step_count > 1 && !options.empty)
+        trouble(top_name, "has no file in it, and %zu were there at the last scan: is a disk missing? " NOTHING_CHANGED "\n"
+                "  If they are gone for good, scan with --empty, which deletes them here and then on all servers.", step_count);
+}
+
 /* Opens the folder to change it, or only to read it if nothing is to be changed. */
 static void open_to_scan(const char *name)
 {
@@ -395,6 +403,7 @@ int command_scan(char **arguments)
         say(draft.now);
         return step_count > 0 ? STATUS_NO : 0;
     }
+    need_files();
     /* The names are put in their place behind the store: a name that is behind it is no fault, but one that is ahead hides an edit. */
     is_other = prepare_names(&names, &replica.folder, draft.now);
     if (step_count > 0) {
