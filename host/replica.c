@@ -149,11 +149,17 @@ static struct last read_last(const struct folder *folder, const struct key *key)
     return last;
 }
 
-/* Reads what stands beside the store. */
+static int is_keyed(const struct folder *folder, const char *name)
+{
+    size_t n = read_in(folder, name, raw, sizeof raw);
+    return n != NOT_THERE && open_envelope(&no_key, raw, n).form == KEYED;
+}
+
+/* Reads what stands beside the store. A key that was given is that of the folder too if its files have one and it is not there. */
 static void read_beside(struct replica *replica)
 {
     read_folder_key(&replica->key, &replica->folder);
-    if (replica->key.n == 0)
+    if (replica->key.n == 0 && given_key.n > 0 && (is_keyed(&replica->folder, "last-tick") || is_keyed(&replica->folder, "store")))
         replica->key = given_key;
     replica->last = read_last(&replica->folder, &replica->key);
 }
@@ -469,6 +475,8 @@ void save_new(const char *name, const struct file *store)
         trouble(name, "its store is gone, and had given ticks up to %" PRIu64 "; make the new replica in another folder",
                 replica.last.tick);
     read_folder_key(&there, &replica.folder);
+    if (replica.key.n == 0)
+        replica.key = given_key;
     if (there.n == 0 && replica.key.n > 0)
         prepare_key(&key, &replica);
     /* The tick before the store, so that no store of ours is ever without one. */
