@@ -149,6 +149,7 @@ static struct last read_last(const struct folder *folder, const struct key *key)
     return last;
 }
 
+/* Whether a file of a folder is there and says that it is sealed with a key. */
 static int is_keyed(const struct folder *folder, const char *name)
 {
     size_t n = read_in(folder, name, raw, sizeof raw);
