@@ -150,7 +150,7 @@ static struct last read_last(const struct folder *folder, const struct key *key)
     return last;
 }
 
-/* Reads what stands beside the store. */
+/* Reads what stands beside the store. A key that was given is that of the folder too if its files have one and it is not there. */
 static void read_beside(struct replica *replica)
 {
     read_folder_key(&replica->key, &replica->folder);
@@ -443,11 +443,15 @@ static void prepare_tick(struct replacement *new, const struct replica *replica,
 
 void hold(struct replica *replica, const struct file *store, uint64_t tick)
 {
-    struct replacement new;
+    struct replacement new, place;
     /* A store from elsewhere is held as it is, and the tick of the folder's own replica must not be forgotten for it. */
     if (tick <= replica->last.tick || memcmp(replica->last.own, store->bytes + SYNC_STORE_OWN, SYNC_REPLICA) != 0)
         return;
     prepare_tick(&new, replica, store->bytes + SYNC_STORE_OWN, tick);
+    if (replica->last.form == BARE) { /* a store without an envelope could no longer be read beside a tick with one */
+        prepare_own(&place, replica, STORE, store->bytes, store->n);
+        finish(&place, "the folder could not be held");
+    }
     finish(&new, "the folder could not be held");
     replica->last.tick = tick;
 }

@@ -82,7 +82,7 @@ static const char *held_words(const struct replica *replica, const struct file *
     static char text[160];
     if (is_latest(&replica->last, store))
         return NULL;
-    if (!replica->last.is_there)
+    if (!replica->last.is_there || memcmp(replica->last.own, store->bytes + SYNC_STORE_OWN, SYNC_REPLICA) != 0)
         return "the store was put here from elsewhere; it is only read";
     snprintf(text, sizeof text, "held: its own tick is %" PRIu64 ", and this replica has given ticks up to %" PRIu64
              "; it is only read", own_tick(store), replica->last.tick);

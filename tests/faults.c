@@ -12,6 +12,7 @@
  *   broken   each read fails: input or output error
  *   busy     another program has the lock, and time flies
  *
+ * half, lose and undo count from the first file or folder on that the program makes: before that they would do what stop does.
  * If COLLECTOR_UNSYNCED is set, fsync does nothing: what is then lost shows that the tests would notice a missing one. A program that is
  * stopped says after which call, and has the status 77.
  */
@@ -56,6 +57,7 @@ static struct {
 static int renaming_count;
 
 static int calls;
+static int has_begun; /* to change something */
 
 /* The path of a name in an open folder, or of the name alone. */
 static void put_path(char path[ROOM], int folder, const char *name)
@@ -112,7 +114,8 @@ static void stop(const char *call)
 /* Counts a call that is to be made. Whether it fails. */
 static int fails(const char *call)
 {
-    calls++;
+    if (has_begun || is_mode("stop") || is_mode("full"))
+        calls++;
     if (!is_now() || !is_mode("full"))
         return 0;
     fprintf(stderr, "no space for %s\n", call);
@@ -152,6 +155,7 @@ int __wrap_openat(int folder, const char *name, int flags, ...)
     int descriptor;
     if (flags & O_CREAT) {
         va_list rest;
+        has_begun = 1;
         va_start(rest, flags);
         mode = va_arg(rest, mode_t);
         va_end(rest);
@@ -256,6 +260,7 @@ int __wrap_unlinkat(int folder, const char *name, int flags)
 int __wrap_mkdir(const char *path, mode_t mode)
 {
     int done;
+    has_begun = 1;
     if (fails("mkdir"))
         return -1;
     done = __real_mkdir(path, mode);
