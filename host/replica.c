@@ -49,13 +49,14 @@ void choose_key(char **names, int count)
         given_key.n = read_named(options.key, given_key.bytes, sizeof given_key.bytes);
         trim_key(&given_key, is_standard(options.key) ? "standard input" : options.key);
     }
-    files_key = given_key;
     for (at = 0; at < count && files_key.n == 0; at++)
         if (names[at] && is_folder(names[at])) {
             struct folder folder = open_folder(names[at]);
             read_folder_key(&files_key, &folder);
             close_folder(&folder);
         }
+    if (files_key.n == 0)
+        files_key = given_key;
     if (options.bare && files_key.n > 0)
         wrong_usage("--bare is not for servers with a key; collector pack and unpack change the form of a file");
 }

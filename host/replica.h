@@ -49,7 +49,7 @@ struct replica {
 /* By its first byte, which is all that is looked at. */
 enum kind kind_of(const struct file *file);
 
-/* Sets the key of files that stand in no replica's folder: that of --key, or of the first of the names that is a folder with a key. */
+/* Sets the key of files that stand in no replica's folder: that of the first of the names that is a folder with a key, or of --key. */
 void choose_key(char **names, int count);
 
 /* Opens a replica's folder, locked or not, and reads its key and its last tick; reads its store. */
