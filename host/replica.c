@@ -104,8 +104,12 @@ static struct opened open_own(const struct folder *folder, const char *name, con
     struct opened opened = open_envelope(key->n == 0 && is_keyed(raw, n) ? &given_key : key, raw, n);
     struct path place = inside(folder->name, name);
     int is_before = n > 0 && !is_envelope(raw, n) && strcmp(name, "last-tick") == 0; /* the store beside it may then be so too */
-    if (opened.fault && key->n > 0 && (is_before || !open_envelope(&no_key, raw, n).fault))
-        trouble(place.text, "is not sealed with the key of its folder; collector seal %s puts it under the key", folder->name);
+    if (opened.fault && key->n > 0 && (is_before || !open_envelope(&no_key, raw, n).fault)) {
+        if (strcmp(name, "last-tick") == 0)
+            trouble(place.text, "is not sealed with the key of its folder; collector seal %s puts it under the key", folder->name);
+        /* The store is sealed before the tick, which was read already. */
+        trouble(place.text, "is not sealed with the key of its folder: something else put it there%s", way_out);
+    }
     if (opened.fault)
         trouble(place.text, "%s%s", opened.fault, opened.is_damaged ? way_out : "");
     if (strcmp(kind_names[opened.kind], name) != 0)
@@ -507,17 +511,19 @@ void save(struct replica *replica, const struct file *store)
 
 /* ---- another key */
 
-/* Opens a file of a folder under any of the keys; its form before. */
-static struct opened open_any(const struct folder *folder, const char *name, const struct key *keys, size_t count, int may_bare)
+/* Opens a file of a folder under one of the keys, or as it is if it may be bare. Which of the keys it was becomes *which. */
+static struct opened open_any(const struct folder *folder, const char *name, const struct key *keys, size_t count, int may_bare,
+                              size_t *which)
 {
     struct opened opened = {NULL, 0, LAST_TICK, BARE, raw, read_in(folder, name, raw, sizeof raw)};
-    size_t at, n = opened.n;
+    size_t n = opened.n;
     if (n == NOT_THERE)
         trouble(folder->name, "has no file %s, so there is nothing to seal", name);
+    *which = count;
     if (may_bare && !is_envelope(raw, n))
         return opened;
-    for (at = 0; at < count; at++) {
-        opened = open_envelope(&keys[at], raw, n);
+    for (*which = 0; *which < count; (*which)++) {
+        opened = open_envelope(&keys[*which], raw, n);
         if (!opened.fault && strcmp(kind_names[opened.kind], name) == 0)
             return opened;
     }
@@ -532,6 +538,7 @@ enum form seal_again(const char *name, enum form *after)
     struct replacement tick, place;
     struct opened opened;
     enum form before;
+    size_t which;
     replica.folder = open_folder(name);
     lock_folder(&replica.folder);
     read_folder_key(&replica.key, &replica.folder);
@@ -539,12 +546,13 @@ enum form seal_again(const char *name, enum form *after)
     keys[0] = replica.key;
     keys[1] = given_key;
     keys[2] = no_key;
-    opened = open_any(&replica.folder, "last-tick", keys, 3, 1);
+    opened = open_any(&replica.folder, "last-tick", keys, 3, 1, &which);
     replica.last.form = opened.form;
     replica.last.is_there = read_last_text(opened.bytes, opened.n, &replica.last);
     if (!replica.last.is_there)
         trouble(inside(name, "last-tick").text, "is not as this program wrote it");
-    opened = open_any(&replica.folder, "store", keys, 3, opened.form == BARE);
+    /* The store is sealed first: beside a tick that is under the folder's key already, only a store that is too is the replica's. */
+    opened = open_any(&replica.folder, "store", keys, which == 0 ? 1 : 3, opened.form == BARE, &which);
     before = opened.form;
     put_bytes(&store, name, opened.form, opened.bytes, opened.n);
     need_store(&store);
