@@ -483,6 +483,8 @@ void save_new(const char *name, const struct file *store)
         trouble(name, "its store is gone, and had given ticks up to %" PRIu64 "; make the new replica in another folder",
                 replica.last.tick);
     has_key = replica.key.n > 0;
+    if (has_key && given_key.n > 0 && (replica.key.n != given_key.n || memcmp(replica.key.bytes, given_key.bytes, given_key.n) != 0))
+        trouble(name, "there is another key in it already; " NOTHING_CHANGED);
     if (!has_key)
         replica.key = given_key;
     if (!has_key && replica.key.n > 0)
