@@ -43,20 +43,29 @@ struct path inside(const char *folder, const char *name)
     return path_of(folder, length > 0 && folder[length - 1] == '/' ? "" : "/", name);
 }
 
-int is_folder(const char *name)
-{
-    struct stat about;
-    return stat(name, &about) == 0 && S_ISDIR(about.st_mode);
-}
-
 int is_standard(const char *name)
 {
     return strcmp(name, "-") == 0;
 }
 
+int is_folder(const char *name)
+{
+    struct stat about;
+    return !is_standard(name) && stat(name, &about) == 0 && S_ISDIR(about.st_mode);
+}
+
+/* Ends the program if the name of a folder is the one of standard input. */
+static void need_folder_name(const char *name)
+{
+    if (is_standard(name))
+        wrong_usage("- is standard input or output, and the command takes a folder there; a folder of that name is ./-");
+}
+
 struct folder open_folder(const char *name)
 {
-    struct folder folder = {name, open(name, O_RDONLY | O_DIRECTORY | O_CLOEXEC)};
+    struct folder folder = {name, -1};
+    need_folder_name(name);
+    folder.descriptor = open(name, O_RDONLY | O_DIRECTORY | O_CLOEXEC);
     if (folder.descriptor >= 0)
         return folder;
     if (errno == ENOENT)
@@ -287,6 +296,7 @@ void make_folder(const char *name)
 {
     struct path copy = path_of(name, "", "");
     struct folder above;
+    need_folder_name(name);
     if (mkdir(name, 0777) == 0) {
         above = open_folder(dirname(copy.text));
         sync_folder(&above, name);

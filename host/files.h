@@ -12,7 +12,7 @@ struct folder {
     int descriptor;
 };
 
-/* Whether the name is that of a folder. */
+/* Whether the name is that of a folder; - is none. */
 int is_folder(const char *name);
 
 /* Whether a name stands for standard input or output: "-". */
