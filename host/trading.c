@@ -229,10 +229,10 @@ int command_exchange(char **arguments)
     n = knowledge.n;
     asked = options.bare ? knowledge.bytes : in_envelope(KNOWLEDGE, knowledge.bytes, &n);
     ended = start(arguments + 1, asked, n, answered, sizeof answered, &got);
+    if (got > sizeof answered) /* no more was read, which may have ended the command */
+        trouble(arguments[1], "printed over %zu bytes, which no batch has; " NOTHING_CHANGED, sizeof answered);
     if (ended != 0)
         trouble(arguments[1], "ended with status %d; " NOTHING_CHANGED, ended);
-    if (got > sizeof answered)
-        trouble(arguments[1], "printed over %zu bytes, which no batch has; " NOTHING_CHANGED, sizeof answered);
     name = path_of("the answer of ", arguments[1], "");
     take_file(&other, name.text, answered, got);
     return apply_to(arguments[0]);
