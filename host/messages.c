@@ -98,13 +98,18 @@ _Noreturn void wrong_usage(const char *format, ...)
     exit(STATUS_USAGE);
 }
 
-/* What a message about a failure begins with, and the status, once a change was made. */
-static const char *made_words = "";
+/* What a message about a failure begins with, and the status. */
+static const char *front_words = "";
 static int trouble_status = STATUS_FILES;
+
+void trouble_means(const char *words)
+{
+    front_words = words;
+}
 
 void change_is_made(void)
 {
-    made_words = "the change was made, but what was to follow was not done: ";
+    trouble_means("the change was made, but what was to follow was not done: ");
     trouble_status = STATUS_AFTER;
     signal(SIGPIPE, SIG_IGN); /* so that a reader that is gone is told from a change that was not made */
 }
@@ -112,7 +117,7 @@ void change_is_made(void)
 _Noreturn void trouble(const char *name, const char *format, ...)
 {
     va_list rest;
-    fprintf(stderr, "collector: %s%s: ", made_words, name);
+    fprintf(stderr, "collector: %s%s: ", front_words, name);
     va_start(rest, format);
     vfprintf(stderr, format, rest);
     va_end(rest);

@@ -43,6 +43,9 @@ void warn(const char *name, const char *format, ...);
 /* From here on the change is made: what fails now is said to come after it, with a status of its own. */
 void change_is_made(void);
 
+/* What a message about trouble begins with from here on, for trouble that means more than a file which cannot be written. */
+void trouble_means(const char *words);
+
 /* Brings all that was printed out; ends the program if that cannot be done. */
 void flush_output(void);
 

@@ -453,12 +453,14 @@ void hold(struct replica *replica, const struct file *store, uint64_t tick)
     /* A store from elsewhere is held as it is, and the tick of the folder's own replica must not be forgotten for it. */
     if (tick <= replica->last.tick || memcmp(replica->last.own, store->bytes + SYNC_STORE_OWN, SYNC_REPLICA) != 0)
         return;
+    trouble_means("the folder could not be held, so let nothing edit it: ");
     /* A tick without an envelope stays so: one with an envelope would say that the store beside it has one too. */
     if (replica->last.form == BARE)
         prepare(&new, &replica->folder, kind_names[LAST_TICK], text, last_text(replica->last.own, tick, text));
     else
         prepare_tick(&new, replica, replica->last.own, tick);
-    finish(&new, "the folder could not be held");
+    finish(&new, NOTHING_CHANGED);
+    trouble_means("");
     replica->last.tick = tick;
 }
 
