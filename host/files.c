@@ -247,13 +247,16 @@ static void drop_pending(const struct replacement *new)
             pending[at] = pending[--pending_count];
 }
 
-/* Gives a new file the owner and the rights of the one that it replaces. Only the superuser can give a file away. */
+/*
+ * Gives a new file the owner, the group and the rights of the one that it replaces. Only the superuser can give a file away; others can
+ * keep the group if they are in it.
+ */
 static int take_rights(int descriptor, const struct replacement *new)
 {
     struct stat old;
     if (fstatat(new->folder->descriptor, new->name, &old, AT_SYMLINK_NOFOLLOW) != 0 || !S_ISREG(old.st_mode))
         return 0;
-    if (geteuid() == 0 && fchown(descriptor, old.st_uid, old.st_gid) != 0)
+    if (fchown(descriptor, geteuid() == 0 ? old.st_uid : (uid_t)-1, old.st_gid) != 0 && geteuid() == 0)
         return -1;
     return old.st_uid == geteuid() || geteuid() == 0 ? fchmod(descriptor, old.st_mode & 07777) : 0;
 }
