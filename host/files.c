@@ -286,12 +286,24 @@ void prepare(struct replacement *new, const struct folder *folder, const char *n
         trouble(place.text, "cannot be written: %s; " NOTHING_CHANGED, reason(errno));
 }
 
-void finish(struct replacement *new, const char *otherwise)
+static void put_in_place(struct replacement *new, const char *otherwise)
 {
     const int folder = new->folder->descriptor;
     if (renameat(folder, new->beside, folder, new->name) != 0)
         trouble(inside(new->folder->name, new->name).text, "cannot be replaced: %s; %s", reason(errno), otherwise);
     drop_pending(new);
+}
+
+void finish(struct replacement *new, const char *otherwise)
+{
+    put_in_place(new, otherwise);
+    sync_folder(new->folder, new->name);
+}
+
+void finish_change(struct replacement *new, const char *otherwise)
+{
+    put_in_place(new, otherwise);
+    change_is_made();
     sync_folder(new->folder, new->name);
 }
 
@@ -361,9 +373,10 @@ static void write_named(const char *name, const uint8_t *bytes, size_t n)
     need_outside(&folder, base, name);
     if (stat(name, &about) != 0 || S_ISREG(about.st_mode)) {
         prepare(&new, &folder, base, bytes, n);
-        finish(&new, NOTHING_CHANGED);
+        finish_change(&new, NOTHING_CHANGED);
     } else {
         write_through(name, open(name, O_WRONLY | O_CLOEXEC), bytes, n);
+        change_is_made();
     }
     close_folder(&folder);
 }

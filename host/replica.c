@@ -497,7 +497,7 @@ void save_new(const char *name, const struct file *store)
     if (!has_key && replica.key.n > 0)
         finish(&key, NOTHING_CHANGED);
     finish(&tick, "there is no replica yet");
-    finish(&place, "there is no replica yet");
+    finish_change(&place, "there is no replica yet");
 }
 
 void save(struct replica *replica, const struct file *store)
@@ -508,7 +508,7 @@ void save(struct replica *replica, const struct file *store)
         prepare_tick(&tick, replica, store->bytes + SYNC_STORE_OWN, own_tick(store));
     prepare_own(&place, replica, STORE, store->bytes, store->n);
     /* The store before the tick: a crash between the two leaves a store that is ahead of the tick, which is no fault. */
-    finish(&place, NOTHING_CHANGED);
+    finish_change(&place, NOTHING_CHANGED);
     if (grown)
         finish(&tick, "the store has changed, and only the tick beside it has not");
 }
@@ -562,7 +562,7 @@ enum form seal_again(const char *name, enum form *after)
     need_store(&store);
     prepare_tick(&tick, &replica, replica.last.own, replica.last.tick);
     prepare_own(&place, &replica, STORE, store.bytes, store.n);
-    finish(&place, NOTHING_CHANGED);
+    finish_change(&place, NOTHING_CHANGED);
     finish(&tick, "the store is sealed, and the tick beside it is not; seal the folder again");
     return before;
 }

@@ -110,7 +110,7 @@ void hold(struct replica *replica, const struct file *store, uint64_t tick);
 /* Makes the folder and puts a new store into it, unless there is one; the key goes with it if there is one. */
 void save_new(const char *name, const struct file *store);
 
-/* Replaces the store, and the tick beside it if that has grown or has no envelope yet. */
+/* Replaces the store, which is the change (messages.h), and the tick beside it if that has grown or has no envelope yet. */
 void save(struct replica *replica, const struct file *store);
 
 /* Puts the files of a folder under the key that stands there now. What they were under before, and are under after it. */
