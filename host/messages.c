@@ -19,12 +19,7 @@
     "    collector renew NEW-FOLDER FOLDER...\n" \
     "  and let new replicas on the other servers take batches from it.\n"
 
-#define NEW_ID \
-    "    collector new FRESH                      a replica under a new id\n" \
-    "    collector knowledge FRESH asked\n" \
-    "    collector make COPY asked answer         COPY: the copy, or another server's folder\n" \
-    "    collector apply FRESH answer\n" \
-    "  and use FRESH from now on.\n"
+#define NEW_ID FROM_COPY "\n  and use FRESH from now on.\n"
 
 /* By number: what it means and what to do, in one line; and more lines where it does not pass by itself. */
 static const struct {

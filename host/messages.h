@@ -5,6 +5,14 @@
 
 #include <stdint.h>
 
+/* The commands that take what a copy, or another folder, holds into a replica under a new id. */
+#define INTO_FRESH(from) \
+    "    collector new FRESH                      a replica under a new id; with a key: new --key KEY FRESH\n" \
+    "    collector knowledge FRESH asked\n" \
+    "    collector make " from "\n" \
+    "    collector apply FRESH answer"
+#define FROM_COPY INTO_FRESH("COPY asked answer         COPY: the copy, or another server's folder")
+
 enum status {
     STATUS_REFUSED = 1, /* the engine refuses; the message has its number */
     STATUS_NO = 1,      /* the answer to a question is no */

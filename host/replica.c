@@ -92,11 +92,7 @@ void take_file(struct file *file, const char *name, const uint8_t *read, size_t 
 static const char way_out[] =
     "\n"
     "  Only read what is there, and take what it held from a copy or from the other servers into a replica under a new\n"
-    "  id, to be used instead:\n"
-    "    collector new FRESH\n"
-    "    collector knowledge FRESH asked\n"
-    "    collector make COPY asked answer         COPY: the copy, or another server's folder\n"
-    "    collector apply FRESH answer";
+    "  id, to be used instead:\n" FROM_COPY;
 
 /* Takes a file of a replica's folder out of its envelope. A folder that has no key, such as a copy, has the one of --key. */
 static struct opened open_own(const struct folder *folder, const char *name, const struct key *key, size_t n)
@@ -378,11 +374,7 @@ static _Noreturn void not_latest(const char *folder, const char *words)
             "%s\n"
             "  Ticks would be given a second time, and other servers would never ask for these versions (collector --help).\n"
             "  Only read this store from now on, and take what it holds into a replica under a new id, to be used instead:\n"
-            "    collector new FRESH\n"
-            "    collector knowledge FRESH asked\n"
-            "    collector make %s asked answer\n"
-            "    collector apply FRESH answer",
-            words, folder);
+            INTO_FRESH("%s asked answer"), words, folder);
 }
 
 int is_latest(const struct last *last, const struct file *store)
