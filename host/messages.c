@@ -97,9 +97,9 @@ _Noreturn void wrong_usage(const char *format, ...)
 static const char *front_words = "";
 static int trouble_status = STATUS_FILES;
 
-void trouble_means(const char *words)
+void trouble_means(const char *front)
 {
-    front_words = words;
+    front_words = front;
 }
 
 void change_is_made(void)
