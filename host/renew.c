@@ -267,6 +267,18 @@ static void warn_deleted(const char *folder)
     }
 }
 
+/* Without a key the new replica takes files from anybody, which an old one with a key did not. */
+static void warn_key(const char *folder)
+{
+    const struct path key = inside(folder, "key");
+    struct stat about;
+    size_t at = 0;
+    while (at < folder_count && stores[at].form != KEYED)
+        at++;
+    if (at < folder_count && stat(key.text, &about) != 0)
+        warn(folder, "warning: it has no key, and %s has one: copy that to %s and run collector seal %s", folders[at], key.text, folder);
+}
+
 /* Writes the new folder: the replica, and the names of its items. */
 static void write_folder(const struct file *new)
 {
@@ -299,6 +311,7 @@ int command_renew(char **arguments)
     else
         say_renewed(draft.now);
     warn_deleted(draft.now->name);
+    warn_key(draft.now->name);
     warn_limits(draft.now);
     return 0;
 }
