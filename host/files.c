@@ -21,6 +21,9 @@
 static const char *const own_names[] = {"store", "last-tick", "names", "key", "lock"};
 #define OWN_NAMES (sizeof own_names / sizeof *own_names)
 
+/* What a program of before this one wrote first, and may have left over. */
+static const char *const names_before[] = {"store.new", "last-tick.new"};
+
 const char *reason(int error)
 {
     if (error == EACCES || error == EPERM)
@@ -166,10 +169,9 @@ static int is_left_over(const char *name)
     return 0;
 }
 
-/* Removes what was left over, also by a program of before this one, whose names were fixed. */
+/* Removes what was left over, also by a program of before this one. */
 static void clean(const struct folder *folder)
 {
-    static const char *const before[] = {"store.new", "last-tick.new"};
     struct stat about;
     struct dirent *entry;
     size_t at;
@@ -181,8 +183,8 @@ static void clean(const struct folder *folder)
     if (entries)
         closedir(entries);
     for (at = 0; at < 2; at++)
-        if (fstatat(folder->descriptor, before[at], &about, AT_SYMLINK_NOFOLLOW) == 0 && S_ISREG(about.st_mode))
-            unlinkat(folder->descriptor, before[at], 0);
+        if (fstatat(folder->descriptor, names_before[at], &about, AT_SYMLINK_NOFOLLOW) == 0 && S_ISREG(about.st_mode))
+            unlinkat(folder->descriptor, names_before[at], 0);
 }
 
 /* Whether the folder is still the one that its name leads to. */
@@ -339,7 +341,9 @@ static void need_outside(const struct folder *folder, const char *base, const ch
     for (at = 0; at < OWN_NAMES; at++)
         if (strcmp(base, own_names[at]) == 0)
             trouble(said, "is a file of a replica, which only its own commands change; give another name");
-    if (is_left_over(base) || fstatat(folder->descriptor, base, &about, AT_SYMLINK_NOFOLLOW) == 0)
+    if (is_left_over(base) || strcmp(base, names_before[0]) == 0 || strcmp(base, names_before[1]) == 0)
+        trouble(said, "would be removed from the replica's folder with its next change; give another name");
+    if (fstatat(folder->descriptor, base, &about, AT_SYMLINK_NOFOLLOW) == 0)
         trouble(said, "is in a replica's folder already, where nothing is written over; give another name");
 }
 
