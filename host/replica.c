@@ -106,6 +106,8 @@ static struct opened open_own(const struct folder *folder, const char *name, con
         /* The store is sealed before the tick, which was read already. */
         trouble(place.text, "is not sealed with the key of its folder: something else put it there%s", way_out);
     }
+    if (opened.fault && !opened.is_damaged && is_keyed(raw, n) && key->n == 0)
+        trouble(place.text, "is sealed with a key, and its folder has none; copy the key to %s", inside(folder->name, "key").text);
     if (opened.fault)
         trouble(place.text, "%s%s", opened.fault, opened.is_damaged ? way_out : "");
     if (strcmp(kind_names[opened.kind], name) != 0)
