@@ -40,7 +40,6 @@ int command_new(char **arguments)
     char text[ID_TEXT];
     begin_store(&result, arguments[0], arguments[1]);
     save_new(arguments[0], &result);
-    change_is_made();
     full_ids = full_ids || !arguments[1];
     printf("%s is replica %s\n", arguments[0], id_text(&replicas, result.bytes + SYNC_STORE_OWN, text));
     return 0;
@@ -71,7 +70,6 @@ static int keep(uint32_t number, uint64_t written, const char *done, const uint8
     result.name = store.name;
     result.n = (size_t)written;
     save(&replica, &result);
-    change_is_made();
     add_id(&items, item);
     printf("%s item %s: tick %" PRIu64 " of replica %s\n", done, id_text(&items, item, item_id), own_tick(&result),
            id_text(&replicas, result.bytes + SYNC_STORE_OWN, own));
@@ -109,7 +107,6 @@ int command_delete(char **arguments)
 int command_seal(char **arguments)
 {
     enum form after, before = seal_again(arguments[0], &after);
-    change_is_made();
     printf("%s: its files were %s, and are %s now\n", arguments[0], form_names[before], form_names[after]);
     return 0;
 }

@@ -3,9 +3,11 @@
  * writes files. Here are the table of commands and the reading of options.
  */
 
+#include <fcntl.h>
 #include <stdio.h>
 #include <stdlib.h>
 #include <string.h>
+#include <unistd.h>
 
 #include "commands.h"
 #include "help.h"
@@ -152,9 +154,22 @@ static int run(char **arguments)
     return command->run(arguments + 1);
 }
 
+/*
+ * Takes the places of standard descriptors that are closed, so that no file gets one of them, and messages with it. What is put there
+ * cannot be read or written in its turn, so that this is still noticed.
+ */
+static void take_closed_places(void)
+{
+    int at;
+    for (at = STDIN_FILENO; at <= STDERR_FILENO; at++)
+        if (fcntl(at, F_GETFD) < 0 && open("/dev/null", at == STDIN_FILENO ? O_WRONLY : O_RDONLY) != at)
+            _exit(STATUS_FILES);
+}
+
 int main(int count, char **arguments)
 {
     int status = 0;
+    take_closed_places();
     if (count < 2) {
         fputs(help_collector, stderr);
         return STATUS_USAGE;

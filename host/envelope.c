@@ -118,7 +118,7 @@ struct opened open_envelope(const struct key *key, const uint8_t *file, size_t n
     if (n == 0)
         return fault("the file is empty", 1);
     if (front == 0 && is_envelope(file, n))
-        return fault("its first line is damaged, or is that of a later version", 1);
+        return fault("its first line is damaged, or is that of a later version of this program: then use that one", 1);
     if (front == 0)
         return fault("it has no envelope; --bare reads bytes without one", 0);
     if (n < front + LENGTH + DIGEST)

@@ -21,6 +21,9 @@
 static const char *const own_names[] = {"store", "last-tick", "names", "key", "lock"};
 #define OWN_NAMES (sizeof own_names / sizeof *own_names)
 
+/* What a program of before this one wrote first, and may have left over. */
+static const char *const names_before[] = {"store.new", "last-tick.new"};
+
 const char *reason(int error)
 {
     if (error == EACCES || error == EPERM)
@@ -43,20 +46,29 @@ struct path inside(const char *folder, const char *name)
     return path_of(folder, length > 0 && folder[length - 1] == '/' ? "" : "/", name);
 }
 
-int is_folder(const char *name)
-{
-    struct stat about;
-    return stat(name, &about) == 0 && S_ISDIR(about.st_mode);
-}
-
 int is_standard(const char *name)
 {
     return strcmp(name, "-") == 0;
 }
 
+int is_folder(const char *name)
+{
+    struct stat about;
+    return !is_standard(name) && stat(name, &about) == 0 && S_ISDIR(about.st_mode);
+}
+
+/* Ends the program if the name of a folder is the one of standard input. */
+static void need_folder_name(const char *name)
+{
+    if (is_standard(name))
+        wrong_usage("- is standard input or output, and the command takes a folder there; a folder of that name is ./-");
+}
+
 struct folder open_folder(const char *name)
 {
-    struct folder folder = {name, open(name, O_RDONLY | O_DIRECTORY | O_CLOEXEC)};
+    struct folder folder = {name, -1};
+    need_folder_name(name);
+    folder.descriptor = open(name, O_RDONLY | O_DIRECTORY | O_CLOEXEC);
     if (folder.descriptor >= 0)
         return folder;
     if (errno == ENOENT)
@@ -157,10 +169,9 @@ static int is_left_over(const char *name)
     return 0;
 }
 
-/* Removes what was left over, also by a program of before this one, whose names were fixed. */
+/* Removes what was left over, also by a program of before this one. */
 static void clean(const struct folder *folder)
 {
-    static const char *const before[] = {"store.new", "last-tick.new"};
     struct stat about;
     struct dirent *entry;
     size_t at;
@@ -172,8 +183,8 @@ static void clean(const struct folder *folder)
     if (entries)
         closedir(entries);
     for (at = 0; at < 2; at++)
-        if (fstatat(folder->descriptor, before[at], &about, AT_SYMLINK_NOFOLLOW) == 0 && S_ISREG(about.st_mode))
-            unlinkat(folder->descriptor, before[at], 0);
+        if (fstatat(folder->descriptor, names_before[at], &about, AT_SYMLINK_NOFOLLOW) == 0 && S_ISREG(about.st_mode))
+            unlinkat(folder->descriptor, names_before[at], 0);
 }
 
 /* Whether the folder is still the one that its name leads to. */
@@ -238,13 +249,16 @@ static void drop_pending(const struct replacement *new)
             pending[at] = pending[--pending_count];
 }
 
-/* Gives a new file the owner and the rights of the one that it replaces. Only the superuser can give a file away. */
+/*
+ * Gives a new file the owner, the group and the rights of the one that it replaces. Only the superuser can give a file away; others can
+ * keep the group if they are in it.
+ */
 static int take_rights(int descriptor, const struct replacement *new)
 {
     struct stat old;
     if (fstatat(new->folder->descriptor, new->name, &old, AT_SYMLINK_NOFOLLOW) != 0 || !S_ISREG(old.st_mode))
         return 0;
-    if (geteuid() == 0 && fchown(descriptor, old.st_uid, old.st_gid) != 0)
+    if (fchown(descriptor, geteuid() == 0 ? old.st_uid : (uid_t)-1, old.st_gid) != 0 && geteuid() == 0)
         return -1;
     return old.st_uid == geteuid() || geteuid() == 0 ? fchmod(descriptor, old.st_mode & 07777) : 0;
 }
@@ -274,12 +288,24 @@ void prepare(struct replacement *new, const struct folder *folder, const char *n
         trouble(place.text, "cannot be written: %s; " NOTHING_CHANGED, reason(errno));
 }
 
-void finish(struct replacement *new, const char *otherwise)
+static void put_in_place(struct replacement *new, const char *otherwise)
 {
     const int folder = new->folder->descriptor;
     if (renameat(folder, new->beside, folder, new->name) != 0)
         trouble(inside(new->folder->name, new->name).text, "cannot be replaced: %s; %s", reason(errno), otherwise);
     drop_pending(new);
+}
+
+void finish(struct replacement *new, const char *otherwise)
+{
+    put_in_place(new, otherwise);
+    sync_folder(new->folder, new->name);
+}
+
+void finish_change(struct replacement *new, const char *otherwise)
+{
+    put_in_place(new, otherwise);
+    change_is_made();
     sync_folder(new->folder, new->name);
 }
 
@@ -287,6 +313,7 @@ void make_folder(const char *name)
 {
     struct path copy = path_of(name, "", "");
     struct folder above;
+    need_folder_name(name);
     if (mkdir(name, 0777) == 0) {
         above = open_folder(dirname(copy.text));
         sync_folder(&above, name);
@@ -314,7 +341,9 @@ static void need_outside(const struct folder *folder, const char *base, const ch
     for (at = 0; at < OWN_NAMES; at++)
         if (strcmp(base, own_names[at]) == 0)
             trouble(said, "is a file of a replica, which only its own commands change; give another name");
-    if (is_left_over(base) || fstatat(folder->descriptor, base, &about, AT_SYMLINK_NOFOLLOW) == 0)
+    if (is_left_over(base) || strcmp(base, names_before[0]) == 0 || strcmp(base, names_before[1]) == 0)
+        trouble(said, "would be removed from the replica's folder with its next change; give another name");
+    if (fstatat(folder->descriptor, base, &about, AT_SYMLINK_NOFOLLOW) == 0)
         trouble(said, "is in a replica's folder already, where nothing is written over; give another name");
 }
 
@@ -348,9 +377,10 @@ static void write_named(const char *name, const uint8_t *bytes, size_t n)
     need_outside(&folder, base, name);
     if (stat(name, &about) != 0 || S_ISREG(about.st_mode)) {
         prepare(&new, &folder, base, bytes, n);
-        finish(&new, NOTHING_CHANGED);
+        finish_change(&new, NOTHING_CHANGED);
     } else {
         write_through(name, open(name, O_WRONLY | O_CLOEXEC), bytes, n);
+        change_is_made();
     }
     close_folder(&folder);
 }

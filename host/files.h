@@ -12,7 +12,7 @@ struct folder {
     int descriptor;
 };
 
-/* Whether the name is that of a folder. */
+/* Whether the name is that of a folder; - is none. */
 int is_folder(const char *name);
 
 /* Whether a name stands for standard input or output: "-". */
@@ -63,9 +63,12 @@ struct replacement {
 void prepare(struct replacement *new, const struct folder *folder, const char *name, const void *bytes, size_t n);
 void finish(struct replacement *new, const char *otherwise);
 
+/* Likewise for the file whose renaming is the change itself: what fails behind it comes after the change (messages.h). */
+void finish_change(struct replacement *new, const char *otherwise);
+
 /*
  * Writes a result where the user wants it: replaces the file, or writes to standard output, a pipe or a device. In a folder of a replica
- * it writes neither over a file that is there nor under a name that this program uses.
+ * it writes neither over a file that is there nor under a name that this program uses. A result that has a name is a change (messages.h).
  */
 void write_result(const char *name, const uint8_t *bytes, size_t n);
 

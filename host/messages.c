@@ -19,12 +19,7 @@
     "    collector renew NEW-FOLDER FOLDER...\n" \
     "  and let new replicas on the other servers take batches from it.\n"
 
-#define NEW_ID \
-    "    collector new FRESH                      a replica under a new id\n" \
-    "    collector knowledge FRESH asked\n" \
-    "    collector make COPY asked answer         COPY: the copy, or another server's folder\n" \
-    "    collector apply FRESH answer\n" \
-    "  and use FRESH from now on.\n"
+#define NEW_ID FROM_COPY "\n  and use FRESH from now on.\n"
 
 /* By number: what it means and what to do, in one line; and more lines where it does not pass by itself. */
 static const struct {
@@ -98,13 +93,18 @@ _Noreturn void wrong_usage(const char *format, ...)
     exit(STATUS_USAGE);
 }
 
-/* What a message about a failure begins with, and the status, once a change was made. */
-static const char *made_words = "";
+/* What a message about a failure begins with, and the status. */
+static const char *front_words = "";
 static int trouble_status = STATUS_FILES;
+
+void trouble_means(const char *front)
+{
+    front_words = front;
+}
 
 void change_is_made(void)
 {
-    made_words = "the change was made, but what was to follow was not done: ";
+    trouble_means("the change was made, but what was to follow was not done: ");
     trouble_status = STATUS_AFTER;
     signal(SIGPIPE, SIG_IGN); /* so that a reader that is gone is told from a change that was not made */
 }
@@ -112,7 +112,7 @@ void change_is_made(void)
 _Noreturn void trouble(const char *name, const char *format, ...)
 {
     va_list rest;
-    fprintf(stderr, "collector: %s%s: ", made_words, name);
+    fprintf(stderr, "collector: %s%s: ", front_words, name);
     va_start(rest, format);
     vfprintf(stderr, format, rest);
     va_end(rest);

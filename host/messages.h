@@ -5,6 +5,14 @@
 
 #include <stdint.h>
 
+/* The commands that take what a copy, or another folder, holds into a replica under a new id. */
+#define INTO_FRESH(from) \
+    "    collector new FRESH                      a replica under a new id; with a key: new --key KEY FRESH\n" \
+    "    collector knowledge FRESH asked\n" \
+    "    collector make " from "\n" \
+    "    collector apply FRESH answer"
+#define FROM_COPY INTO_FRESH("COPY asked answer         COPY: the copy, or another server's folder")
+
 enum status {
     STATUS_REFUSED = 1, /* the engine refuses; the message has its number */
     STATUS_NO = 1,      /* the answer to a question is no */
@@ -42,6 +50,9 @@ void warn(const char *name, const char *format, ...);
 
 /* From here on the change is made: what fails now is said to come after it, with a status of its own. */
 void change_is_made(void);
+
+/* What a message about trouble begins with from here on, for trouble that means more than a file which cannot be written. */
+void trouble_means(const char *words);
 
 /* Brings all that was printed out; ends the program if that cannot be done. */
 void flush_output(void);

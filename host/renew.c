@@ -276,7 +276,6 @@ static void write_folder(const struct file *new)
     static struct replacement names;
     struct folder folder;
     save_new(new->name, new);
-    change_is_made();
     folder = open_folder(new->name);
     if (prepare_names(&names, &folder, new))
         finish(&names, "the new replica has no names of its items");

@@ -49,13 +49,14 @@ void choose_key(char **names, int count)
         given_key.n = read_named(options.key, given_key.bytes, sizeof given_key.bytes);
         trim_key(&given_key, is_standard(options.key) ? "standard input" : options.key);
     }
-    files_key = given_key;
     for (at = 0; at < count && files_key.n == 0; at++)
         if (names[at] && is_folder(names[at])) {
             struct folder folder = open_folder(names[at]);
             read_folder_key(&files_key, &folder);
             close_folder(&folder);
         }
+    if (files_key.n == 0)
+        files_key = given_key;
     if (options.bare && files_key.n > 0)
         wrong_usage("--bare is not for servers with a key; collector pack and unpack change the form of a file");
 }
@@ -91,11 +92,7 @@ void take_file(struct file *file, const char *name, const uint8_t *read, size_t 
 static const char way_out[] =
     "\n"
     "  Only read what is there, and take what it held from a copy or from the other servers into a replica under a new\n"
-    "  id, to be used instead:\n"
-    "    collector new FRESH\n"
-    "    collector knowledge FRESH asked\n"
-    "    collector make COPY asked answer         COPY: the copy, or another server's folder\n"
-    "    collector apply FRESH answer";
+    "  id, to be used instead:\n" FROM_COPY;
 
 /* Takes a file of a replica's folder out of its envelope. A folder that has no key, such as a copy, has the one of --key. */
 static struct opened open_own(const struct folder *folder, const char *name, const struct key *key, size_t n)
@@ -103,8 +100,14 @@ static struct opened open_own(const struct folder *folder, const char *name, con
     struct opened opened = open_envelope(key->n == 0 && is_keyed(raw, n) ? &given_key : key, raw, n);
     struct path place = inside(folder->name, name);
     int is_before = n > 0 && !is_envelope(raw, n) && strcmp(name, "last-tick") == 0; /* the store beside it may then be so too */
-    if (opened.fault && key->n > 0 && (is_before || !open_envelope(&no_key, raw, n).fault))
-        trouble(place.text, "is not sealed with the key of its folder; collector seal %s puts it under the key", folder->name);
+    if (opened.fault && key->n > 0 && (is_before || !open_envelope(&no_key, raw, n).fault)) {
+        if (strcmp(name, "last-tick") == 0)
+            trouble(place.text, "is not sealed with the key of its folder; collector seal %s puts it under the key", folder->name);
+        /* The store is sealed before the tick, which was read already. */
+        trouble(place.text, "is not sealed with the key of its folder: something else put it there%s", way_out);
+    }
+    if (opened.fault && !opened.is_damaged && is_keyed(raw, n) && key->n == 0)
+        trouble(place.text, "is sealed with a key, and its folder has none; copy the key to %s", inside(folder->name, "key").text);
     if (opened.fault)
         trouble(place.text, "%s%s", opened.fault, opened.is_damaged ? way_out : "");
     if (strcmp(kind_names[opened.kind], name) != 0)
@@ -373,11 +376,7 @@ static _Noreturn void not_latest(const char *folder, const char *words)
             "%s\n"
             "  Ticks would be given a second time, and other servers would never ask for these versions (collector --help).\n"
             "  Only read this store from now on, and take what it holds into a replica under a new id, to be used instead:\n"
-            "    collector new FRESH\n"
-            "    collector knowledge FRESH asked\n"
-            "    collector make %s asked answer\n"
-            "    collector apply FRESH answer",
-            words, folder);
+            INTO_FRESH("%s asked answer"), words, folder);
 }
 
 int is_latest(const struct last *last, const struct file *store)
@@ -443,16 +442,19 @@ static void prepare_tick(struct replacement *new, const struct replica *replica,
 
 void hold(struct replica *replica, const struct file *store, uint64_t tick)
 {
-    struct replacement new, place;
+    struct replacement new;
+    char text[LAST_TEXT];
     /* A store from elsewhere is held as it is, and the tick of the folder's own replica must not be forgotten for it. */
     if (tick <= replica->last.tick || memcmp(replica->last.own, store->bytes + SYNC_STORE_OWN, SYNC_REPLICA) != 0)
         return;
-    prepare_tick(&new, replica, store->bytes + SYNC_STORE_OWN, tick);
-    if (replica->last.form == BARE) { /* a store without an envelope could no longer be read beside a tick with one */
-        prepare_own(&place, replica, STORE, store->bytes, store->n);
-        finish(&place, "the folder could not be held");
-    }
-    finish(&new, "the folder could not be held");
+    trouble_means("the folder could not be held, so let nothing edit it: ");
+    /* A tick without an envelope stays so: one with an envelope would say that the store beside it has one too. */
+    if (replica->last.form == BARE)
+        prepare(&new, &replica->folder, kind_names[LAST_TICK], text, last_text(replica->last.own, tick, text));
+    else
+        prepare_tick(&new, replica, replica->last.own, tick);
+    finish(&new, NOTHING_CHANGED);
+    trouble_means("");
     replica->last.tick = tick;
 }
 
@@ -477,8 +479,10 @@ void save_new(const char *name, const struct file *store)
         trouble(name, "its store is gone, and had given ticks up to %" PRIu64 "; make the new replica in another folder",
                 replica.last.tick);
     has_key = replica.key.n > 0;
+    if (has_key && given_key.n > 0 && (replica.key.n != given_key.n || memcmp(replica.key.bytes, given_key.bytes, given_key.n) != 0))
+        trouble(name, "there is another key in it already; " NOTHING_CHANGED);
     if (!has_key)
-        replica.key = files_key;
+        replica.key = given_key.n > 0 ? given_key : files_key;
     if (!has_key && replica.key.n > 0)
         prepare_key(&key, &replica);
     /* The tick before the store, so that no store of ours is ever without one. */
@@ -487,7 +491,7 @@ void save_new(const char *name, const struct file *store)
     if (!has_key && replica.key.n > 0)
         finish(&key, NOTHING_CHANGED);
     finish(&tick, "there is no replica yet");
-    finish(&place, "there is no replica yet");
+    finish_change(&place, "there is no replica yet");
 }
 
 void save(struct replica *replica, const struct file *store)
@@ -498,24 +502,26 @@ void save(struct replica *replica, const struct file *store)
         prepare_tick(&tick, replica, store->bytes + SYNC_STORE_OWN, own_tick(store));
     prepare_own(&place, replica, STORE, store->bytes, store->n);
     /* The store before the tick: a crash between the two leaves a store that is ahead of the tick, which is no fault. */
-    finish(&place, NOTHING_CHANGED);
+    finish_change(&place, NOTHING_CHANGED);
     if (grown)
         finish(&tick, "the store has changed, and only the tick beside it has not");
 }
 
 /* ---- another key */
 
-/* Opens a file of a folder under any of the keys; its form before. */
-static struct opened open_any(const struct folder *folder, const char *name, const struct key *keys, size_t count, int may_bare)
+/* Opens a file of a folder under one of the keys, or as it is if it may be bare. Which of the keys it was becomes *which. */
+static struct opened open_any(const struct folder *folder, const char *name, const struct key *keys, size_t count, int may_bare,
+                              size_t *which)
 {
     struct opened opened = {NULL, 0, LAST_TICK, BARE, raw, read_in(folder, name, raw, sizeof raw)};
-    size_t at, n = opened.n;
+    size_t n = opened.n;
     if (n == NOT_THERE)
         trouble(folder->name, "has no file %s, so there is nothing to seal", name);
+    *which = count;
     if (may_bare && !is_envelope(raw, n))
         return opened;
-    for (at = 0; at < count; at++) {
-        opened = open_envelope(&keys[at], raw, n);
+    for (*which = 0; *which < count; (*which)++) {
+        opened = open_envelope(&keys[*which], raw, n);
         if (!opened.fault && strcmp(kind_names[opened.kind], name) == 0)
             return opened;
     }
@@ -530,6 +536,7 @@ enum form seal_again(const char *name, enum form *after)
     struct replacement tick, place;
     struct opened opened;
     enum form before;
+    size_t which;
     replica.folder = open_folder(name);
     lock_folder(&replica.folder);
     read_folder_key(&replica.key, &replica.folder);
@@ -537,18 +544,19 @@ enum form seal_again(const char *name, enum form *after)
     keys[0] = replica.key;
     keys[1] = given_key;
     keys[2] = no_key;
-    opened = open_any(&replica.folder, "last-tick", keys, 3, 1);
+    opened = open_any(&replica.folder, "last-tick", keys, 3, 1, &which);
     replica.last.form = opened.form;
     replica.last.is_there = read_last_text(opened.bytes, opened.n, &replica.last);
     if (!replica.last.is_there)
         trouble(inside(name, "last-tick").text, "is not as this program wrote it");
-    opened = open_any(&replica.folder, "store", keys, 3, opened.form == BARE);
+    /* The store is sealed first: beside a tick that is under the folder's key already, only a store that is too is the replica's. */
+    opened = open_any(&replica.folder, "store", keys, which == 0 ? 1 : 3, opened.form == BARE, &which);
     before = opened.form;
     put_bytes(&store, name, opened.form, opened.bytes, opened.n);
     need_store(&store);
     prepare_tick(&tick, &replica, replica.last.own, replica.last.tick);
     prepare_own(&place, &replica, STORE, store.bytes, store.n);
-    finish(&place, NOTHING_CHANGED);
+    finish_change(&place, NOTHING_CHANGED);
     finish(&tick, "the store is sealed, and the tick beside it is not; seal the folder again");
     return before;
 }

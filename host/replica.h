@@ -49,7 +49,7 @@ struct replica {
 /* By its first byte, which is all that is looked at. */
 enum kind kind_of(const struct file *file);
 
-/* Sets the key of files that stand in no replica's folder: that of --key, or of the first of the names that is a folder with a key. */
+/* Sets the key of files that stand in no replica's folder: that of the first of the names that is a folder with a key, or of --key. */
 void choose_key(char **names, int count);
 
 /* Opens a replica's folder, locked or not, and reads its key and its last tick; reads its store. */
@@ -110,7 +110,7 @@ void hold(struct replica *replica, const struct file *store, uint64_t tick);
 /* Makes the folder and puts a new store into it, unless there is one; the key goes with it if there is one. */
 void save_new(const char *name, const struct file *store);
 
-/* Replaces the store, and the tick beside it if that has grown or has no envelope yet. */
+/* Replaces the store, which is the change (messages.h), and the tick beside it if that has grown or has no envelope yet. */
 void save(struct replica *replica, const struct file *store);
 
 /* Puts the files of a folder under the key that stands there now. What they were under before, and are under after it. */

@@ -406,14 +406,10 @@ int command_scan(char **arguments)
     need_files();
     /* The names are put in their place behind the store: a name that is behind it is no fault, but one that is ahead hides an edit. */
     is_other = prepare_names(&names, &replica.folder, draft.now);
-    if (step_count > 0) {
+    if (step_count > 0)
         save(&replica, draft.now);
-        change_is_made();
-    }
-    if (is_other) {
-        finish(&names, step_count > 0 ? "the store has changed, and the names beside it have not; scan again" : NOTHING_CHANGED);
-        change_is_made();
-    }
+    if (is_other)
+        finish_change(&names, step_count > 0 ? "the store has changed, and the names beside it have not; scan again" : NOTHING_CHANGED);
     say(draft.now);
     warn_limits(draft.now);
     return 0;

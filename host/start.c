@@ -73,6 +73,8 @@ static void talk(int to, const uint8_t *input, size_t input_n, int from, uint8_t
                 *n += (size_t)got;
             if (got == 0 || (got < 0 && errno != EINTR) || *n > room)
                 ends[1].fd = -1;
+            if (*n > room)
+                input_n = 0; /* its answer is not wanted any more, and it may not read before it has printed all of it */
         }
     }
     if (ends[0].fd >= 0)

@@ -45,7 +45,6 @@ int command_knowledge(char **arguments)
     write_out(arguments[1], KNOWLEDGE, knowledge.bytes, knowledge.n);
     if (is_standard(arguments[1]))
         return 0;
-    change_is_made();
     printf("%s has what %s %s, %zu bytes\n", arguments[1], arguments[0], kind_of(&store) == BATCH ? "teaches" : "knows", knowledge.n);
     return 0;
 }
@@ -105,7 +104,6 @@ int command_make(char **arguments)
     write_out(arguments[2], BATCH, result.bytes, result.n);
     if (is_standard(arguments[2]))
         return 0;
-    change_is_made();
     add_ids(&result);
     printf("%s is a ", arguments[2]);
     show_kind(&result);
@@ -192,10 +190,8 @@ static int apply_to(const char *folder)
     result.name = folder;
     result.n = (size_t)written;
     is_other = result.n != store.n || memcmp(result.bytes, store.bytes, store.n) != 0;
-    if (is_other) {
+    if (is_other)
         save(&replica, &result);
-        change_is_made();
-    }
     close_folder(&replica.folder); /* so that the command of --run finds the folder unlocked */
     say_applied(stdout, options.list, is_other);
     warn_limits(&result);
@@ -229,10 +225,10 @@ int command_exchange(char **arguments)
     n = knowledge.n;
     asked = options.bare ? knowledge.bytes : in_envelope(KNOWLEDGE, knowledge.bytes, &n);
     ended = start(arguments + 1, asked, n, answered, sizeof answered, &got);
+    if (got > sizeof answered) /* no more was read, which may have ended the command */
+        trouble(arguments[1], "printed over %zu bytes, which no batch has; " NOTHING_CHANGED, sizeof answered);
     if (ended != 0)
         trouble(arguments[1], "ended with status %d; " NOTHING_CHANGED, ended);
-    if (got > sizeof answered)
-        trouble(arguments[1], "printed over %zu bytes, which no batch has; " NOTHING_CHANGED, sizeof answered);
     name = path_of("the answer of ", arguments[1], "");
     take_file(&other, name.text, answered, got);
     return apply_to(arguments[0]);
@@ -247,7 +243,6 @@ int command_pack(char **arguments)
     write_out(arguments[1], kind_of(&other), other.bytes, other.n);
     if (is_standard(arguments[1]))
         return 0;
-    change_is_made();
     add_ids(&other);
     printf("%s is a ", arguments[1]);
     show_kind(&other);
@@ -260,7 +255,6 @@ int command_unpack(char **arguments)
     write_bare(arguments[1], other.bytes, other.n);
     if (is_standard(arguments[1]))
         return 0;
-    change_is_made();
     printf("%s has the %zu bytes of the %s in %s\n", arguments[1], other.n, kind_names[kind_of(&other)], other.name);
     return 0;
 }
