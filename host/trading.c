@@ -198,7 +198,7 @@ static int apply_to(const char *folder)
     say_applied(stdout, options.list, is_other);
     warn_limits(&result);
     if (options.run && changes.count > 0) {
-        flush_output();
+        fflush(stdout); /* if that fails it is said at the end: nobody gives the command this list again */
         run_with_list(is_other);
     }
     return 0;
