@@ -205,7 +205,8 @@ void lock_folder(struct folder *folder)
         if (errno != EWOULDBLOCK && errno != EINTR)
             trouble(folder->name, "cannot be locked: %s", reason(errno));
         if (tries == 100ul * wait_seconds)
-            trouble(folder->name, "another program has been working on it for %u seconds; try again, or --wait longer", wait_seconds);
+            trouble(folder->name, "another program has been working on it for %u second%s; try again, or --wait longer", wait_seconds,
+                    wait_seconds == 1 ? "" : "s");
         nanosleep(&pause, NULL);
     }
     if (!is_still_there(folder))
