@@ -195,6 +195,12 @@ static int is_still_there(const struct folder *folder)
         open.st_ino == named.st_ino;
 }
 
+void need_still_there(const struct folder *folder)
+{
+    if (!is_still_there(folder))
+        trouble(folder->name, "was replaced by another folder while this program worked on it; " NOTHING_CHANGED ", try again");
+}
+
 unsigned wait_seconds = 10;
 
 void lock_folder(struct folder *folder)
