@@ -10,8 +10,8 @@ _collector() {
     scan) options='--dry-run --empty --list --json --wait' ;;
     status) options='--json --full' ;;
     renew) options='--id --key --json --full --wait' ;;
-    knowledge | answer) options='--key --bare' ;;
-    make) options='--key --bare --wait' ;;
+    knowledge) options='--key --bare' ;;
+    make | answer) options='--key --bare --wait' ;;
     apply | exchange) options='--list --json --run --key --bare --wait' ;;
     show) options='--json --list --full --key --bare' ;;
     check | why | compare) options='--json --full --key --bare' ;;

@@ -195,6 +195,12 @@ static int is_still_there(const struct folder *folder)
         open.st_ino == named.st_ino;
 }
 
+void need_still_there(const struct folder *folder)
+{
+    if (!is_still_there(folder))
+        trouble(folder->name, "was replaced by another folder while this program worked on it; " NOTHING_CHANGED ", try again");
+}
+
 unsigned wait_seconds = 10;
 
 void lock_folder(struct folder *folder)
@@ -205,7 +211,8 @@ void lock_folder(struct folder *folder)
         if (errno != EWOULDBLOCK && errno != EINTR)
             trouble(folder->name, "cannot be locked: %s", reason(errno));
         if (tries == 100ul * wait_seconds)
-            trouble(folder->name, "another program has been working on it for %u seconds; try again, or --wait longer", wait_seconds);
+            trouble(folder->name, "another program has been working on it for %u second%s; try again, or --wait longer", wait_seconds,
+                    wait_seconds == 1 ? "" : "s");
         nanosleep(&pause, NULL);
     }
     if (!is_still_there(folder))

@@ -34,6 +34,9 @@ extern unsigned wait_seconds;
  */
 void lock_folder(struct folder *folder);
 
+/* Ends the program if the name of a folder that is open leads to another one now. */
+void need_still_there(const struct folder *folder);
+
 /*
  * Reads a file of a folder, at most so many bytes as there is room for; its length, or NOT_THERE. Ends the program if the file cannot be
  * read, is longer, or is no regular file.

@@ -215,10 +215,12 @@ const char help_renew[] =
     "Options: --json, --full, --wait SECONDS\n";
 
 const char help_answer[] =
-    "usage: collector answer [--key FILE] [--bare] FOLDER [FIRST LAST]\n"
+    "usage: collector answer [OPTION]... FOLDER [FIRST LAST]\n"
     "\n"
     "Reads a knowledge from standard input and writes the batch for it to standard\n"
-    "output, as make does: the other end of exchange.\n";
+    "output, as make does: the other end of exchange.\n"
+    "\n"
+    "Options: --key FILE, --bare, --wait SECONDS\n";
 
 const char help_exchange[] =
     "usage: collector exchange [OPTION]... FOLDER COMMAND [ARGUMENT]...\n"

@@ -79,6 +79,15 @@ static void load_stores(void)
     }
 }
 
+/* Ends the program if the id of the new replica is one of an old one, or of one that they know edits of: ticks would be given twice. */
+static void need_new_id(const uint8_t *id)
+{
+    size_t at;
+    for (at = 0; at < folder_count; at++)
+        if (memcmp(stores[at].bytes + SYNC_STORE_OWN, id, SYNC_REPLICA) == 0 || largest_tick(knowledge_of(&stores[at]), id) > 0)
+            wrong_usage("--id: %s knows a replica with this id, and no two may ever have the same; give another one", folders[at]);
+}
+
 /*
  * Reads the names of all old replicas. What was seen is as the first of them says, for its directory is the one that the new replica goes
  * on with: of what only the others have seen there may be nothing in it yet, and so nothing that could be gone.
@@ -291,6 +300,7 @@ int command_renew(char **arguments)
     begin_store(&store, arguments[0], options.id);
     need_different(arguments);
     load_stores();
+    need_new_id(store.bytes + SYNC_STORE_OWN);
     load_old_names();
     collect_records();
     keep_greatest();

@@ -501,6 +501,7 @@ void save(struct replica *replica, const struct file *store)
     if (grown)
         prepare_tick(&tick, replica, store->bytes + SYNC_STORE_OWN, own_tick(store));
     prepare_own(&place, replica, STORE, store->bytes, store->n);
+    need_still_there(&replica->folder); /* a change of a folder that was moved away would be lost in the one that has its name now */
     /* The store before the tick: a crash between the two leaves a store that is ahead of the tick, which is no fault. */
     finish_change(&place, NOTHING_CHANGED);
     if (grown)

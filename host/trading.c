@@ -3,6 +3,7 @@
 #define _GNU_SOURCE
 
 #include <inttypes.h>
+#include <signal.h>
 #include <stdio.h>
 #include <stdlib.h>
 #include <string.h>
@@ -54,6 +55,7 @@ int command_knowledge(char **arguments)
 /* Says that others know later edits of the replica than its store has, and holds the folder. That it is held is said when it is. */
 static void hold_behind(const char *name, const char *number, uint64_t known)
 {
+    signal(SIGPIPE, SIG_IGN); /* a reader of the message that is gone must not keep the folder from being held */
     fflush(stdout);
     fprintf(stderr, "collector: %s: %s%s\n", name, number, behind_words);
     hold(&replica, &store, known);
@@ -196,7 +198,7 @@ static int apply_to(const char *folder)
     say_applied(stdout, options.list, is_other);
     warn_limits(&result);
     if (options.run && changes.count > 0) {
-        flush_output();
+        fflush(stdout); /* if that fails it is said at the end: nobody gives the command this list again */
         run_with_list(is_other);
     }
     return 0;
