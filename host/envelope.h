@@ -31,10 +31,10 @@ size_t seal(enum kind kind, const struct key *key, const uint8_t *bytes, size_t 
 
 /* What was found in an envelope. */
 struct opened {
-    const char *fault; /* in words, or null */
+    const char *fault; /* in words, or null; if there is one, nothing else but this is found: */
     int is_damaged;    /* the fault is damage, and no matter of keys or options */
     enum kind kind;
-    enum form form; /* KEYED also where the key is missing, which is no damage */
+    enum form form;
     const uint8_t *bytes;
     size_t n;
 };
