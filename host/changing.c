@@ -27,7 +27,7 @@ void begin_store(struct file *new, const char *folder, const char *id)
     if (id)
         read_id(&replicas, id, own);
     else if (getrandom(own, sizeof own, 0) != sizeof own)
-        trouble("random bytes", "cannot be had; give an id");
+        trouble("random bytes", "could not be obtained; give an id");
     number = sync_new(own, SYNC_REPLICA, new->bytes, sizeof new->bytes, &written);
     if (number != 0)
         refused(folder, number, NULL);

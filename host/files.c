@@ -74,7 +74,7 @@ struct folder open_folder(const char *name)
     if (errno == ENOENT)
         trouble(name, "is not there; collector new makes a replica");
     if (errno == ENOTDIR)
-        trouble(name, "is no folder, so it is no replica");
+        trouble(name, "is not a folder, so it is not a replica");
     trouble(name, "cannot be opened: %s", reason(errno));
 }
 
@@ -140,7 +140,7 @@ size_t read_in(const struct folder *folder, const char *name, uint8_t *bytes, si
     if (descriptor < 0 || fstat(descriptor, &about) != 0)
         trouble(place.text, "cannot be opened: %s", reason(errno));
     if (!S_ISREG(about.st_mode))
-        trouble(place.text, "is no regular file; something else put it there");
+        trouble(place.text, "is not a regular file; something else put it there");
     return read_open(descriptor, place.text, bytes, room, &about);
 }
 
@@ -364,7 +364,7 @@ static struct path place_of(const char *name)
     return path_of(name, "", "");
 }
 
-/* Writes to something that is no regular file. */
+/* Writes to something that is not a regular file. */
 static void write_through(const char *name, int descriptor, const uint8_t *bytes, size_t n)
 {
     if (descriptor < 0 || write_all(descriptor, bytes, n) != 0)

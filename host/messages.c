@@ -26,7 +26,7 @@ static const struct {
     const char *line, *more;
 } words[] = {
     [SYNC_CUT] = {"the bytes end too early; the file was cut on its way: have it sent again", ""},
-    [SYNC_FIXED_FIELD] = {"a fixed field differs, so this is no knowledge; look whether it is the right file", ""},
+    [SYNC_FIXED_FIELD] = {"a fixed field differs, so this is not a knowledge; look whether it is the right file", ""},
     [SYNC_COUNT] = {"a count is over its limit (16 replicas, 65 clock vectors, 64 ranges); " SEND_AGAIN, ""},
     [SYNC_FIRST_VECTOR] = {"the first clock vector is not empty; " SEND_AGAIN, ""},
     [SYNC_REPLICA_ID] = {"a replica id stands there twice; " SEND_AGAIN, ""},
@@ -43,10 +43,10 @@ static const struct {
     [SYNC_OVER_RECORDS] = {"the store would have over 256 records; put further items into another folder",
                            RENEW "  Another folder has replicas with ids of their own. If most items are live, only that helps.\n"},
     [SYNC_SHORT_BUFFER] = {"the buffer is too short; this program's buffers never are: please report it", ""},
-    [SYNC_STORE] = {"this is no valid store; do not mend it, and do not put a copy in its place",
+    [SYNC_STORE] = {"this is not a valid store; do not mend it, and do not put a copy in its place",
                     "  This does not pass by itself: something else wrote the file, or the disk damaged it. Keep it, and take what it\n"
                     "  held from a copy that is only read, or from the other servers:\n" NEW_ID},
-    [SYNC_BATCH] = {"this is no valid batch; have it sent again, or made again with your present knowledge", ""},
+    [SYNC_BATCH] = {"this is not a valid batch; have it sent again, or made again with your present knowledge", ""},
     [SYNC_ARGUMENT] = {"the first item is above the last; give the lower one first", ""},
     [SYNC_NOT_COVERED] = {"this batch builds on one that has not arrived yet; ask again with your present knowledge", ""},
     [SYNC_ABSENT] = {"the item is not there, or is deleted already; there is nothing to delete", ""},

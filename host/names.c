@@ -110,7 +110,7 @@ static size_t read_text(const struct folder *folder, char text[TEXT_MOST + 1], c
         return 0;
     }
     if (fstat(descriptor, &about) != 0 || !S_ISREG(about.st_mode))
-        *fault = "it is no regular file";
+        *fault = "it is not a regular file";
     else if ((n = read_all(descriptor, (uint8_t *)text, TEXT_MOST + 1)) < 0)
         *fault = reason(errno);
     else if (n > TEXT_MOST)

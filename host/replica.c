@@ -31,7 +31,7 @@ static void trim_key(struct key *key, const char *name)
     while (key->n > 0 && (key->bytes[key->n - 1] == '\n' || key->bytes[key->n - 1] == '\r'))
         key->n--;
     if (key->n < KEY_LEAST)
-        trouble(name, "is no key: it has fewer than %d bytes", KEY_LEAST);
+        trouble(name, "is not a key: it has fewer than %d bytes", KEY_LEAST);
 }
 
 static void read_folder_key(struct key *key, const struct folder *folder)
@@ -111,7 +111,7 @@ static struct opened open_own(const struct folder *folder, const char *name, con
     if (opened.fault)
         trouble(place.text, "%s%s", opened.fault, opened.is_damaged ? way_out : "");
     if (strcmp(kind_names[opened.kind], name) != 0)
-        trouble(place.text, "is no %s: its first line says %s", name, kind_names[opened.kind]);
+        trouble(place.text, "is not a %s: its first line says %s", name, kind_names[opened.kind]);
     return opened;
 }
 
@@ -186,7 +186,7 @@ void read_store(const struct replica *replica, struct file *store)
     const char *name = replica->folder.name;
     struct opened opened = {NULL, 0, STORE, BARE, raw, read_in(&replica->folder, "store", raw, sizeof raw)};
     if (opened.n == NOT_THERE)
-        trouble(name, "has no store in it, so it is no replica; collector new makes one");
+        trouble(name, "has no store in it, so it is not a replica; collector new makes one");
     if (opened.n > 0 && !is_envelope(raw, opened.n) && !may_be_bare(replica) && replica->last.is_there)
         trouble(inside(name, "store").text, "has no envelope, and the tick beside it has one: something else put it there%s", way_out);
     if (is_envelope(raw, opened.n) || !may_be_bare(replica))
@@ -264,7 +264,7 @@ const char *fault_of(const struct file *file, enum kind wanted)
         return "the file is empty";
     if (kind_of(file) != wanted) {
         int known = number_of(file) == 0;
-        snprintf(note, sizeof note, "the file is no %s%s%s", kind_names[wanted], known ? " but a " : "",
+        snprintf(note, sizeof note, "the file is not a %s%s%s", kind_names[wanted], known ? " but a " : "",
                  known ? kind_names[kind_of(file)] : "");
         return note;
     }
@@ -526,7 +526,7 @@ static struct opened open_any(const struct folder *folder, const char *name, con
         if (!opened.fault && strcmp(kind_names[opened.kind], name) == 0)
             return opened;
     }
-    trouble(inside(folder->name, name).text, "opens under none of these keys: %s", opened.fault ? opened.fault : "it is another file");
+    trouble(inside(folder->name, name).text, "cannot be opened with any of these keys: %s", opened.fault ? opened.fault : "it is another file");
 }
 
 enum form seal_again(const char *name, enum form *after)

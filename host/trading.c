@@ -71,9 +71,12 @@ static void need_no_later_edits(const char *name, struct part knowledge)
     uint64_t known = largest_tick(knowledge, store.bytes + SYNC_STORE_OWN);
     if (known <= own_tick(&store) || !is_folder(name))
         return;
+    trouble_means("other servers seem to know later edits by this replica than its store has, so let nothing edit it until this is tried"
+                  " again: ");
     open_locked(&replica, name);
     read_store(&replica, &store);
     need_store(&store);
+    trouble_means("");
     if (replica.last.is_there && known > own_tick(&store)) {
         hold_behind(name, "", known);
         exit(STATUS_FILES);
