@@ -5,13 +5,13 @@
 #include <string.h>
 
 #include "commands.h"
-#include "sync_format.h"
 #include "json.h"
 #include "messages.h"
 #include "names.h"
 #include "options.h"
 #include "replica.h"
 #include "show.h"
+#include "sync_format.h"
 
 static struct file store, other, after;
 

@@ -3,11 +3,11 @@
 #include <string.h>
 
 #include "changes.h"
-#include "sync_format.h"
 #include "ids.h"
 #include "json.h"
 #include "names.h"
 #include "show.h"
+#include "sync_format.h"
 
 const char *const change_names[] = {
     [CHANGE_NEW] = "new", [CHANGE_CHANGED] = "changed", [CHANGE_DELETED] = "deleted", [CHANGE_LOST] = "lost"};
@@ -20,7 +20,7 @@ static void add(struct changes *changes, enum change_kind kind, const uint8_t *r
     }
 }
 
-static int is_live(const uint8_t *record)
+int is_live(const uint8_t *record)
 {
     return record && record[0] == SYNC_KIND_LIVE;
 }

@@ -19,6 +19,9 @@ struct changes {
     struct change of[512]; /* at most two for each record of a batch */
 };
 
+/* Whether a record is live; none (null) is not. */
+int is_live(const uint8_t *record);
+
 /* Whether the first record's change version is the greater: by tick, then replica. */
 int is_greater(const uint8_t *first, const uint8_t *second);
 

@@ -9,12 +9,12 @@
 
 #include "changing.h"
 #include "commands.h"
-#include "sync_format.h"
 #include "messages.h"
 #include "options.h"
 #include "replica.h"
 #include "show.h"
 #include "status.h"
+#include "sync_format.h"
 
 static struct file result, store;
 static struct replica replica;
@@ -61,47 +61,39 @@ uint32_t change(struct draft *draft, const uint8_t *item, const uint8_t *tag)
     return 0;
 }
 
-/* Keeps the store that an edit or a deletion has written, or refuses as it did, and says what it came to. */
-static int keep(uint32_t number, uint64_t written, const char *done, const uint8_t *item)
+/* Edits an item, or deletes it if the tag is null, and says what it came to. */
+static int change_item(const char *folder, const char *item_given, const uint8_t *tag)
 {
-    char item_id[ID_TEXT], own[ID_TEXT];
+    struct draft draft = {&store, &result};
+    uint8_t item[SYNC_ITEM];
+    char text[ID_TEXT], own[ID_TEXT];
+    uint32_t number;
+    load_to_change(&replica, &store, folder);
+    add_ids(&store);
+    read_id(&items, item_given, item);
+    number = change(&draft, item, tag);
     if (number != 0)
-        refused(store.name, number, NULL);
-    result.name = store.name;
-    result.n = (size_t)written;
-    save(&replica, &result);
+        refused(folder, number, NULL);
+    save(&replica, draft.now);
     add_id(&items, item);
-    printf("%s item %s: tick %" PRIu64 " of replica %s\n", done, id_text(&items, item, item_id), own_tick(&result),
-           id_text(&replicas, result.bytes + SYNC_STORE_OWN, own));
-    warn_limits(&result);
+    printf("%s item %s: tick %" PRIu64 " of replica %s\n", tag ? "edited" : "deleted", id_text(&items, item, text), own_tick(draft.now),
+           id_text(&replicas, draft.now->bytes + SYNC_STORE_OWN, own));
+    warn_limits(draft.now);
     return 0;
 }
 
 int command_edit(char **arguments)
 {
-    uint8_t item[SYNC_ITEM], tag[SYNC_TAG];
-    uint64_t written = 0;
-    uint32_t number;
+    uint8_t tag[SYNC_TAG];
     need_id(&items, arguments[1]);
     read_tag(arguments[2], tag);
-    load_to_change(&replica, &store, arguments[0]);
-    add_ids(&store);
-    read_id(&items, arguments[1], item);
-    number = sync_edit(store.bytes, store.n, item, SYNC_ITEM, tag, SYNC_TAG, result.bytes, sizeof result.bytes, &written);
-    return keep(number, written, "edited", item);
+    return change_item(arguments[0], arguments[1], tag);
 }
 
 int command_delete(char **arguments)
 {
-    uint8_t item[SYNC_ITEM];
-    uint64_t written = 0;
-    uint32_t number;
     need_id(&items, arguments[1]);
-    load_to_change(&replica, &store, arguments[0]);
-    add_ids(&store);
-    read_id(&items, arguments[1], item);
-    number = sync_delete(store.bytes, store.n, item, SYNC_ITEM, result.bytes, sizeof result.bytes, &written);
-    return keep(number, written, "deleted", item);
+    return change_item(arguments[0], arguments[1], NULL);
 }
 
 int command_seal(char **arguments)

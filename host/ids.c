@@ -45,10 +45,8 @@ void add_id(struct ids *ids, const uint8_t *id)
             ids->front++;
     if (ids->count == ids->room) {
         ids->room = 2 * ids->room + 256;
-        ids->id = realloc(ids->id, ids->room * sizeof *ids->id);
+        ids->id = need_memory(realloc(ids->id, ids->room * sizeof *ids->id));
     }
-    if (!ids->id)
-        trouble("the ids", "have no room in memory");
     ids->id[ids->count++] = id;
 }
 

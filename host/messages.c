@@ -120,6 +120,13 @@ _Noreturn void trouble(const char *name, const char *format, ...)
     exit(trouble_status);
 }
 
+void *need_memory(void *memory)
+{
+    if (!memory)
+        trouble("memory", "there is not enough of it");
+    return memory;
+}
+
 void warn(const char *name, const char *format, ...)
 {
     va_list rest;

@@ -44,6 +44,9 @@ _Noreturn void wrong_usage(const char *format, ...);
 __attribute__((format(printf, 2, 3)))
 _Noreturn void trouble(const char *name, const char *format, ...);
 
+/* The memory that was asked for; ends the program if there is none. */
+void *need_memory(void *memory);
+
 /* Says something on standard error, and goes on. */
 __attribute__((format(printf, 2, 3)))
 void warn(const char *name, const char *format, ...);

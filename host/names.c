@@ -65,14 +65,10 @@ static struct name *put(const struct name *name)
     if (at == count || memcmp(names[at]->item, name->item, SYNC_ITEM) != 0) {
         if (count == room) {
             room = 2 * room + NAMES_MOST;
-            names = realloc(names, room * sizeof *names);
+            names = need_memory(realloc(names, room * sizeof *names));
         }
-        if (!names)
-            trouble("the names", "have no room in memory");
         memmove(names + at + 1, names + at, (count - at) * sizeof *names);
-        names[at] = malloc(sizeof **names);
-        if (!names[at])
-            trouble("the names", "have no room in memory");
+        names[at] = need_memory(malloc(sizeof **names));
         count++;
     }
     *names[at] = *name;

@@ -8,7 +8,6 @@
 #include "changes.h"
 #include "changing.h"
 #include "commands.h"
-#include "sync_format.h"
 #include "json.h"
 #include "messages.h"
 #include "names.h"
@@ -16,6 +15,7 @@
 #include "replica.h"
 #include "show.h"
 #include "status.h"
+#include "sync_format.h"
 
 static struct file store, spare;
 
@@ -32,19 +32,6 @@ struct winner {
 };
 static struct winner *winners;
 static size_t winner_count, live_count;
-
-static int is_live(const struct winner *winner)
-{
-    return winner->record[0] == SYNC_KIND_LIVE;
-}
-
-static void *need_memory(size_t n)
-{
-    void *memory = malloc(n > 0 ? n : 1);
-    if (!memory)
-        trouble("the old replicas", "there is no room in memory for all of them");
-    return memory;
-}
 
 /* ---- reading */
 
@@ -71,7 +58,7 @@ static void need_different(char **names)
 static void load_stores(void)
 {
     size_t at;
-    stores = need_memory(folder_count * sizeof *stores);
+    stores = need_memory(malloc(folder_count * sizeof *stores));
     for (at = 0; at < folder_count; at++) {
         load(&stores[at], folders[at]);
         need_store(&stores[at]);
@@ -123,7 +110,7 @@ static void collect_records(void)
     size_t at, place, total = 0;
     for (at = 0; at < folder_count; at++)
         total += records_of(&stores[at]).n / SYNC_RECORD_LENGTH;
-    winners = need_memory(total * sizeof *winners);
+    winners = need_memory(malloc((total + 1) * sizeof *winners));
     for (at = 0; at < folder_count; at++) {
         struct part table = records_of(&stores[at]);
         for (place = 0; place + SYNC_RECORD_LENGTH <= table.n; place += SYNC_RECORD_LENGTH, winner_count++) {
@@ -161,7 +148,7 @@ static void keep_greatest(void)
     }
     winner_count = kept;
     for (at = 0; at < winner_count; at++)
-        live_count += (size_t)is_live(&winners[at]);
+        live_count += (size_t)is_live(winners[at].record);
 }
 
 /* Edits the live items into the new store. */
@@ -176,7 +163,7 @@ static void edit_all(struct draft *draft)
     }
     for (at = 0; at < winner_count; at++) {
         const uint8_t *record = winners[at].record;
-        uint32_t number = is_live(&winners[at]) ? change(draft, record + SYNC_RECORD_ITEM, record + SYNC_RECORD_TAG) : 0;
+        uint32_t number = is_live(winners[at].record) ? change(draft, record + SYNC_RECORD_ITEM, record + SYNC_RECORD_TAG) : 0;
         if (number != 0)
             refused(draft->now->name, number, NULL);
     }
@@ -211,7 +198,7 @@ static void say_only_in(size_t folder)
         printf("  item %s", id_text(&items, winner->record + SYNC_RECORD_ITEM, text));
         if (name)
             printf(" (%s)", printable(name));
-        puts(is_live(winner) ? "" : ", deleted");
+        puts(is_live(winner->record) ? "" : ", deleted");
     }
 }
 
@@ -244,7 +231,7 @@ static void json_only_in(size_t folder)
         json_digits("item", winner->record + SYNC_RECORD_ITEM, SYNC_ITEM);
         if (name)
             json_text("name", name);
-        json_text("state", is_live(winner) ? "live" : "deleted");
+        json_text("state", is_live(winner->record) ? "live" : "deleted");
         json_close('}');
     }
     json_close(']');
@@ -272,7 +259,7 @@ static void warn_deleted(const char *folder)
 {
     size_t at;
     for (at = 0; at < winner_count; at++) {
-        const struct name *name = is_live(&winners[at]) ? NULL : find_name(winners[at].record + SYNC_RECORD_ITEM);
+        const struct name *name = is_live(winners[at].record) ? NULL : find_name(winners[at].record + SYNC_RECORD_ITEM);
         if (name && name->is_seen)
             warn(folder, "warning: %s is deleted, and was in the directory of %s at its last scan: remove it there before the next one",
                  printable(name->text), folders[0]);

@@ -8,10 +8,10 @@
 #include <string.h>
 #include <sys/stat.h>
 
-#include "sync_format.h"
 #include "ids.h"
 #include "messages.h"
 #include "options.h"
+#include "sync_format.h"
 
 static uint8_t raw[FILE_MOST]; /* a file as it stands on the disk */
 

@@ -14,7 +14,6 @@
 
 #include "changing.h"
 #include "commands.h"
-#include "sync_format.h"
 #include "json.h"
 #include "messages.h"
 #include "names.h"
@@ -22,6 +21,7 @@
 #include "replica.h"
 #include "show.h"
 #include "status.h"
+#include "sync_format.h"
 
 static struct file store, spare;
 static struct replica replica;
@@ -46,13 +46,6 @@ static const char *place(const char *name)
 static int by_text(const void *first, const void *second)
 {
     return strcmp(*(char *const *)first, *(char *const *)second);
-}
-
-static void *need_memory(void *memory)
-{
-    if (!memory)
-        trouble(top_name, "there is no room in memory for what stands in it");
-    return memory;
 }
 
 /* What stands in a directory, sorted, so that all that is done and said is the same everywhere. */

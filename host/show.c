@@ -4,10 +4,10 @@
 #include <stdio.h>
 #include <string.h>
 
-#include "sync_format.h"
 #include "ids.h"
 #include "json.h"
 #include "names.h"
+#include "sync_format.h"
 
 /* A table of text cells, with columns as wide as their widest cell. */
 enum { CELL = ID_TEXT + 208, COLUMNS = 17, ROWS = 257 };

@@ -5,11 +5,11 @@
 #include <string.h>
 
 #include "commands.h"
-#include "sync_format.h"
 #include "json.h"
 #include "messages.h"
 #include "options.h"
 #include "show.h"
+#include "sync_format.h"
 
 #define LAST_TICK_EVER INT64_MAX
 

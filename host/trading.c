@@ -10,7 +10,6 @@
 
 #include "changes.h"
 #include "commands.h"
-#include "sync_format.h"
 #include "json.h"
 #include "messages.h"
 #include "names.h"
@@ -19,6 +18,7 @@
 #include "show.h"
 #include "start.h"
 #include "status.h"
+#include "sync_format.h"
 
 static struct file result, store, other;
 static struct replica replica;
@@ -164,13 +164,11 @@ static void run_with_list(int is_other)
 {
     char *command[] = {"sh", "-c", (char *)options.run, NULL}, *list = NULL;
     size_t n = 0;
-    FILE *out = open_memstream(&list, &n);
+    FILE *out = need_memory(open_memstream(&list, &n));
     int ended;
-    if (!out)
-        trouble("the list", "has no room in memory");
     say_applied(out, 1, is_other);
     if (fclose(out) != 0)
-        trouble("the list", "has no room in memory");
+        need_memory(NULL);
     ended = start(command, list, n, NULL, 0, NULL);
     free(list);
     if (ended != 0)
