@@ -289,6 +289,7 @@ static uint32_t covers(struct part first, struct part second, const struct span 
 struct comparison {
     uint32_t order;
     const uint8_t *lacks[2]; /* of the first and of the second, or null */
+    int is_put_back[2];      /* the other knows later edits by its replica than it does */
     size_t unlike_count;
     const uint8_t *unlike[512];
 };
@@ -303,6 +304,18 @@ static void find_unlike(struct comparison *found, struct part first, struct part
         if (differs && memcmp(span->first, item, SYNC_ITEM) <= 0 && memcmp(item, span->last, SYNC_ITEM) <= 0)
             found->unlike[found->unlike_count++] = item;
     }
+}
+
+/* Whether a file is a store, and others know later edits by its own replica than it does. */
+static int is_put_back(const struct file *file, struct part others)
+{
+    return kind_of(file) == STORE && largest_tick(others, file->bytes + SYNC_STORE_OWN) > own_tick(file);
+}
+
+static void say_put_back(const struct file *file, const struct file *others)
+{
+    printf("  %s knows later edits by the replica of %s than %s does: it was put back from a copy, or two servers have one id;\n"
+           "  do not edit %s\n", others->name, file->name, file->name, file->name);
 }
 
 static const char *const order_names[] = {
@@ -342,6 +355,10 @@ static void say_comparison(const struct comparison *found)
         say_lack(&store, found->lacks[0]);
     if (found->lacks[1])
         say_lack(&other, found->lacks[1]);
+    if (found->is_put_back[0])
+        say_put_back(&store, &other);
+    if (found->is_put_back[1])
+        say_put_back(&other, &store);
     if (found->unlike_count > 0)
         puts("BUT THEY HOLD UNLIKE RECORDS, which cannot be unless an assumption was broken: a store was put back from a copy, an id\n"
              "was used twice, or a file was changed. Edit neither; README, \"Never put a store back from a copy\", has the way out.");
@@ -376,6 +393,12 @@ static void json_comparison(const struct comparison *found)
     if (found->lacks[1])
         json_lack(&other, found->lacks[1]);
     json_close(']');
+    json_open("put_back", '[');
+    if (found->is_put_back[0])
+        json_text(NULL, store.name);
+    if (found->is_put_back[1])
+        json_text(NULL, other.name);
+    json_close(']');
     json_open("unlike", '[');
     for (at = 0; at < found->unlike_count; at++)
         json_digits(NULL, found->unlike[at], SYNC_ITEM);
@@ -398,29 +421,41 @@ static void compare_all(struct comparison *found, struct part first, struct part
         found->lacks[1] = found->order & SYNC_BEHIND ? lacks + SYNC_LACK_LENGTH : lacks;
 }
 
+/* Compares the two files that were read. Over all items it also finds what each lacks first. */
+static void compare_files(struct comparison *found, const struct span *span, int is_all)
+{
+    struct part first = knowledge_of(&store), second = knowledge_of(&other);
+    memset(found, 0, sizeof *found);
+    if (is_all)
+        compare_all(found, first, second);
+    else
+        found->order = (covers(first, second, span) ? 0 : SYNC_BEHIND) | (covers(second, first, span) ? 0 : SYNC_AHEAD);
+    found->is_put_back[0] = is_put_back(&store, second);
+    found->is_put_back[1] = is_put_back(&other, first);
+    if (found->order == SYNC_ALIKE && kind_of(&store) == STORE && kind_of(&other) == STORE) {
+        find_unlike(found, records_of(&store), records_of(&other), span, 0);
+        find_unlike(found, records_of(&other), records_of(&store), span, 1);
+    }
+}
+
 int command_compare(char **arguments)
 {
     static struct comparison found;
     struct span span = read_span(arguments + 2);
-    struct part first, second;
     refusals_are_trouble = 1;
     load_with_names(&store, arguments[0]);
     load_with_names(&other, arguments[1]);
-    first = knowledge_of(&store);
-    second = knowledge_of(&other);
-    if (arguments[2])
-        found.order = (covers(first, second, &span) ? 0 : SYNC_BEHIND) | (covers(second, first, &span) ? 0 : SYNC_AHEAD);
-    else
-        compare_all(&found, first, second);
-    if (found.order == SYNC_ALIKE && kind_of(&store) == STORE && kind_of(&other) == STORE) {
-        find_unlike(&found, records_of(&store), records_of(&other), &span, 0);
-        find_unlike(&found, records_of(&other), records_of(&store), &span, 1);
+    compare_files(&found, &span, !arguments[2]);
+    if (found.is_put_back[0] && is_folder(arguments[0])) {
+        /* It was read first: an edit that was made meanwhile may have reached the second already. */
+        load(&store, arguments[0]);
+        compare_files(&found, &span, !arguments[2]);
     }
     if (options.json)
         json_comparison(&found);
     else
         say_comparison(&found);
-    return found.order != SYNC_ALIKE || found.unlike_count > 0 ? STATUS_NO : 0;
+    return found.order != SYNC_ALIKE || found.unlike_count > 0 || found.is_put_back[0] || found.is_put_back[1] ? STATUS_NO : 0;
 }
 
 /* ---- coverage */

@@ -83,6 +83,8 @@ void take_file(struct file *file, const char *name, const uint8_t *read, size_t 
     opened = open_envelope(&files_key, read, n);
     if (opened.fault)
         trouble(name, "%s%s", opened.fault, opened.is_damaged ? "; have it sent again" : "");
+    if (opened.kind == LAST_TICK)
+        trouble(name, "is the last tick of a replica, and the command takes a knowledge, a store or a batch there");
     put_bytes(file, name, opened.form, opened.bytes, opened.n);
     if (kind_of(file) != opened.kind)
         trouble(name, "its first line says %s, and the bytes in it are another thing", kind_names[opened.kind]);
@@ -387,7 +389,7 @@ int is_latest(const struct last *last, const struct file *store)
 void need_latest(const struct replica *replica, const struct file *store)
 {
     const struct last *last = &replica->last;
-    char text[ID_TEXT], words[160];
+    char text[ID_TEXT], words[240];
     if (is_latest(last, store))
         return;
     if (!last->is_there)
@@ -396,7 +398,7 @@ void need_latest(const struct replica *replica, const struct file *store)
         snprintf(words, sizeof words, "the store was put here from elsewhere: this folder is replica %s's",
                  id_text(&replicas, last->own, text));
     else
-        snprintf(words, sizeof words, "the store was put back from a copy: its own tick is %" PRIu64
+        snprintf(words, sizeof words, "the store was put back from a copy, or another server has its id: its own tick is %" PRIu64
                  ", and this replica has given ticks up to %" PRIu64, own_tick(store), last->tick);
     not_latest(replica->folder.name, words);
 }
@@ -526,7 +528,8 @@ static struct opened open_any(const struct folder *folder, const char *name, con
         if (!opened.fault && strcmp(kind_names[opened.kind], name) == 0)
             return opened;
     }
-    trouble(inside(folder->name, name).text, "cannot be opened with any of these keys: %s", opened.fault ? opened.fault : "it is another file");
+    trouble(inside(folder->name, name).text, "cannot be opened with any of these keys: %s",
+            opened.fault ? opened.fault : "it is another file");
 }
 
 enum form seal_again(const char *name, enum form *after)
