@@ -103,16 +103,22 @@ static void make_batch(const char *folder, const char *asked, char **span_argume
     result.n = (size_t)written;
 }
 
+/* Writes a file where the user wants it, and says what it is unless that is where the message would go. */
+static int write_and_say(const char *name, const struct file *file)
+{
+    write_out(name, kind_of(file), file->bytes, file->n);
+    if (!is_standard(name)) {
+        add_ids(file);
+        printf("%s is a ", name);
+        show_kind(file);
+    }
+    return 0;
+}
+
 int command_make(char **arguments)
 {
     make_batch(arguments[0], arguments[1], arguments + 3);
-    write_out(arguments[2], BATCH, result.bytes, result.n);
-    if (is_standard(arguments[2]))
-        return 0;
-    add_ids(&result);
-    printf("%s is a ", arguments[2]);
-    show_kind(&result);
-    return 0;
+    return write_and_say(arguments[2], &result);
 }
 
 int command_answer(char **arguments)
@@ -242,14 +248,8 @@ int command_exchange(char **arguments)
 int command_pack(char **arguments)
 {
     load_bare(&other, arguments[0]);
-    knowledge_of(&other);
-    write_out(arguments[1], kind_of(&other), other.bytes, other.n);
-    if (is_standard(arguments[1]))
-        return 0;
-    add_ids(&other);
-    printf("%s is a ", arguments[1]);
-    show_kind(&other);
-    return 0;
+    knowledge_of(&other); /* which refuses bytes that are not valid */
+    return write_and_say(arguments[1], &other);
 }
 
 int command_unpack(char **arguments)
