@@ -36,7 +36,7 @@ extern "C" {
 
 /*
  * The lengths of the longest knowledge, store and batch, in bytes. A buffer of this length is never too short for a
- * result. That is proved by theorem `enough`, crates/replication/proofs/Enough.antt, for stores and batches, and by
+ * result. That is proved by theorem `enough`, crates/corollaries/proofs/Enough.antt, for stores and batches, and by
  * `lawful-length`, crates/layout/proofs/Lengths.antt, for knowledges.
  */
 #define SYNC_LARGEST_KNOWLEDGE 14933

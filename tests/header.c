@@ -6,6 +6,8 @@
 #include <string.h>
 
 #include "sync.h"
+
+#include "knowledges.h"
 #include "wrote.h"
 
 #define LENGTH 113
@@ -37,43 +39,25 @@ static int right(size_t n, uint32_t number, uint64_t r, uint64_t v, uint64_t e, 
     return 0;
 }
 
-#define ITEM 24
-#define REPLICA 16
+#define ITEM_LENGTH 24
+#define REPLICA_LENGTH 16
 
-/* A: tick 5 of replica P everywhere. */
-static const uint8_t a[] = {
-    0, 0, 0, 5,  0, 0, 0, 0,  0, 0, 0, 1,  0, 0, 0, 0,
-    0, 0, 0, 5,  0,  0, 16,  0, 0, 0, 1,
-    0, 0, 0, 0, 0, 0, 0, 0, 0, 0, 0, 0, 0, 0, 0, 1,
-    0, 0, 0, 24,  0,  0, 16,  0,  0, 24,  0,  0, 1,
-    0, 0, 0, 21,  0, 0, 0, 2,
-    0, 0, 0, 1,  0, 0, 0, 0,
-    0, 0, 0, 1,  0, 0, 0, 1,  0, 0, 0, 0,  0, 0, 0, 0, 0, 0, 0, 5,
-    0, 0, 0, 23,  0, 0, 0, 1,  0, 0, 0, 22,  0, 0, 0, 1,
-    0, 0, 0, 0, 0, 0, 0, 0, 0, 0, 0, 0, 0, 0, 0, 0, 0, 0, 0, 0, 0, 0, 0, 0,  0, 0, 0, 1,
-    0, 0, 0, 0,  0, 0, 0, 25,  1,  0, 0, 0, 0
+/* The knowledges of K4, everywhere: A with tick 5 of replica P; B with tick 3 of P and tick 2 of Q; and the two merged. */
+static const uint8_t a[] = {KNOWS(P, 5)};
+static const uint8_t b[] = {KNOWS_BOTH(3, 2)};
+static const uint8_t merged[] = {KNOWS_BOTH(5, 2)};
+
+/* A from item 1 to the top: nothing, and from item 1 on tick 5 of replica P. */
+static const uint8_t part[] = {
+    OPENING, NUMBER(1), REPLICA(P), BEFORE_VECTORS, NUMBER(2), NO_ELEMENTS, NUMBER(1), NUMBER(1), NUMBER(0), TICK(5),
+    BEFORE_RANGES, NUMBER(2), ITEM(0), NUMBER(0), ITEM(1), NUMBER(1), CLOSING
 };
 
-/* B: tick 3 of replica P and tick 2 of replica Q everywhere. */
-static const uint8_t b[] = {
-    0, 0, 0, 5,  0, 0, 0, 0,  0, 0, 0, 1,  0, 0, 0, 0,
-    0, 0, 0, 5,  0,  0, 16,  0, 0, 0, 2,
-    0, 0, 0, 0, 0, 0, 0, 0, 0, 0, 0, 0, 0, 0, 0, 1,
-    0, 0, 0, 0, 0, 0, 0, 0, 0, 0, 0, 0, 0, 0, 0, 2,
-    0, 0, 0, 24,  0,  0, 16,  0,  0, 24,  0,  0, 1,
-    0, 0, 0, 21,  0, 0, 0, 2,
-    0, 0, 0, 1,  0, 0, 0, 0,
-    0, 0, 0, 1,  0, 0, 0, 2,  0, 0, 0, 0,  0, 0, 0, 0, 0, 0, 0, 3,  0, 0, 0, 1,  0, 0, 0, 0, 0, 0, 0, 2,
-    0, 0, 0, 23,  0, 0, 0, 1,  0, 0, 0, 22,  0, 0, 0, 1,
-    0, 0, 0, 0, 0, 0, 0, 0, 0, 0, 0, 0, 0, 0, 0, 0, 0, 0, 0, 0, 0, 0, 0, 0,  0, 0, 0, 1,
-    0, 0, 0, 0,  0, 0, 0, 25,  1,  0, 0, 0, 0
-};
-
-static const uint8_t p[REPLICA] = {0, 0, 0, 0, 0, 0, 0, 0, 0, 0, 0, 0, 0, 0, 0, 1};
-static const uint8_t q[REPLICA] = {0, 0, 0, 0, 0, 0, 0, 0, 0, 0, 0, 0, 0, 0, 0, 2};
-static const uint8_t first[ITEM] = {0, 0, 0, 0, 0, 0, 0, 0, 0, 0, 0, 0, 0, 0, 0, 0, 0, 0, 0, 0, 0, 0, 0, 0};
-static const uint8_t last[ITEM] = {255, 255, 255, 255, 255, 255, 255, 255, 255, 255, 255, 255,
-                                   255, 255, 255, 255, 255, 255, 255, 255, 255, 255, 255, 255};
+static const uint8_t p[] = {REPLICA(P)};
+static const uint8_t q[] = {REPLICA(Q)};
+static const uint8_t first[] = {ITEM(0)};
+static const uint8_t one[] = {ITEM(1)};
+static const uint8_t last[] = {TOP};
 
 /* Whether a call gave the number, and the value ended as this one. */
 static int gave(const char *call, uint32_t given, uint32_t number, int64_t value, int64_t wanted)
@@ -88,71 +72,39 @@ static int gave(const char *call, uint32_t given, uint32_t number, int64_t value
 static int contain(const uint8_t *knowledge, size_t n, size_t replica, uint64_t tick, uint32_t number, uint32_t wanted)
 {
     uint32_t contained = 7;
-    uint32_t given = sync_contain(knowledge, n, last, ITEM, p, replica, tick, &contained);
+    uint32_t given = sync_contain(knowledge, n, last, ITEM_LENGTH, p, replica, tick, &contained);
     return gave("contain", given, number, contained, wanted);
 }
 
 static int lead(const uint8_t *replica, size_t item, uint32_t number, int64_t wanted)
 {
     int64_t value = 7;
-    uint32_t given = sync_lead(a, sizeof a, b, sizeof b, first, item, replica, REPLICA, &value);
+    uint32_t given = sync_lead(a, sizeof a, b, sizeof b, first, item, replica, REPLICA_LENGTH, &value);
     return gave("lead", given, number, value, wanted);
 }
 
 static int cover(const uint8_t *knowledge, size_t n, const uint8_t *from, const uint8_t *to, uint32_t number, uint32_t wanted)
 {
     uint32_t covers = 7;
-    uint32_t given = sync_cover(knowledge, n, a, sizeof a, from, ITEM, to, ITEM, &covers);
+    uint32_t given = sync_cover(knowledge, n, a, sizeof a, from, ITEM_LENGTH, to, ITEM_LENGTH, &covers);
     return gave("cover", given, number, covers, wanted);
 }
 
 static int calls(void)
 {
-    return contain(a, sizeof a, REPLICA, 5, 0, 1)
-        && contain(a, sizeof a, REPLICA, 6, 0, 0)
-        && contain(a, sizeof a, REPLICA, 0, 0, 0)
-        && contain(a, sizeof a - 1, REPLICA - 1, 5, SYNC_CUT, 7)
-        && contain(a, sizeof a, REPLICA - 1, 5, 17, 7)
-        && lead(p, ITEM, 0, 2)
-        && lead(q, ITEM, 0, -2)
+    return contain(a, sizeof a, REPLICA_LENGTH, 5, 0, 1)
+        && contain(a, sizeof a, REPLICA_LENGTH, 6, 0, 0)
+        && contain(a, sizeof a, REPLICA_LENGTH, 0, 0, 0)
+        && contain(a, sizeof a - 1, REPLICA_LENGTH - 1, 5, SYNC_CUT, 7)
+        && contain(a, sizeof a, REPLICA_LENGTH - 1, 5, 17, 7)
+        && lead(p, ITEM_LENGTH, 0, 2)
+        && lead(q, ITEM_LENGTH, 0, -2)
         && lead(q, 0, 17, 7)
         && cover(a, sizeof a, first, last, 0, 1)
         && cover(b, sizeof b, first, last, 0, 0)
         && cover(b, sizeof b, last, first, 17, 7)
         && cover(b, 0, last, first, SYNC_CUT, 7);
 }
-
-/* A and B merged: tick 5 of replica P and tick 2 of replica Q everywhere. */
-static const uint8_t merged[] = {
-    0, 0, 0, 5,  0, 0, 0, 0,  0, 0, 0, 1,  0, 0, 0, 0,
-    0, 0, 0, 5,  0,  0, 16,  0, 0, 0, 2,
-    0, 0, 0, 0, 0, 0, 0, 0, 0, 0, 0, 0, 0, 0, 0, 1,
-    0, 0, 0, 0, 0, 0, 0, 0, 0, 0, 0, 0, 0, 0, 0, 2,
-    0, 0, 0, 24,  0,  0, 16,  0,  0, 24,  0,  0, 1,
-    0, 0, 0, 21,  0, 0, 0, 2,
-    0, 0, 0, 1,  0, 0, 0, 0,
-    0, 0, 0, 1,  0, 0, 0, 2,  0, 0, 0, 0,  0, 0, 0, 0, 0, 0, 0, 5,  0, 0, 0, 1,  0, 0, 0, 0, 0, 0, 0, 2,
-    0, 0, 0, 23,  0, 0, 0, 1,  0, 0, 0, 22,  0, 0, 0, 1,
-    0, 0, 0, 0, 0, 0, 0, 0, 0, 0, 0, 0, 0, 0, 0, 0, 0, 0, 0, 0, 0, 0, 0, 0,  0, 0, 0, 1,
-    0, 0, 0, 0,  0, 0, 0, 25,  1,  0, 0, 0, 0
-};
-
-/* A from item 1 to the top: nothing, and from item 1 on tick 5 of replica P. */
-static const uint8_t part[] = {
-    0, 0, 0, 5,  0, 0, 0, 0,  0, 0, 0, 1,  0, 0, 0, 0,
-    0, 0, 0, 5,  0,  0, 16,  0, 0, 0, 1,
-    0, 0, 0, 0, 0, 0, 0, 0, 0, 0, 0, 0, 0, 0, 0, 1,
-    0, 0, 0, 24,  0,  0, 16,  0,  0, 24,  0,  0, 1,
-    0, 0, 0, 21,  0, 0, 0, 2,
-    0, 0, 0, 1,  0, 0, 0, 0,
-    0, 0, 0, 1,  0, 0, 0, 1,  0, 0, 0, 0,  0, 0, 0, 0, 0, 0, 0, 5,
-    0, 0, 0, 23,  0, 0, 0, 1,  0, 0, 0, 22,  0, 0, 0, 2,
-    0, 0, 0, 0, 0, 0, 0, 0, 0, 0, 0, 0, 0, 0, 0, 0, 0, 0, 0, 0, 0, 0, 0, 0,  0, 0, 0, 0,
-    0, 0, 0, 0, 0, 0, 0, 0, 0, 0, 0, 0, 0, 0, 0, 0, 0, 0, 0, 0, 0, 0, 0, 1,  0, 0, 0, 1,
-    0, 0, 0, 0,  0, 0, 0, 25,  1,  0, 0, 0, 0
-};
-
-static const uint8_t one[ITEM] = {0, 0, 0, 0, 0, 0, 0, 0, 0, 0, 0, 0, 0, 0, 0, 0, 0, 0, 0, 0, 0, 0, 0, 1};
 
 static int writing(void)
 {
@@ -165,12 +117,12 @@ static int writing(void)
         && wrote("merge", sync_merge(b, sizeof b, a, sizeof a, out, sizeof merged, &written), 0, merged, sizeof merged)
         && wrote("merge", sync_merge(a, sizeof a, b, sizeof b - 1, out, ROOM, &written), SYNC_CUT, out, 0)
         && wrote("merge", sync_merge(a, sizeof a, b, sizeof b, out, 0, &written), SYNC_SHORT_BUFFER, out, 0)
-        && wrote("project", sync_project(a, sizeof a, one, ITEM, last, ITEM, out, ROOM, &written), 0, part, sizeof part)
-        && wrote("project", sync_project(a, sizeof a, first, ITEM, last, ITEM, out, ROOM, &written), 0, a, sizeof a)
-        && wrote("project", sync_project(a, sizeof a, last, ITEM, one, ITEM, out, ROOM, &written), SYNC_ARGUMENT, out, 0)
-        && wrote("project", sync_project(a, sizeof a, one, ITEM - 1, last, ITEM, out, ROOM, &written), SYNC_ARGUMENT, out, 0)
-        && wrote("project", sync_project(a, sizeof a, one, ITEM, last, ITEM, out, sizeof part - 1, &written), SYNC_SHORT_BUFFER,
-                 out, 0);
+        && wrote("project", sync_project(a, sizeof a, one, ITEM_LENGTH, last, ITEM_LENGTH, out, ROOM, &written), 0, part, sizeof part)
+        && wrote("project", sync_project(a, sizeof a, first, ITEM_LENGTH, last, ITEM_LENGTH, out, ROOM, &written), 0, a, sizeof a)
+        && wrote("project", sync_project(a, sizeof a, last, ITEM_LENGTH, one, ITEM_LENGTH, out, ROOM, &written), SYNC_ARGUMENT, out, 0)
+        && wrote("project", sync_project(a, sizeof a, one, ITEM_LENGTH - 1, last, ITEM_LENGTH, out, ROOM, &written), SYNC_ARGUMENT, out, 0)
+        && wrote("project", sync_project(a, sizeof a, one, ITEM_LENGTH, last, ITEM_LENGTH, out, sizeof part - 1, &written),
+                 SYNC_SHORT_BUFFER, out, 0);
 }
 
 /* A knowledge as it is given to a call, or other bytes. */
@@ -183,13 +135,8 @@ static const struct input in_a = {a, sizeof a}, in_b = {b, sizeof b}, in_merged 
 static const struct input in_cut = {a, sizeof a - 1}, in_longer = {bytes, LENGTH + 1};
 
 /* What A lacks of B, tick 2 of replica Q at item 0, and what B lacks of A, which knows tick 5 of replica P there and not 3. */
-#define LACK 56
-static const uint8_t lacks[SYNC_LARGEST_COMPARISON] = {
-    0, 0, 0, 0, 0, 0, 0, 0, 0, 0, 0, 0, 0, 0, 0, 0, 0, 0, 0, 0, 0, 0, 0, 0,
-    0, 0, 0, 0, 0, 0, 0, 0, 0, 0, 0, 0, 0, 0, 0, 2,  0, 0, 0, 0, 0, 0, 0, 0,  0, 0, 0, 0, 0, 0, 0, 2,
-    0, 0, 0, 0, 0, 0, 0, 0, 0, 0, 0, 0, 0, 0, 0, 0, 0, 0, 0, 0, 0, 0, 0, 0,
-    0, 0, 0, 0, 0, 0, 0, 0, 0, 0, 0, 0, 0, 0, 0, 1,  0, 0, 0, 0, 0, 0, 0, 5,  0, 0, 0, 0, 0, 0, 0, 3
-};
+#define LACK_LENGTH 56
+static const uint8_t lacks[SYNC_LARGEST_COMPARISON] = {LACK(0, Q, 0, 2), LACK(0, P, 5, 3)};
 
 /* Whether comparing two, with so much room, gives the number, the order and these n bytes; the order stays 7 on a refusal. */
 static int compare(struct input x, struct input y, size_t room, uint32_t number, uint32_t order, const uint8_t *wanted, size_t n)
@@ -203,13 +150,13 @@ static int comparing(void)
 {
     forget();
     return compare(in_a, in_a, 0, 0, SYNC_ALIKE, lacks, 0)
-        && compare(in_a, in_merged, LACK, 0, SYNC_BEHIND, lacks, LACK)
-        && compare(in_merged, in_b, LACK, 0, SYNC_AHEAD, lacks + LACK, LACK)
+        && compare(in_a, in_merged, LACK_LENGTH, 0, SYNC_BEHIND, lacks, LACK_LENGTH)
+        && compare(in_merged, in_b, LACK_LENGTH, 0, SYNC_AHEAD, lacks + LACK_LENGTH, LACK_LENGTH)
         && compare(in_a, in_b, SYNC_LARGEST_COMPARISON, 0, SYNC_APART, lacks, sizeof lacks)
         && compare(in_a, in_b, ROOM, 0, SYNC_APART, lacks, sizeof lacks)
         && compare(in_cut, in_longer, 0, SYNC_CUT, 7, out, 0)
         && compare(in_b, in_longer, 0, SYNC_LEFT_OVER, 7, out, 0)
-        && compare(in_merged, in_b, LACK - 1, SYNC_SHORT_BUFFER, 7, out, 0)
+        && compare(in_merged, in_b, LACK_LENGTH - 1, SYNC_SHORT_BUFFER, 7, out, 0)
         && compare(in_a, in_b, SYNC_LARGEST_COMPARISON - 1, SYNC_SHORT_BUFFER, 7, out, 0);
 }
 
@@ -219,16 +166,17 @@ static int overlapping(void)
     const uint8_t *inside = a + 16;
     uint32_t covers = 7, contained = 7;
     int64_t value = 7;
-    uint32_t cover_gave = sync_cover(b, sizeof b, b, sizeof b, inside, ITEM, inside, ITEM, &covers);
-    uint32_t lead_gave = sync_lead(a, sizeof a, a, sizeof a, inside, ITEM, inside + 4, REPLICA, &value);
-    uint32_t contain_gave = sync_contain(a, sizeof a, inside, ITEM, a + 27, REPLICA, 5, &contained);
+    uint32_t cover_gave = sync_cover(b, sizeof b, b, sizeof b, inside, ITEM_LENGTH, inside, ITEM_LENGTH, &covers);
+    uint32_t lead_gave = sync_lead(a, sizeof a, a, sizeof a, inside, ITEM_LENGTH, inside + 4, REPLICA_LENGTH, &value);
+    uint32_t contain_gave = sync_contain(a, sizeof a, inside, ITEM_LENGTH, a + 27, REPLICA_LENGTH, 5, &contained);
     forget();
     return gave("cover", cover_gave, 0, covers, 1)
         && gave("lead", lead_gave, 0, value, 0)
         && gave("contain", contain_gave, 0, contained, 1)
         && compare(in_b, in_b, 0, 0, SYNC_ALIKE, lacks, 0)
         && wrote("merge", sync_merge(b, sizeof b, b, sizeof b, out, ROOM, &written), 0, b, sizeof b)
-        && wrote("project", sync_project(a, sizeof a, inside, ITEM, inside, ITEM, out, 0, &written), SYNC_SHORT_BUFFER, out, 0);
+        && wrote("project", sync_project(a, sizeof a, inside, ITEM_LENGTH, inside, ITEM_LENGTH, out, 0, &written),
+                 SYNC_SHORT_BUFFER, out, 0);
 }
 
 int main(void)

@@ -8,3 +8,6 @@ pub mod Total
 pub mod Words
 pub mod Writing
 pub mod Calls
+pub mod Ids
+pub mod Ended
+pub mod Written

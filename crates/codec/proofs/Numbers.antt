@@ -5,7 +5,8 @@
 use mathlib.Core.Path.{_≡_, refl, sym, ap, ap₂, _∙_}
 use mathlib.Core.List.{List, [], _∷_, _++_}
 use Prim.Native.Nat.{ℕ, zero, suc, _+_, _*_, _/_, _%_, _^_, _<_, _≤_}
-use native.Mathlib.Nat.{add-zero, zero-add, suc-add, add-assoc, add-mul, mul-assoc, mul-comm, zero-mul, pow-succ', one-le-pow, zero-lt-suc, mod-lt, mod-eq-of-lt, mod-one, mul-add-div-right, mul-add-mod-self-right, div-div-eq-div-mul}
+use native.Mathlib.Nat.{add-zero, zero-add, suc-add, add-assoc, add-mul, mul-assoc, mul-comm, zero-mul, pow-succ', one-le-pow, zero-lt-suc}
+use native.Mathlib.Nat.{mod-lt, mod-eq-of-lt, mod-one, mul-add-div-right, mul-add-mod-self-right, div-div-eq-div-mul}
 use native.Mathlib.Numerals.{add-one, one-add}
 use native.Mathlib.Omega.{arith}
 use lib.Arith.{digits-lt, digits-div, mod-mul}

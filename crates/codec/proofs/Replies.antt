@@ -17,7 +17,7 @@ use borrow.Author.Tests.{leb-true, leb-false, le-leb, lt-leb}
 use Rattle.codec.specs.declared.Answer.{Answer}
 use Rattle.codec.specs.declared.Answer.the-variants.{Written, Refused}
 use Rattle.codec.specs.Reply.{Reply, gives, refuses, answer, after, numberOf, writtenOf, Line, firstFault}
-use Rattle.codec.specs.Parsed.{Parsed, accepted, refused, line, ownFault, readOr}
+use Rattle.codec.specs.Parsed.{accepted, refused, line, ownFault, readOr}
 
 -- ---- tables of refusals
 
@@ -82,17 +82,9 @@ fault-exact ls bs n = (fault-first ls bs n, fault-at refuses ls (gives bs) n)
 
 -- ---- the line of what was read
 
-pub fault-accepted : {A : Type 0} (x : A) → ownFault (accepted x) .holds ≡ false
-unfolding ownFault
-fault-accepted x = refl
-
 pub fault-refused : (A : Type 0) (n : ℕ) → ownFault {A = A} (refused n) .holds ≡ true
 unfolding ownFault
 fault-refused A n = refl
-
-pub fault-number : (A : Type 0) (n : ℕ) → ownFault {A = A} (refused n) .number ≡ n
-unfolding ownFault
-fault-number A n = refl
 
 pub read-accepted : {A : Type 0} (other x : A) → readOr other (accepted x) ≡ x
 unfolding readOr

@@ -1,5 +1,5 @@
 -- The total leaves: a number that is there is the number of its bytes, one that is not is 0, and an id is its words. A limit that is
--- brought into 1 to a largest is there, and one that was there already is the same. Each definition makes the test that
+-- clamped to 1 to a largest is there, and one that was there already is the same. Each definition makes the test that
 -- decides, so its cases are its laws.
 use mathlib.Core.Path.{_≡_, refl, sym, ap₂, _∙_}
 use mathlib.Core.Bool.{Bool, true, false}
@@ -10,7 +10,7 @@ use borrow.Author.Tests.{le-leb, lt-leb, lt-ltb, le-ltb, ltb-true, ltb-false}
 use lib.Dec.{ltb}
 use lib.ListN.{length}
 use Rattle.codec.specs.Number.{beAt}
-use Rattle.codec.specs.Total.{readAt, brought}
+use Rattle.codec.specs.Total.{readAt, clamp}
 use Rattle.codec.specs.Words.{words2, words3}
 use Rattle.codec.proofs.Order.{words2-be, words3-be}
 
@@ -38,30 +38,30 @@ module _ (s : List ℕ) (at : ℕ) where
 -- ---- limits
 
 module _ (n largest : ℕ) where
-  pub brought-low : n < 1 → 1 ≡ brought n largest
-  unfolding brought
-  brought-low h = rw (lt-ltb n 1 h, brought)
+  pub clamp-low : n < 1 → 1 ≡ clamp n largest
+  unfolding clamp
+  clamp-low h = rw (lt-ltb n 1 h, clamp)
 
-  pub brought-high : 1 ≤ n → largest < n → largest ≡ brought n largest
-  unfolding brought
-  brought-high h l = rw (le-ltb n 1 h, lt-ltb largest n l, brought)
+  pub clamp-high : 1 ≤ n → largest < n → largest ≡ clamp n largest
+  unfolding clamp
+  clamp-high h l = rw (le-ltb n 1 h, lt-ltb largest n l, clamp)
 
-  pub brought-inside : 1 ≤ n → n ≤ largest → n ≡ brought n largest
-  unfolding brought
-  brought-inside h l = rw (le-ltb n 1 h, le-ltb largest n l, brought)
+  pub clamp-inside : 1 ≤ n → n ≤ largest → n ≡ clamp n largest
+  unfolding clamp
+  clamp-inside h l = rw (le-ltb n 1 h, le-ltb largest n l, clamp)
 
-  pub brought-within : 1 ≤ largest → (1 ≤ brought n largest) × (brought n largest ≤ largest)
-  brought-within h = by-case (ltb n 1) refl (ltb largest n) refl
+  pub clamp-within : 1 ≤ largest → (1 ≤ clamp n largest) × (clamp n largest ≤ largest)
+  clamp-within h = by-case (ltb n 1) refl (ltb largest n) refl
     where
-      by-case : (a : Bool) → ltb n 1 ≡ a → (b : Bool) → ltb largest n ≡ b → (1 ≤ brought n largest) × (brought n largest ≤ largest)
+      by-case : (a : Bool) → ltb n 1 ≡ a → (b : Bool) → ltb largest n ≡ b → (1 ≤ clamp n largest) × (clamp n largest ≤ largest)
       by-case true a b b' =
-          let e = brought-low (ltb-true n 1 a) in
+          let e = clamp-low (ltb-true n 1 a) in
           (omega arith, omega arith)
       by-case false a true b =
-          let e = brought-high (ltb-false n 1 a) (ltb-true largest n b) in
+          let e = clamp-high (ltb-false n 1 a) (ltb-true largest n b) in
           (omega arith, omega arith)
       by-case false a false b =
           let k : 1 ≤ n = ltb-false n 1 a in
           let l : n ≤ largest = ltb-false largest n b in
-          let e = brought-inside k l in
+          let e = clamp-inside k l in
           (omega arith, omega arith)

@@ -10,11 +10,16 @@ use native.Mathlib.Omega.{arith}
 use borrow.Author.Tests.{le-leb, lt-leb, leb-true, leb-false}
 use lib.Dec.{leb}
 use lib.Pow.{pow-add}
-use lib.ListN.{length, set, take, drop, getD, length-append, length-take, length-drop, take-append-drop}
+use lib.ListN.{length, replicate, set, take, drop, getD, length-append, length-take, length-drop, take-append-drop}
 use lib.Seq.{sets, sets-eq, length-sets, take-length, getD-take, getD-drop, paste, paste-zero, paste-suc}
 use Rattle.codec.specs.Number.{put}
 use Rattle.codec.specs.Part.{placed, part, bytes}
 use Rattle.codec.proofs.Numbers.{put-length, put-append}
+
+-- scratch
+pub zeros-length : (n : ℕ) → length (replicate {A = ℕ} n 0) ≡ n
+zeros-length zero = refl
+zeros-length (suc n) = omega (arith, zeros-length n)
 
 pub bytes-length : (n x : ℕ) → length (bytes n x) ≡ n
 unfolding bytes

@@ -3,6 +3,9 @@ pub mod Prelude
 pub mod Number
 pub mod Total
 pub mod Words
+pub mod Ids
 pub mod Part
 pub mod Reply
 pub mod Parsed
+pub mod MethodEnded
+pub mod MethodWritten

@@ -7,6 +7,6 @@ use Rattle.codec.specs.Number.{beAt}
 unfoldable pub readAt : List ℕ → ℕ → ℕ → ℕ
 readAt s n at = elim (leb (at + n) (length s)) [ true ↦ beAt s n at | false ↦ 0 ]
 
--- a limit brought into 1 to a largest
-unfoldable pub brought : ℕ → ℕ → ℕ
-brought n largest = elim (ltb n 1) [ true ↦ 1 | false ↦ elim (ltb largest n) [ true ↦ largest | false ↦ n ] ]
+-- a limit clamped to 1 to a largest
+unfoldable pub clamp : ℕ → ℕ → ℕ
+clamp n largest = elim (ltb n 1) [ true ↦ 1 | false ↦ elim (ltb largest n) [ true ↦ largest | false ↦ n ] ]

@@ -8,9 +8,29 @@ ghost use lib.Dec.{eqb, ltb};
 ghost use lib.ListN.{length, getD};
 ghost use lib.Seq.{sets};
 ghost use Rattle.codec.specs.Number.{beAt};
-ghost use Rattle.codec.specs.Total.{readAt, brought};
+ghost use Rattle.codec.specs.Total.{readAt, clamp};
 ghost use Rattle.codec.specs.Words.{words2, words3};
+ghost use Rattle.codec.specs.Ids.{InWords, itemRead, replicaRead};
 ghost use Rattle.codec.specs.Part.{placed, part, bytes};
+
+// An item id, as words of 64 bits, the highest first.
+pub struct Item {
+    pub high: u64,
+    pub middle: u64,
+    pub low: u64,
+}
+
+// A replica id likewise.
+pub struct Replica {
+    pub high: u64,
+    pub low: u64,
+}
+
+// The items from a first to a last, both included.
+pub struct Span {
+    pub first: Item,
+    pub last: Item,
+}
 
 pub enum Answer {
     // a success: how many bytes were written from the front of the buffer
@@ -143,6 +163,26 @@ pub fn copy_part(src: &[u8], from: usize, n: usize, dst: &mut [u8], at: usize)
     }
 }
 
+// The item id in the first 24 bytes, and the replica id in the first 16; a word that is not all there is 0.
+pub fn item_of(id: &[u8]) -> Item
+    ensures { λ r. ⌜ r ≡ itemRead (now (id .entry)) ⌝ }
+    ensures { λ r. ⌜ InWords r ⌝ }
+{
+    let high = read8(id, 0);
+    let middle = read8(id, 8);
+    let low = read8(id, 16);
+    Item { high, middle, low }
+}
+
+pub fn replica_of(id: &[u8]) -> Replica
+    ensures { λ r. ⌜ r ≡ replicaRead (now (id .entry)) ⌝ }
+    ensures { λ r. ⌜ (r .high < 2 ^ 64) × (r .low < 2 ^ 64) ⌝ }
+{
+    let high = read8(id, 0);
+    let low = read8(id, 8);
+    Replica { high, low }
+}
+
 // Ids of two words and of three, the highest word first: is the first below the second, are they the same.
 pub fn less2(a0: u64, a1: u64, b0: u64, b1: u64) -> bool
     ensures { λ r. ⌜ r ≡ ltb (words2 a0 a1) (words2 b0 b1) ⌝ }
@@ -183,16 +223,16 @@ pub fn same3(a0: u64, a1: u64, a2: u64, b0: u64, b1: u64, b2: u64) -> bool
 // The larger of two ticks with no branch on either: from their difference modulo 2^64, which is one `sub`, whatever the text of the
 // kit's function says. It is at most a exactly where b is; this comparison is taken as a number, 0 or 1, that the difference is
 // multiplied by. Right for every number of 64 bits, for all ticks from 0 to 2^63 − 1 in particular.
-pub fn larger(a: u64, b: u64) -> u64
+pub fn max(a: u64, b: u64) -> u64
     ensures { λ r. ⌜ r ≡ max a b ⌝ }
 {
     let d = std::num::wrapping_sub_u64(a, b);
     b + d * ((d <= a) as u64)
 }
 
-// A limit brought into 1 to a largest.
-pub fn brought(n: u32, largest: u32) -> u32
-    ensures { λ r. ⌜ r ≡ brought n largest ⌝ }
+// A limit clamped to 1 to a largest.
+pub fn clamp(n: u32, largest: u32) -> u32
+    ensures { λ r. ⌜ r ≡ clamp n largest ⌝ }
 {
     if n < 1 {
         return 1;

@@ -7,16 +7,16 @@ use lib.ListN.{length}
 use Rattle.codec.specs.declared.Answer.{Answer}
 use Rattle.codec.specs.declared.Answer.the-variants.{Written, Refused}
 use Rattle.codec.specs.Reply.{Reply, answer, after, numberOf, writtenOf}
+use Rattle.collector.specs.Called.{Called}
 
-pub ended-written : (a : Answer) (n old : ℕ) → a ≡ Written n → (0 ≡ numberOf a) × (n ≡ writtenOf a old)
+pub answer-written : (a : Answer) (n old : ℕ) → a ≡ Written n → (0 ≡ numberOf a) × (n ≡ writtenOf a old)
 unfolding numberOf writtenOf
-ended-written a n old e = (sym (ap numberOf e), sym (ap (λ x. writtenOf x old) e))
+answer-written a n old e = (sym (ap numberOf e), sym (ap (λ x. writtenOf x old) e))
 
-pub ended-refused : (a : Answer) (n old : ℕ) → a ≡ Refused n → (n ≡ numberOf a) × (old ≡ writtenOf a old)
+pub answer-refused : (a : Answer) (n old : ℕ) → a ≡ Refused n → (n ≡ numberOf a) × (old ≡ writtenOf a old)
 unfolding numberOf writtenOf
-ended-refused a n old e = (sym (ap numberOf e), sym (ap (λ x. writtenOf x old) e))
+answer-refused a n old e = (sym (ap numberOf e), sym (ap (λ x. writtenOf x old) e))
 
-pub told : (r w old : ℕ) (a : Answer) (reply : Reply) (out u : List ℕ) → r ≡ numberOf a → w ≡ writtenOf a old
-    → a ≡ answer reply (length out) → u ≡ after reply out
-    → (r ≡ numberOf (answer reply (length out))) × ((w ≡ writtenOf (answer reply (length out)) old) × (u ≡ after reply out))
-told r w old a reply out u e f g h = (e ∙ ap numberOf g, (f ∙ ap (λ x. writtenOf x old) g, h))
+pub answer-called : (r w old : ℕ) (a : Answer) (reply : Reply) (out u : List ℕ) → r ≡ numberOf a → w ≡ writtenOf a old
+    → a ≡ answer reply (length out) → u ≡ after reply out → Called reply r old w out u
+answer-called r w old a reply out u e f g h = (e ∙ ap numberOf g, (f ∙ ap (λ x. writtenOf x old) g, h))

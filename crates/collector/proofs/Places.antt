@@ -7,40 +7,34 @@ use Rattle.replication.specs.declared.Part.the-variants as P
 use Rattle.replication.specs.declared.Coverage.{Coverage}
 use Rattle.replication.specs.declared.Coverage.the-variants as G
 use Rattle.replication.specs.Queries.{partNumber, partSide, partAtPlace, partLength}
+use Rattle.collector.specs.Called.{PartCalled, SideCalled}
 use Rattle.replication.specs.Queries.{coverageNumber, coverageContained, coverageAll, coverageThousandths}
 
--- the number r, the side, the place and the length are those of the answer p
-abbrev pub Told : Part → ℕ → ℕ → ℕ → ℕ → ℕ → ℕ → ℕ → Type 0
-Told p r side at size side₀ at₀ size₀ =
-    (r ≡ partNumber p) × ((side ≡ partSide p side₀) × ((at ≡ partAtPlace p at₀) × (size ≡ partLength p size₀)))
-
 module _ (p : Part) (side at size : ℕ) where
-  pub told-nothing : p ≡ P.Nothing → Told p 0 0 0 0 side at size
+  pub part-nothing : p ≡ P.Nothing → SideCalled p 0 side 0 at 0 size 0
   unfolding partNumber partSide partAtPlace partLength
-  told-nothing e = subst (λ (q : Part). Told q 0 0 0 0 side at size) (sym e) (refl, (refl, (refl, refl)))
+  part-nothing e = subst (λ (q : Part). SideCalled q 0 side 0 at 0 size 0) (sym e) (refl, (refl, (refl, refl)))
 
-  pub told-store : (x n : ℕ) → p ≡ P.OfStore x n → Told p 0 1 x n side at size
+  pub part-store : (x n : ℕ) → p ≡ P.OfStore x n → SideCalled p 0 side 1 at x size n
   unfolding partNumber partSide partAtPlace partLength
-  told-store x n e = subst (λ (q : Part). Told q 0 1 x n side at size) (sym e) (refl, (refl, (refl, refl)))
+  part-store x n e = subst (λ (q : Part). SideCalled q 0 side 1 at x size n) (sym e) (refl, (refl, (refl, refl)))
 
-  pub told-batch : (x n : ℕ) → p ≡ P.OfBatch x n → Told p 0 2 x n side at size
+  pub part-batch : (x n : ℕ) → p ≡ P.OfBatch x n → SideCalled p 0 side 2 at x size n
   unfolding partNumber partSide partAtPlace partLength
-  told-batch x n e = subst (λ (q : Part). Told q 0 2 x n side at size) (sym e) (refl, (refl, (refl, refl)))
+  part-batch x n e = subst (λ (q : Part). SideCalled q 0 side 2 at x size n) (sym e) (refl, (refl, (refl, refl)))
 
-  pub told-refusal : (k : ℕ) → p ≡ P.Refused k → Told p k side at size side at size
+  pub part-refusal : (k : ℕ) → p ≡ P.Refused k → SideCalled p k side side at at size size
   unfolding partNumber partSide partAtPlace partLength
-  told-refusal k e = subst (λ (q : Part). Told q k side at size side at size) (sym e) (refl, (refl, (refl, refl)))
+  part-refusal k e = subst (λ (q : Part). SideCalled q k side side at at size size) (sym e) (refl, (refl, (refl, refl)))
 
--- of the part that a call's definition gives, where the side is not asked for
-pub told-place : (p q : Part) → p ≡ q → (r at size at₀ size₀ : ℕ) → r ≡ partNumber p → at ≡ partAtPlace p at₀ → size ≡ partLength p size₀
-    → (r ≡ partNumber q) × ((at ≡ partAtPlace q at₀) × (size ≡ partLength q size₀))
-told-place p q e r at size at₀ size₀ h i j =
-    subst (λ (x : Part). (r ≡ partNumber x) × ((at ≡ partAtPlace x at₀) × (size ≡ partLength x size₀))) e (h, (i, j))
+-- of the part that a call's definition gives
+module _ (p q : Part) (e : p ≡ q) (r side side′ at at′ size size′ : ℕ) (h : SideCalled p r side side′ at at′ size size′) where
+  pub side-called : SideCalled q r side side′ at at′ size size′
+  side-called = subst (λ (x : Part). SideCalled x r side side′ at at′ size size′) e h
 
--- and where it is
-pub told-as : (p q : Part) → p ≡ q → (r side at size side₀ at₀ size₀ : ℕ) → Told p r side at size side₀ at₀ size₀
-    → Told q r side at size side₀ at₀ size₀
-told-as p q e r side at size side₀ at₀ size₀ h = subst (λ (x : Part). Told x r side at size side₀ at₀ size₀) e h
+  -- where the side is not asked for
+  pub part-called : PartCalled q r at at′ size size′
+  part-called = (side-called .0, (side-called .1 .1 .0, side-called .1 .1 .1))
 
 abbrev pub Covers : Coverage → ℕ → ℕ → ℕ → ℕ → ℕ → ℕ → ℕ → Type 0
 Covers c r inside all rate inside₀ all₀ rate₀ =

@@ -8,7 +8,7 @@ use ticks::Cover;
 use ticks::Lead;
 ghost use mathlib.Core.Path.{_≡_};
 ghost use lib.ListN.{length};
-ghost use Rattle.codec.specs.Reply.{answer, after, numberOf, writtenOf};
+ghost use Rattle.codec.specs.Reply.{answer, numberOf, writtenOf};
 ghost use Rattle.layout.specs.Knowledge.{basic, base};
 ghost use Rattle.layout.specs.Parse.{checkedBy};
 ghost use Rattle.layout.specs.Answer.{checkedNumber, checkedSizes};
@@ -18,16 +18,17 @@ ghost use Rattle.ticks.specs.Calls.{normaliseReply, mergeReply, projectReply};
 ghost use Rattle.ticks.specs.Compare.{compareReply, orderValue};
 ghost use Rattle.replication.specs.Calls.{newReply, editReply, deleteReply, makeReply, applyReply};
 ghost use Rattle.replication.specs.Call.{brings};
-ghost use Rattle.replication.specs.Queries.{partNumber, partSide, partAtPlace, partLength, winnerPart, learnedPart, knowledgePart, lengthAt};
+ghost use Rattle.replication.specs.Queries.{winnerPart, learnedPart, knowledgePart, lengthAt};
 ghost use Rattle.replication.specs.Queries.{coverageNumber, coverageContained, coverageAll, coverageThousandths, coverageAnswer};
+ghost use Rattle.collector.specs.Called.{Called, PartCalled, SideCalled};
 
 // Checks a knowledge: its sizes r, v, e and g, or the refusal's number, and then no size changes.
 #[no_mangle]
 pub extern "C" fn sync_check(knowledge: &[u8], sizes: &mut [u64; 4]) -> u32
-    ensures number { λ r. ⌜ r ≡ checkedNumber (checkedBy basic (now (knowledge .entry))) ⌝ }
-    ensures values { λ r. ⌜ now (sizes .exit) ≡ checkedSizes (checkedBy basic (now (knowledge .entry))) (now (sizes .entry)) ⌝ }
+    ensures { λ r. ⌜ (let a = checkedBy basic (now (knowledge .entry)) in
+        (r ≡ checkedNumber a) × (now (sizes .exit) ≡ checkedSizes a (now (sizes .entry)))) ⌝ }
 {
-    match reader::check(knowledge) {
+    match check_knowledge::check(knowledge) {
         Checked::Accepted { r, v, e, g } => {
             sizes[0] = r as u64;
             sizes[1] = v as u64;
@@ -49,11 +50,8 @@ pub extern "C" fn sync_contain(
     tick: u64,
     contained: &mut u32,
 ) -> u32
-    ensures number { λ r. ⌜ r ≡ containNumber
-        (containAnswer basic (now (knowledge .entry)) (now (item .entry)) (now (replica .entry)) tick) ⌝ }
-    ensures value { λ r. ⌜ now (contained .exit) ≡ containValue
-        (containAnswer basic (now (knowledge .entry)) (now (item .entry)) (now (replica .entry)) tick)
-        (now (contained .entry)) ⌝ }
+    ensures { λ r. ⌜ (let a = containAnswer basic (now (knowledge .entry)) (now (item .entry)) (now (replica .entry)) tick in
+        (r ≡ containNumber a) × (now (contained .exit) ≡ containValue a (now (contained .entry)))) ⌝ }
 {
     match lookup::contain(knowledge, item, replica, tick) {
         Contain::Contained => {
@@ -78,11 +76,8 @@ pub extern "C" fn sync_lead(
     replica: &[u8],
     lead: &mut i64,
 ) -> u32
-    ensures number { λ r. ⌜ r ≡ leadNumber
-        (leadAnswer basic (now (first .entry)) (now (second .entry)) (now (item .entry)) (now (replica .entry))) ⌝ }
-    ensures value { λ r. ⌜ now (lead .exit) ≡ leadValue
-        (leadAnswer basic (now (first .entry)) (now (second .entry)) (now (item .entry)) (now (replica .entry)))
-        (now (lead .entry)) ⌝ }
+    ensures { λ r. ⌜ (let a = leadAnswer basic (now (first .entry)) (now (second .entry)) (now (item .entry)) (now (replica .entry)) in
+        (r ≡ leadNumber a) × (now (lead .exit) ≡ leadValue a (now (lead .entry)))) ⌝ }
 {
     match lookup::lead(first, second, item, replica) {
         Lead::Ahead(x) => {
@@ -103,13 +98,10 @@ pub extern "C" fn sync_cover(
     last: &[u8],
     covers: &mut u32,
 ) -> u32
-    ensures number { λ r. ⌜ r ≡ coverNumber
-        (coverAnswer basic (now (knowledge .entry)) (now (other .entry)) (now (first .entry)) (now (last .entry))) ⌝ }
-    ensures value { λ r. ⌜ now (covers .exit) ≡ coverValue
-        (coverAnswer basic (now (knowledge .entry)) (now (other .entry)) (now (first .entry)) (now (last .entry)))
-        (now (covers .entry)) ⌝ }
+    ensures { λ r. ⌜ (let a = coverAnswer basic (now (knowledge .entry)) (now (other .entry)) (now (first .entry)) (now (last .entry)) in
+        (r ≡ coverNumber a) × (now (covers .exit) ≡ coverValue a (now (covers .entry)))) ⌝ }
 {
-    match rows::cover(knowledge, other, first, last) {
+    match cover::cover(knowledge, other, first, last) {
         Cover::Covers => {
             *covers = 1;
             0
@@ -123,7 +115,7 @@ pub extern "C" fn sync_cover(
 }
 
 // How a call that writes ends for C: the length through the pointer and 0, or the refusal's number, and then nothing changes.
-fn ended(a: Answer, written: &mut u64) -> u32
+fn answer_to_c(a: Answer, written: &mut u64) -> u32
     ensures number { λ r. ⌜ r ≡ numberOf a ⌝ }
     ensures count { λ _. ⌜ now (written .exit) ≡ writtenOf a (now (written .entry)) ⌝ }
 {
@@ -139,27 +131,22 @@ fn ended(a: Answer, written: &mut u64) -> u32
 // Writes the normal form of a knowledge, and its length; or gives the refusal's number, and then nothing changes.
 #[no_mangle]
 pub extern "C" fn sync_normalise(knowledge: &[u8], out: &mut [u8], written: &mut u64) -> u32
-    ensures number { λ r. ⌜ r ≡ numberOf (answer (normaliseReply basic (now (knowledge .entry))) (length (now (out .entry)))) ⌝ }
-    ensures count { λ _. ⌜ now (written .exit) ≡ writtenOf
-        (answer (normaliseReply basic (now (knowledge .entry))) (length (now (out .entry)))) (now (written .entry)) ⌝ }
-    ensures bytes { λ _. ⌜ now (out .exit) ≡ after (normaliseReply basic (now (knowledge .entry))) (now (out .entry)) ⌝ }
+    ensures { λ r. ⌜ Called (normaliseReply basic (now (knowledge .entry))) r
+        (now (written .entry)) (now (written .exit)) (now (out .entry)) (now (out .exit)) ⌝ }
 {
     let a = operations::normalise(knowledge, out);
-    ended(a, written)
+    answer_to_c(a, written)
 }
 
 // Writes the knowledge that knows the larger of the ticks that two know, and its length; or gives the refusal's number, and then
 // nothing changes.
 #[no_mangle]
 pub extern "C" fn sync_merge(first: &[u8], second: &[u8], out: &mut [u8], written: &mut u64) -> u32
-    ensures number { λ r. ⌜ r ≡ numberOf
-        (answer (mergeReply basic (now (first .entry)) (now (second .entry))) (length (now (out .entry)))) ⌝ }
-    ensures count { λ _. ⌜ now (written .exit) ≡ writtenOf
-        (answer (mergeReply basic (now (first .entry)) (now (second .entry))) (length (now (out .entry)))) (now (written .entry)) ⌝ }
-    ensures bytes { λ _. ⌜ now (out .exit) ≡ after (mergeReply basic (now (first .entry)) (now (second .entry))) (now (out .entry)) ⌝ }
+    ensures { λ r. ⌜ Called (mergeReply basic (now (first .entry)) (now (second .entry))) r
+        (now (written .entry)) (now (written .exit)) (now (out .entry)) (now (out .exit)) ⌝ }
 {
-    let a = merging::merge(first, second, out);
-    ended(a, written)
+    let a = operations::merge(first, second, out);
+    answer_to_c(a, written)
 }
 
 // Writes what a knowledge knows from the first id to the last, and its length; or gives the refusal's number, and then nothing
@@ -172,16 +159,11 @@ pub extern "C" fn sync_project(
     out: &mut [u8],
     written: &mut u64,
 ) -> u32
-    ensures number { λ r. ⌜ r ≡ numberOf
-        (answer (projectReply basic (now (knowledge .entry)) (now (first .entry)) (now (last .entry))) (length (now (out .entry)))) ⌝ }
-    ensures count { λ _. ⌜ now (written .exit) ≡ writtenOf
-        (answer (projectReply basic (now (knowledge .entry)) (now (first .entry)) (now (last .entry))) (length (now (out .entry))))
-        (now (written .entry)) ⌝ }
-    ensures bytes { λ _. ⌜ now (out .exit) ≡ after
-        (projectReply basic (now (knowledge .entry)) (now (first .entry)) (now (last .entry))) (now (out .entry)) ⌝ }
+    ensures { λ r. ⌜ Called (projectReply basic (now (knowledge .entry)) (now (first .entry)) (now (last .entry))) r
+        (now (written .entry)) (now (written .exit)) (now (out .entry)) (now (out .exit)) ⌝ }
 {
     let a = operations::project(knowledge, first, last, out);
-    ended(a, written)
+    answer_to_c(a, written)
 }
 
 // Which of two knowledges is ahead, over all ids: the order (0 alike, 1 the first is behind, 2 the first is ahead, 3 each lacks
@@ -195,16 +177,13 @@ pub extern "C" fn sync_compare(
     out: &mut [u8],
     written: &mut u64,
 ) -> u32
-    ensures number { λ r. ⌜ r ≡ numberOf
-        (answer (compareReply basic (now (first .entry)) (now (second .entry))) (length (now (out .entry)))) ⌝ }
+    ensures { λ r. ⌜ Called (compareReply basic (now (first .entry)) (now (second .entry))) r
+        (now (written .entry)) (now (written .exit)) (now (out .entry)) (now (out .exit)) ⌝ }
     ensures value { λ _. ⌜ now (order .exit) ≡ orderValue basic (now (first .entry)) (now (second .entry))
         (answer (compareReply basic (now (first .entry)) (now (second .entry))) (length (now (out .entry)))) (now (order .entry)) ⌝ }
-    ensures count { λ _. ⌜ now (written .exit) ≡ writtenOf
-        (answer (compareReply basic (now (first .entry)) (now (second .entry))) (length (now (out .entry)))) (now (written .entry)) ⌝ }
-    ensures bytes { λ _. ⌜ now (out .exit) ≡ after (compareReply basic (now (first .entry)) (now (second .entry))) (now (out .entry)) ⌝ }
 {
-    let a = comparing::compare(first, second, order, out);
-    ended(a, written)
+    let a = compare::compare(first, second, order, out);
+    answer_to_c(a, written)
 }
 
 // ---- stores and batches: the calls that write one
@@ -213,15 +192,11 @@ pub extern "C" fn sync_compare(
 // nothing changes.
 #[no_mangle]
 pub extern "C" fn sync_new(own: &[u8], out: &mut [u8], written: &mut u64) -> u32
-    ensures number { λ r. ⌜ r ≡ numberOf (answer (newReply (now (own .entry)))
-        (length (now (out .entry)))) ⌝ }
-    ensures count { λ _. ⌜ now (written .exit) ≡ writtenOf (answer (newReply (now (own .entry)))
-        (length (now (out .entry)))) (now (written .entry)) ⌝ }
-    ensures bytes { λ _. ⌜ now (out .exit) ≡ after (newReply (now (own .entry)))
-        (now (out .entry)) ⌝ }
+    ensures { λ r. ⌜ Called (newReply (now (own .entry))) r
+        (now (written .entry)) (now (written .exit)) (now (out .entry)) (now (out .exit)) ⌝ }
 {
-    let a = headers::new(own, out);
-    ended(a, written)
+    let a = edit::new(own, out);
+    answer_to_c(a, written)
 }
 
 // Writes a store with an item edited, and its length; or gives the refusal's number, and then nothing changes.
@@ -233,29 +208,21 @@ pub extern "C" fn sync_edit(
     out: &mut [u8],
     written: &mut u64,
 ) -> u32
-    ensures number { λ r. ⌜ r ≡ numberOf (answer (editReply base (now (store .entry)) (now (item .entry)) (brings (now (tag .entry))))
-        (length (now (out .entry)))) ⌝ }
-    ensures count { λ _. ⌜ now (written .exit) ≡ writtenOf (answer (editReply base (now (store .entry)) (now (item .entry)) (brings (now (tag .entry))))
-        (length (now (out .entry)))) (now (written .entry)) ⌝ }
-    ensures bytes { λ _. ⌜ now (out .exit) ≡ after (editReply base (now (store .entry)) (now (item .entry)) (brings (now (tag .entry))))
-        (now (out .entry)) ⌝ }
+    ensures { λ r. ⌜ Called (editReply base (now (store .entry)) (now (item .entry)) (brings (now (tag .entry)))) r
+        (now (written .entry)) (now (written .exit)) (now (out .entry)) (now (out .exit)) ⌝ }
 {
-    let a = editing::edit(store, item, tag, out);
-    ended(a, written)
+    let a = edit::edit(store, item, tag, out);
+    answer_to_c(a, written)
 }
 
 // Writes a store with an item deleted, and its length; or gives the refusal's number, and then nothing changes.
 #[no_mangle]
 pub extern "C" fn sync_delete(store: &[u8], item: &[u8], out: &mut [u8], written: &mut u64) -> u32
-    ensures number { λ r. ⌜ r ≡ numberOf (answer (deleteReply base (now (store .entry)) (now (item .entry)))
-        (length (now (out .entry)))) ⌝ }
-    ensures count { λ _. ⌜ now (written .exit) ≡ writtenOf (answer (deleteReply base (now (store .entry)) (now (item .entry)))
-        (length (now (out .entry)))) (now (written .entry)) ⌝ }
-    ensures bytes { λ _. ⌜ now (out .exit) ≡ after (deleteReply base (now (store .entry)) (now (item .entry)))
-        (now (out .entry)) ⌝ }
+    ensures { λ r. ⌜ Called (deleteReply base (now (store .entry)) (now (item .entry))) r
+        (now (written .entry)) (now (written .exit)) (now (out .entry)) (now (out .exit)) ⌝ }
 {
-    let a = editing::delete(store, item, out);
-    ended(a, written)
+    let a = edit::delete(store, item, out);
+    answer_to_c(a, written)
 }
 
 // Writes the batch that a store makes for a knowledge and a span of items, and its length; or gives the refusal's number, and then
@@ -269,40 +236,30 @@ pub extern "C" fn sync_make(
     out: &mut [u8],
     written: &mut u64,
 ) -> u32
-    ensures number { λ r. ⌜ r ≡ numberOf (answer (makeReply basic (now (store .entry)) (now (knowledge .entry)) (now (first .entry)) (now (last .entry)))
-        (length (now (out .entry)))) ⌝ }
-    ensures count { λ _. ⌜ now (written .exit) ≡ writtenOf (answer (makeReply basic (now (store .entry)) (now (knowledge .entry)) (now (first .entry)) (now (last .entry)))
-        (length (now (out .entry)))) (now (written .entry)) ⌝ }
-    ensures bytes { λ _. ⌜ now (out .exit) ≡ after (makeReply basic (now (store .entry)) (now (knowledge .entry)) (now (first .entry)) (now (last .entry)))
-        (now (out .entry)) ⌝ }
+    ensures { λ r. ⌜ Called (makeReply basic (now (store .entry)) (now (knowledge .entry)) (now (first .entry)) (now (last .entry))) r
+        (now (written .entry)) (now (written .exit)) (now (out .entry)) (now (out .exit)) ⌝ }
 {
-    let a = making::make(store, knowledge, first, last, out);
-    ended(a, written)
+    let a = make::make(store, knowledge, first, last, out);
+    answer_to_c(a, written)
 }
 
 // Writes a store with a batch applied, and its length; or gives the refusal's number, and then nothing changes.
 #[no_mangle]
 pub extern "C" fn sync_apply(store: &[u8], batch: &[u8], out: &mut [u8], written: &mut u64) -> u32
-    ensures number { λ r. ⌜ r ≡ numberOf (answer (applyReply base (now (store .entry)) (now (batch .entry)))
-        (length (now (out .entry)))) ⌝ }
-    ensures count { λ _. ⌜ now (written .exit) ≡ writtenOf (answer (applyReply base (now (store .entry)) (now (batch .entry)))
-        (length (now (out .entry)))) (now (written .entry)) ⌝ }
-    ensures bytes { λ _. ⌜ now (out .exit) ≡ after (applyReply base (now (store .entry)) (now (batch .entry)))
-        (now (out .entry)) ⌝ }
+    ensures { λ r. ⌜ Called (applyReply base (now (store .entry)) (now (batch .entry))) r
+        (now (written .entry)) (now (written .exit)) (now (out .entry)) (now (out .exit)) ⌝ }
 {
-    let a = applying::apply(store, batch, out);
-    ended(a, written)
+    let a = apply::apply(store, batch, out);
+    answer_to_c(a, written)
 }
 
 // ---- stores and batches: the calls that write nothing
 
 // How a call that returns a part ends for C: the side (0 nobody's, 1 the store's, 2 the batch's), the place and the length through the
 // pointers, and 0; or the refusal's number, and then nothing changes.
-fn told(p: Part, side: &mut u32, at: &mut u64, length: &mut u64) -> u32
-    ensures number { λ r. ⌜ r ≡ partNumber p ⌝ }
-    ensures side { λ _. ⌜ now (side .exit) ≡ partSide p (now (side .entry)) ⌝ }
-    ensures place { λ _. ⌜ now (at .exit) ≡ partAtPlace p (now (at .entry)) ⌝ }
-    ensures size { λ _. ⌜ now (length .exit) ≡ partLength p (now (length .entry)) ⌝ }
+fn part_to_c(p: Part, side: &mut u32, at: &mut u64, length: &mut u64) -> u32
+    ensures { λ r. ⌜ SideCalled p r
+        (now (side .entry)) (now (side .exit)) (now (at .entry)) (now (at .exit)) (now (length .entry)) (now (length .exit)) ⌝ }
 {
     match p {
         Part::Nothing => {
@@ -338,40 +295,33 @@ pub extern "C" fn sync_winner(
     at: &mut u64,
     length: &mut u64,
 ) -> u32
-    ensures number { λ r. ⌜ r ≡ partNumber (winnerPart base (now (store .entry)) (now (batch .entry)) (now (item .entry))) ⌝ }
-    ensures side { λ _. ⌜ now (side .exit) ≡ partSide
-        (winnerPart base (now (store .entry)) (now (batch .entry)) (now (item .entry))) (now (side .entry)) ⌝ }
-    ensures place { λ _. ⌜ now (at .exit) ≡ partAtPlace
-        (winnerPart base (now (store .entry)) (now (batch .entry)) (now (item .entry))) (now (at .entry)) ⌝ }
-    ensures size { λ _. ⌜ now (length .exit) ≡ partLength
-        (winnerPart base (now (store .entry)) (now (batch .entry)) (now (item .entry))) (now (length .entry)) ⌝ }
+    ensures { λ r. ⌜ SideCalled (winnerPart base (now (store .entry)) (now (batch .entry)) (now (item .entry))) r
+        (now (side .entry)) (now (side .exit)) (now (at .entry)) (now (at .exit)) (now (length .entry)) (now (length .exit)) ⌝ }
 {
-    let p = queries::winner_part(store, batch, item);
-    told(p, side, at, length)
+    let p = store_queries::winner_part(store, batch, item);
+    part_to_c(p, side, at, length)
 }
 
 // Where a batch's learned knowledge stands, and its length; or the refusal's number, and then nothing changes.
 #[no_mangle]
 pub extern "C" fn sync_learned(batch: &[u8], at: &mut u64, length: &mut u64) -> u32
-    ensures number { λ r. ⌜ r ≡ partNumber (learnedPart base (now (batch .entry))) ⌝ }
-    ensures place { λ _. ⌜ now (at .exit) ≡ partAtPlace (learnedPart base (now (batch .entry))) (now (at .entry)) ⌝ }
-    ensures size { λ _. ⌜ now (length .exit) ≡ partLength (learnedPart base (now (batch .entry))) (now (length .entry)) ⌝ }
+    ensures { λ r. ⌜ PartCalled (learnedPart base (now (batch .entry))) r
+        (now (at .entry)) (now (at .exit)) (now (length .entry)) (now (length .exit)) ⌝ }
 {
-    let p = queries::learned_part(batch);
+    let p = store_queries::learned_part(batch);
     let mut side: u32 = 0;
-    told(p, &mut side, at, length)
+    part_to_c(p, &mut side, at, length)
 }
 
 // Where a store's own knowledge stands, and its length; or the refusal's number, and then nothing changes.
 #[no_mangle]
 pub extern "C" fn sync_knowledge(store: &[u8], at: &mut u64, length: &mut u64) -> u32
-    ensures number { λ r. ⌜ r ≡ partNumber (knowledgePart base (now (store .entry))) ⌝ }
-    ensures place { λ _. ⌜ now (at .exit) ≡ partAtPlace (knowledgePart base (now (store .entry))) (now (at .entry)) ⌝ }
-    ensures size { λ _. ⌜ now (length .exit) ≡ partLength (knowledgePart base (now (store .entry))) (now (length .entry)) ⌝ }
+    ensures { λ r. ⌜ PartCalled (knowledgePart base (now (store .entry))) r
+        (now (at .entry)) (now (at .exit)) (now (length .entry)) (now (length .exit)) ⌝ }
 {
-    let p = queries::knowledge_part(store);
+    let p = store_queries::knowledge_part(store);
     let mut side: u32 = 0;
-    told(p, &mut side, at, length)
+    part_to_c(p, &mut side, at, length)
 }
 
 // How many of a store's records have a change version that the knowledge contains, how many records there are, and the first as
@@ -384,15 +334,13 @@ pub extern "C" fn sync_coverage(
     all: &mut u64,
     thousandths: &mut u64,
 ) -> u32
-    ensures number { λ r. ⌜ r ≡ coverageNumber (coverageAnswer basic (now (store .entry)) (now (knowledge .entry))) ⌝ }
-    ensures contained { λ _. ⌜ now (contained .exit) ≡ coverageContained
-        (coverageAnswer basic (now (store .entry)) (now (knowledge .entry))) (now (contained .entry)) ⌝ }
-    ensures all { λ _. ⌜ now (all .exit) ≡ coverageAll
-        (coverageAnswer basic (now (store .entry)) (now (knowledge .entry))) (now (all .entry)) ⌝ }
-    ensures thousandths { λ _. ⌜ now (thousandths .exit) ≡ coverageThousandths
-        (coverageAnswer basic (now (store .entry)) (now (knowledge .entry))) (now (thousandths .entry)) ⌝ }
+    ensures { λ r. ⌜ (let a = coverageAnswer basic (now (store .entry)) (now (knowledge .entry)) in
+        (r ≡ coverageNumber a)
+        × ((now (contained .exit) ≡ coverageContained a (now (contained .entry)))
+        × ((now (all .exit) ≡ coverageAll a (now (all .entry)))
+        × (now (thousandths .exit) ≡ coverageThousandths a (now (thousandths .entry)))))) ⌝ }
 {
-    match queries::coverage(store, knowledge) {
+    match store_queries::coverage(store, knowledge) {
         Coverage::Covered {
             contained: c,
             all: n,

@@ -7,9 +7,9 @@
 //
 // Column c of a table has its id in words 2c and 2c + 1 of `ids`, row k its bound in words 3k, 3k + 1 and 3k + 2 of `bounds`,
 // the highest word first; the tick of row k and column c is word STRIDE * k + c of `t`. The order of a replica map is never used.
+use codec::Item;
 use layout::ReplicaKey;
 use lookup::Cursor;
-use sampling::Bound;
 use sampling::Filled;
 ghost use mathlib.Core.Path.{_≡_};
 ghost use Prim.Native.Nat.{_+_, _*_, _^_, _≤_, _<_};
@@ -19,12 +19,9 @@ ghost use Rattle.codec.specs.Words.{words2};
 ghost use Rattle.layout.specs.MethodPlaces.{idsPlace};
 ghost use Rattle.tables.specs.MethodWords.{stride};
 ghost use Rattle.sampling.specs.MethodColumns.{columnOf, joinOf, joined, columnsOf, mapped};
-ghost use Rattle.sampling.specs.MethodRows.{InWords, boundRead};
+ghost use Rattle.codec.specs.Ids.{InWords, itemRead};
 ghost use Rattle.sampling.specs.MethodCells.{columnSet};
 ghost use Rattle.sampling.specs.MethodTables.{Fits, tableOf, oneFilled, oneTable, twoFilled, twoTable, spanTable, raisedTable};
-
-// the place of the replica ids
-const IDS: usize = 27;
 
 // the most keys of a replica map
 const KEYS: usize = layout::LARGEST_REPLICAS as usize;
@@ -111,7 +108,7 @@ fn add_ids(s: &[u8], r: u32, ids: &mut [u64], n: u32, keys: &mut [u32]) -> u32
     let mut m = n;
     let mut key = ReplicaKey(0);
     while key.0 < r {
-        let at = IDS + 16 * (key.0 as usize);
+        let at = layout::IDS_PLACE + 16 * (key.0 as usize);
         let joined = join_id(ids, n, m, eight(s, at), eight(s, at + 8));
         keys[key.0 as usize] = joined.column.0;
         m = joined.count;
@@ -122,17 +119,6 @@ fn add_ids(s: &[u8], r: u32, ids: &mut [u64], n: u32, keys: &mut [u32]) -> u32
 }
 
 // ---- the ends of a span
-
-// An item id as words; a word that is not all there is 0.
-pub fn bound_of(id: &[u8]) -> Bound
-    ensures { λ b. ⌜ b ≡ boundRead (now (id .entry)) ⌝ }
-    ensures { λ b. ⌜ InWords b ⌝ }
-{
-    let high = codec::read8(id, 0);
-    let middle = codec::read8(id, 8);
-    let low = codec::read8(id, 16);
-    Bound { high, middle, low }
-}
 
 // ---- the tick of one replica
 
@@ -259,8 +245,8 @@ pub fn fill_span(
     s: &[u8],
     r: u32,
     start: Cursor,
-    first: Bound,
-    last: Bound,
+    first: Item,
+    last: Item,
     ids: &mut [u64],
     bounds: &mut [u64],
     t: &mut [u64],

@@ -49,7 +49,7 @@ fn check_front(buffer: &[u8], n: usize) -> Checked
     requires { ⌜ (length (now buffer) ≡ 14934) × (n ≤ 14934) ⌝ }
     ensures { λ r. ⌜ DecidesAll 14934 (take n (now (buffer .entry))) r ⌝ }
 {
-    reader::check(&buffer[..n])
+    check_knowledge::check(&buffer[..n])
 }
 
 fn report(answer: Checked, length: usize) {

@@ -31,10 +31,10 @@ use Rattle.replication.specs.BatchFormat.{Batch, batchFields, encodeBatch}
 use Rattle.replication.specs.Reading.{both, recLength, behind, contentAt, recAt, whole, front, recsAt, tagKept, validRec, validRecs}
 use Rattle.replication.specs.OpenStore.{storeWith, storeFrom, decodeStore, versionsIn, validStore, ifValid, openStore}
 use Rattle.replication.specs.OpenBatch.{batchWith, batchAfter, batchFrom, decodeBatch, lacksChange, carried, validBatch, ifValidBatch, openBatch}
-use Rattle.replication.proofs.PartBytes.{both-left, both-right}
-use Rattle.replication.proofs.RecordBytes.{FitsRec}
-use Rattle.replication.proofs.StoreBytes.{FitsStore, store-decode}
-use Rattle.replication.proofs.BatchBytes.{FitsBatch, batch-decode}
+use Rattle.replication.proofs.Bytes.Part.{both-left, both-right}
+use Rattle.replication.proofs.Bytes.Record.{FitsRec}
+use Rattle.replication.proofs.Bytes.Store.{FitsStore, store-decode}
+use Rattle.replication.proofs.Bytes.Batch.{FitsBatch, batch-decode}
 use Rattle.instances.specs.Given.{emptyValue, one, two, fresh, again, store}
 use Rattle.instances.specs.MethodFitting.{fitting, allFitting, fittingTable, fittingStore, fittingBatch}
 use Rattle.instances.specs.Broken.{mostTick, overTick, smallLimits, AllPairs, tombstoned, withByte, holding, fromSeven, unusedEight}
@@ -105,7 +105,10 @@ knowledges : Lawful (anyId smallLimits) (two 5 3 8 2)
     × Lawful (anyId smallLimits) (two 5 4 8 2)
     × Lawful (anyId smallLimits) (one 5 4)
     × Lawful (anyId smallLimits) (one 5 2)
-unfolding beFrom beAt put opening beforeVectors beforeElements beforeRanges closing putFields putIds putElements putVectors putRanges encode idsAt elementsAt vectorsAt afterVectors rangesAt decode replicaMap vectorCount vectorList rangeList ended checked told parse repeat number same fields limit empty among judged replicaId tick element firstVector vector index range emptyValue one two fromSeven unusedEight zeroEight oneToNine
+unfolding beFrom beAt put opening beforeVectors beforeElements beforeRanges closing putFields putIds putElements putVectors putRanges encode
+    idsAt elementsAt vectorsAt afterVectors rangesAt decode replicaMap vectorCount vectorList rangeList ended checked told parse repeat
+    number same fields limit empty among judged replicaId tick element firstVector vector index range emptyValue one two fromSeven
+    unusedEight zeroEight oneToNine
 knowledges = (
   lawful _ refl,
   lawful _ refl,
@@ -136,11 +139,22 @@ computed-stores : (openStore smallLimits (encodeStore (store 5 threeReplicas [])
     × (openStore smallLimits (withByte 0 2 storeBytes) ≡ refused 15)
     × (openStore smallLimits (withByte 202 3 storeBytes) ≡ refused 15)
     × (openStore smallLimits (withByte 202 0 storeBytes) ≡ refused 15)
-unfolding beFrom beAt put opening beforeVectors beforeElements beforeRanges closing putFields putIds putElements putVectors putRanges encode idsAt elementsAt vectorsAt afterVectors rangesAt decode replicaMap vectorCount vectorList rangeList ended checked told parse repeat number same fields limit empty among judged replicaId tick element firstVector vector index range kindOf recFields putRec putRecs storeFields encodeStore recLength behind contentAt recAt whole front recsAt storeWith storeFrom decodeStore openStore bounds highest placeBy tickAt indexFrom vectorFound vectorAt known contains emptyKnowledge knownInside project alikeFrom ownAlike get at eqList eqPair insert sorted inSpan within sample build canonical rowIds stepIds usedIds vectorFrom vectorStepsFrom vectorSteps eqElement grown vectorsOf rangesOf indexed knowledgeOf normalOf eqRange eqKnowledge isNormal tagKept validRec validRecs versionsIn validStore ifValid lacksChange carried one two fresh again store withByte holding threeReplicas
+unfolding beFrom beAt put opening beforeVectors beforeElements beforeRanges closing putFields putIds putElements putVectors putRanges encode
+    idsAt elementsAt vectorsAt afterVectors rangesAt decode replicaMap vectorCount vectorList rangeList ended checked told parse repeat
+    number same fields limit empty among judged replicaId tick element firstVector vector index range kindOf recFields putRec putRecs
+    storeFields encodeStore recLength behind contentAt recAt whole front recsAt storeWith storeFrom decodeStore openStore bounds highest
+    placeBy tickAt indexFrom vectorFound vectorAt known contains emptyKnowledge knownInside project alikeFrom ownAlike get at eqList eqPair
+    insert sorted inSpan within sample build canonical rowIds stepIds usedIds vectorFrom vectorStepsFrom vectorSteps eqElement grown
+    vectorsOf rangesOf indexed knowledgeOf normalOf eqRange eqKnowledge isNormal tagKept validRec validRecs versionsIn validStore ifValid
+    lacksChange carried one two fresh again store withByte holding threeReplicas
 computed-stores = (refl, refl, refl, refl, refl, refl, refl, refl, refl)
 
 pub broken-stores : AllPairs brokenStores
-unfolding bounds highest placeBy tickAt indexFrom vectorFound vectorAt known contains emptyKnowledge knownInside project alikeFrom ownAlike get at eqList eqPair insert sorted inSpan within sample build canonical rowIds stepIds usedIds vectorFrom vectorStepsFrom vectorSteps eqElement grown vectorsOf rangesOf indexed knowledgeOf normalOf eqRange eqKnowledge isNormal tagKept validRec validRecs versionsIn validStore ifValid lacksChange carried one two fresh again store tombstoned holding fromSeven unusedEight zeroEight brokenStores fitting allFitting fittingTable fittingStore
+unfolding bounds highest placeBy tickAt indexFrom vectorFound vectorAt known contains emptyKnowledge knownInside project alikeFrom ownAlike
+    get at eqList eqPair insert sorted inSpan within sample build canonical rowIds stepIds usedIds vectorFrom vectorStepsFrom vectorSteps
+    eqElement grown vectorsOf rangesOf indexed knowledgeOf normalOf eqRange eqKnowledge isNormal tagKept validRec validRecs versionsIn
+    validStore ifValid lacksChange carried one two fresh again store tombstoned holding fromSeven unusedEight zeroEight brokenStores fitting
+    allFitting fittingTable fittingStore
 broken-stores =
     let h = knowledges .0 in
     let m = knowledges .1 in
@@ -172,11 +186,22 @@ computed-batches : (openBatch smallLimits (encodeBatch (overAll threeReplicas (o
     × (openBatch smallLimits (withByte 0 1 batchBytes) ≡ refused 16)
     × (openBatch smallLimits (withByte 407 3 batchBytes) ≡ refused 16)
     × (openBatch smallLimits (withByte 407 0 batchBytes) ≡ refused 16)
-unfolding beFrom beAt put opening beforeVectors beforeElements beforeRanges closing putFields putIds putElements putVectors putRanges encode idsAt elementsAt vectorsAt afterVectors rangesAt decode replicaMap vectorCount vectorList rangeList ended checked told parse repeat number same fields limit empty among judged replicaId tick element firstVector vector index range kindOf recFields putRec putRecs batchFields encodeBatch recLength behind contentAt recAt whole front recsAt batchWith batchAfter batchFrom decodeBatch openBatch bounds highest placeBy tickAt indexFrom vectorFound vectorAt known contains emptyKnowledge knownInside project alikeFrom ownAlike get at eqList eqPair insert sorted inSpan within sample build canonical rowIds stepIds usedIds vectorFrom vectorStepsFrom vectorSteps eqElement grown vectorsOf rangesOf indexed knowledgeOf normalOf eqRange eqKnowledge isNormal tagKept validRec validRecs versionsIn lacksChange carried validBatch ifValidBatch emptyValue one fresh again withByte threeReplicas spanning oneToNine overAll carrying
+unfolding beFrom beAt put opening beforeVectors beforeElements beforeRanges closing putFields putIds putElements putVectors putRanges encode
+    idsAt elementsAt vectorsAt afterVectors rangesAt decode replicaMap vectorCount vectorList rangeList ended checked told parse repeat
+    number same fields limit empty among judged replicaId tick element firstVector vector index range kindOf recFields putRec putRecs
+    batchFields encodeBatch recLength behind contentAt recAt whole front recsAt batchWith batchAfter batchFrom decodeBatch openBatch bounds
+    highest placeBy tickAt indexFrom vectorFound vectorAt known contains emptyKnowledge knownInside project alikeFrom ownAlike get at eqList
+    eqPair insert sorted inSpan within sample build canonical rowIds stepIds usedIds vectorFrom vectorStepsFrom vectorSteps eqElement grown
+    vectorsOf rangesOf indexed knowledgeOf normalOf eqRange eqKnowledge isNormal tagKept validRec validRecs versionsIn lacksChange carried
+    validBatch ifValidBatch emptyValue one fresh again withByte threeReplicas spanning oneToNine overAll carrying
 computed-batches = (refl, refl, refl, refl, refl, refl, refl, refl, refl)
 
 pub broken-batches : AllPairs brokenBatches
-unfolding bounds highest placeBy tickAt indexFrom vectorFound vectorAt known contains emptyKnowledge knownInside project alikeFrom ownAlike get at eqList eqPair insert sorted inSpan within sample build canonical rowIds stepIds usedIds vectorFrom vectorStepsFrom vectorSteps eqElement grown vectorsOf rangesOf indexed knowledgeOf normalOf eqRange eqKnowledge isNormal tagKept validRec validRecs versionsIn lacksChange carried validBatch ifValidBatch emptyValue one two fresh again tombstoned unusedEight zeroEight spanning oneToNine overAll carrying brokenBatches fitting allFitting fittingTable fittingBatch
+unfolding bounds highest placeBy tickAt indexFrom vectorFound vectorAt known contains emptyKnowledge knownInside project alikeFrom ownAlike
+    get at eqList eqPair insert sorted inSpan within sample build canonical rowIds stepIds usedIds vectorFrom vectorStepsFrom vectorSteps
+    eqElement grown vectorsOf rangesOf indexed knowledgeOf normalOf eqRange eqKnowledge isNormal tagKept validRec validRecs versionsIn
+    lacksChange carried validBatch ifValidBatch emptyValue one two fresh again tombstoned unusedEight zeroEight spanning oneToNine overAll
+    carrying brokenBatches fitting allFitting fittingTable fittingBatch
 broken-batches =
     let e = knowledges .7 in
     let n = knowledges .8 in
@@ -200,5 +225,7 @@ broken-batches =
 -- the places that the rows on bytes speak of: the lengths, and where the record begins
 pub places : (length (encodeStore (holding (fresh 1 5 3 9 ∷ []))) ≡ 291) × (getD (encodeStore (holding (fresh 1 5 3 9 ∷ []))) 202 0 ≡ 1) ×
     (length (encodeBatch (carrying (fresh 1 5 3 9 ∷ []))) ≡ 496) × (getD (encodeBatch (carrying (fresh 1 5 3 9 ∷ []))) 407 0 ≡ 1)
-unfolding put putFields putIds putElements putVectors putRanges encode opening beforeVectors beforeElements beforeRanges closing kindOf recFields putRec putRecs storeFields encodeStore batchFields encodeBatch one two fresh again store emptyValue holding spanning oneToNine overAll carrying
+unfolding put putFields putIds putElements putVectors putRanges encode opening beforeVectors beforeElements beforeRanges closing kindOf
+    recFields putRec putRecs storeFields encodeStore batchFields encodeBatch one two fresh again store emptyValue holding spanning oneToNine
+    overAll carrying
 places = (refl, refl, refl, refl)

@@ -45,12 +45,16 @@ refusals (bad i y n ∷ fs) = Refused n ∷ refusals fs
 
 -- the bytes end inside the next field; where the last one, 38, is faulty, they are whole
 pub first-before-cut : answers (λ i y. cut (suc i) (change i y example)) faulty ≡ refusals faulty
-unfolding example bytesOf change cutAt answer changed cut faulty answers refusals beFrom beAt put opening beforeVectors beforeElements beforeRanges closing repeat number same fields limit empty among judged replicaId tick element firstVector vector index range replicaMap vectorCount vectorList rangeList ended checked
+unfolding example bytesOf change cutAt answer changed cut faulty answers refusals beFrom beAt put opening beforeVectors beforeElements
+    beforeRanges closing repeat number same fields limit empty among judged replicaId tick element firstVector vector index range replicaMap
+    vectorCount vectorList rangeList ended checked
 first-before-cut = refl
 
 -- the last field is faulty too, which gives 2, and a byte is left over, which gives 10
 pub first-before-last : answers (λ i y. checkedBy basic (bytesOf (change i y (change 38 1 example)) ++ (0 ∷ []))) faulty ≡ refusals faulty
-unfolding example bytesOf change cutAt answer changed cut faulty answers refusals beFrom beAt put opening beforeVectors beforeElements beforeRanges closing repeat number same fields limit empty among judged replicaId tick element firstVector vector index range replicaMap vectorCount vectorList rangeList ended checked
+unfolding example bytesOf change cutAt answer changed cut faulty answers refusals beFrom beAt put opening beforeVectors beforeElements
+    beforeRanges closing repeat number same fields limit empty among judged replicaId tick element firstVector vector index range replicaMap
+    vectorCount vectorList rangeList ended checked
 first-before-last = refl
 
 -- the answer where the field at a place is faulty, which gives n, and the first of these with another number too
@@ -64,5 +68,7 @@ eachNext (bad i y n ∷ fs) = withNext i y n fs ∷ eachNext fs
 
 -- the next field that can have another number is faulty too
 pub first-before-next : eachNext faulty ≡ refusals faulty
-unfolding example bytesOf change cutAt answer changed cut faulty answers refusals withNext eachNext beFrom beAt put opening beforeVectors beforeElements beforeRanges closing repeat number same fields limit empty among judged replicaId tick element firstVector vector index range replicaMap vectorCount vectorList rangeList ended checked
+unfolding example bytesOf change cutAt answer changed cut faulty answers refusals withNext eachNext beFrom beAt put opening beforeVectors
+    beforeElements beforeRanges closing repeat number same fields limit empty among judged replicaId tick element firstVector vector index
+    range replicaMap vectorCount vectorList rangeList ended checked
 first-before-next = refl

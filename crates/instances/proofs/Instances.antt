@@ -9,7 +9,7 @@ use Rattle.instances.specs.Table.{AllHold, Tables}
 use Rattle.codec.specs.Number.{beFrom, beAt, put}
 use Rattle.codec.specs.Parsed.{ownFault, readOr}
 use Rattle.codec.specs.Reply.{answer, after, numberOf, writtenOf, firstFault}
-use Rattle.codec.specs.Total.{readAt, brought}
+use Rattle.codec.specs.Total.{readAt, clamp}
 use Rattle.layout.specs.Decode.{idsAt, elementsAt, vectorsAt, afterVectors, rangesAt, decode}
 use Rattle.layout.specs.Knowledge.{opening, beforeVectors, beforeElements, beforeRanges, closing, putFields, putIds, putElements, putVectors}
 use Rattle.layout.specs.Knowledge.{putRanges, encode, keys, bounds}
@@ -41,28 +41,160 @@ use Rattle.replication.specs.Queries.{coverageThousandths, countIn, thousandths
 use Rattle.replication.specs.Reading.{recLength, behind, contentAt, recAt, whole, front, recsAt, tagKept, validRec, validRecs}
 
 alone-hold : AllHold alone
-unfolding beFrom beAt put ownFault readOr answer after numberOf writtenOf firstFault readAt brought idsAt elementsAt vectorsAt afterVectors rangesAt decode opening beforeVectors beforeElements beforeRanges closing putFields putIds putElements putVectors putRanges encode keys bounds replicaMap vectorCount vectorList rangeList ended checked told parse repeat number same fields limit empty among judged replicaId tick element firstVector vector index range containNumber containValue leadNumber leadValue coverNumber coverValue idOf wrongLength wrongIds wrongSpan containFound coverFound containAnswer leadOf leadAnswer coverAnswer resultLines normaliseReply mergeReply projectReply highest placeBy tickAt indexFrom vectorFound vectorAt known contains indices emptyKnowledge normalise larger merge knownInside project knownRaised raise lackingAt orElse lackingFrom lacking isNowhere covers coversFor largestAt largestFrom largest alikeFrom ownAlike tooManyReplicas tooManyRanges get at eqList eqPair insert sorted inSpan within sample build canonical rowIds stepIds usedIds vectorFrom vectorStepsFrom vectorSteps eqElement grown vectorsOf rangesOf indexed knowledgeOf normalOf eqRange eqKnowledge isNormal batchFields encodeBatch asks asked then uncovered ownAhead gone exhausted tooManyRecords storeLines newReply liveContent wrongBrought editLines edited editReply tombstone deleteLines deleted deleteReply makeLines makes makeReply applyLines applyReply kindOf recFields putRec putRecs items find newStore storeFields encodeStore batchWith batchAfter batchFrom decodeBatch lacksChange carried validBatch ifValidBatch openBatch storeWith storeFrom decodeStore versionsIn validStore ifValid openStore replace nextTick changedRec changed selected made wins winnerOf joinFrom join applied partBytes partNumber partSide partAtPlace partLength placesFrom places partsAt toGive placeOf ofStore ofBatch winnerAt winnerPart learnedPart coverageNumber coverageContained coverageAll coverageThousandths countIn thousandths coverageAnswer recLength behind contentAt recAt whole front recsAt tagKept validRec validRecs emptyValue smallest itemBytes replicaBytes tagBytes tagged one two parts again fresh store batch p1 q1 p2 q2 bytesK6 bytesK10 bytesK11 bytesDeleted bytesTwoRecords bytesTwoVectors alone knowledgeRows newOf editedOnce editedTwice batchOne batchTwo storeRows spelledRows table
+unfolding beFrom beAt put ownFault readOr answer after numberOf writtenOf firstFault readAt clamp idsAt elementsAt vectorsAt afterVectors
+    rangesAt decode opening beforeVectors beforeElements beforeRanges closing putFields putIds putElements putVectors putRanges encode keys
+    bounds replicaMap vectorCount vectorList rangeList ended checked told parse repeat number same fields limit empty among judged replicaId
+    tick element firstVector vector index range containNumber containValue leadNumber leadValue coverNumber coverValue idOf wrongLength
+    wrongIds wrongSpan containFound coverFound containAnswer leadOf leadAnswer coverAnswer resultLines normaliseReply mergeReply
+    projectReply highest placeBy tickAt indexFrom vectorFound vectorAt known contains indices emptyKnowledge normalise larger merge
+    knownInside project knownRaised raise lackingAt orElse lackingFrom lacking isNowhere covers coversFor largestAt largestFrom largest
+    alikeFrom ownAlike tooManyReplicas tooManyRanges get at eqList eqPair insert sorted inSpan within sample build canonical rowIds stepIds
+    usedIds vectorFrom vectorStepsFrom vectorSteps eqElement grown vectorsOf rangesOf indexed knowledgeOf normalOf eqRange eqKnowledge
+    isNormal batchFields encodeBatch asks asked then uncovered ownAhead gone exhausted tooManyRecords storeLines newReply liveContent
+    wrongBrought editLines edited editReply tombstone deleteLines deleted deleteReply makeLines makes makeReply applyLines applyReply kindOf
+    recFields putRec putRecs items find newStore storeFields encodeStore batchWith batchAfter batchFrom decodeBatch lacksChange carried
+    validBatch ifValidBatch openBatch storeWith storeFrom decodeStore versionsIn validStore ifValid openStore replace nextTick changedRec
+    changed selected made wins winnerOf joinFrom join applied partBytes partNumber partSide partAtPlace partLength placesFrom places partsAt
+    toGive placeOf ofStore ofBatch winnerAt winnerPart learnedPart coverageNumber coverageContained coverageAll coverageThousandths countIn
+    thousandths coverageAnswer recLength behind contentAt recAt whole front recsAt tagKept validRec validRecs emptyValue smallest itemBytes
+    replicaBytes tagBytes tagged one two parts again fresh store batch p1 q1 p2 q2 bytesK6 bytesK10 bytesK11 bytesDeleted bytesTwoRecords
+    bytesTwoVectors alone knowledgeRows newOf editedOnce editedTwice batchOne batchTwo storeRows spelledRows table
 alone-hold = ((refl, refl), (refl, (refl, (refl, (refl, (refl, (refl, tt)))))))
 
 spelled-hold : AllHold spelledRows
-unfolding beFrom beAt put ownFault readOr answer after numberOf writtenOf firstFault readAt brought idsAt elementsAt vectorsAt afterVectors rangesAt decode opening beforeVectors beforeElements beforeRanges closing putFields putIds putElements putVectors putRanges encode keys bounds replicaMap vectorCount vectorList rangeList ended checked told parse repeat number same fields limit empty among judged replicaId tick element firstVector vector index range containNumber containValue leadNumber leadValue coverNumber coverValue idOf wrongLength wrongIds wrongSpan containFound coverFound containAnswer leadOf leadAnswer coverAnswer resultLines normaliseReply mergeReply projectReply highest placeBy tickAt indexFrom vectorFound vectorAt known contains indices emptyKnowledge normalise larger merge knownInside project knownRaised raise lackingAt orElse lackingFrom lacking isNowhere covers coversFor largestAt largestFrom largest alikeFrom ownAlike tooManyReplicas tooManyRanges get at eqList eqPair insert sorted inSpan within sample build canonical rowIds stepIds usedIds vectorFrom vectorStepsFrom vectorSteps eqElement grown vectorsOf rangesOf indexed knowledgeOf normalOf eqRange eqKnowledge isNormal batchFields encodeBatch asks asked then uncovered ownAhead gone exhausted tooManyRecords storeLines newReply liveContent wrongBrought editLines edited editReply tombstone deleteLines deleted deleteReply makeLines makes makeReply applyLines applyReply kindOf recFields putRec putRecs items find newStore storeFields encodeStore batchWith batchAfter batchFrom decodeBatch lacksChange carried validBatch ifValidBatch openBatch storeWith storeFrom decodeStore versionsIn validStore ifValid openStore replace nextTick changedRec changed selected made wins winnerOf joinFrom join applied partBytes partNumber partSide partAtPlace partLength placesFrom places partsAt toGive placeOf ofStore ofBatch winnerAt winnerPart learnedPart coverageNumber coverageContained coverageAll coverageThousandths countIn thousandths coverageAnswer recLength behind contentAt recAt whole front recsAt tagKept validRec validRecs emptyValue smallest itemBytes replicaBytes tagBytes tagged one two parts again fresh store batch p1 q1 p2 q2 bytesK6 bytesK10 bytesK11 bytesDeleted bytesTwoRecords bytesTwoVectors alone knowledgeRows newOf editedOnce editedTwice batchOne batchTwo storeRows spelledRows table
+unfolding beFrom beAt put ownFault readOr answer after numberOf writtenOf firstFault readAt clamp idsAt elementsAt vectorsAt afterVectors
+    rangesAt decode opening beforeVectors beforeElements beforeRanges closing putFields putIds putElements putVectors putRanges encode keys
+    bounds replicaMap vectorCount vectorList rangeList ended checked told parse repeat number same fields limit empty among judged replicaId
+    tick element firstVector vector index range containNumber containValue leadNumber leadValue coverNumber coverValue idOf wrongLength
+    wrongIds wrongSpan containFound coverFound containAnswer leadOf leadAnswer coverAnswer resultLines normaliseReply mergeReply
+    projectReply highest placeBy tickAt indexFrom vectorFound vectorAt known contains indices emptyKnowledge normalise larger merge
+    knownInside project knownRaised raise lackingAt orElse lackingFrom lacking isNowhere covers coversFor largestAt largestFrom largest
+    alikeFrom ownAlike tooManyReplicas tooManyRanges get at eqList eqPair insert sorted inSpan within sample build canonical rowIds stepIds
+    usedIds vectorFrom vectorStepsFrom vectorSteps eqElement grown vectorsOf rangesOf indexed knowledgeOf normalOf eqRange eqKnowledge
+    isNormal batchFields encodeBatch asks asked then uncovered ownAhead gone exhausted tooManyRecords storeLines newReply liveContent
+    wrongBrought editLines edited editReply tombstone deleteLines deleted deleteReply makeLines makes makeReply applyLines applyReply kindOf
+    recFields putRec putRecs items find newStore storeFields encodeStore batchWith batchAfter batchFrom decodeBatch lacksChange carried
+    validBatch ifValidBatch openBatch storeWith storeFrom decodeStore versionsIn validStore ifValid openStore replace nextTick changedRec
+    changed selected made wins winnerOf joinFrom join applied partBytes partNumber partSide partAtPlace partLength placesFrom places partsAt
+    toGive placeOf ofStore ofBatch winnerAt winnerPart learnedPart coverageNumber coverageContained coverageAll coverageThousandths countIn
+    thousandths coverageAnswer recLength behind contentAt recAt whole front recsAt tagKept validRec validRecs emptyValue smallest itemBytes
+    replicaBytes tagBytes tagged one two parts again fresh store batch p1 q1 p2 q2 bytesK6 bytesK10 bytesK11 bytesDeleted bytesTwoRecords
+    bytesTwoVectors alone knowledgeRows newOf editedOnce editedTwice batchOne batchTwo storeRows spelledRows table
 spelled-hold = ((refl, refl), ((refl, refl), ((refl, refl), ((refl, refl), ((refl, refl), ((refl, refl), tt))))))
 
 first-knowledge : AllHold (knowledgeRows p1 q1)
-unfolding beFrom beAt put ownFault readOr answer after numberOf writtenOf firstFault readAt brought idsAt elementsAt vectorsAt afterVectors rangesAt decode opening beforeVectors beforeElements beforeRanges closing putFields putIds putElements putVectors putRanges encode keys bounds replicaMap vectorCount vectorList rangeList ended checked told parse repeat number same fields limit empty among judged replicaId tick element firstVector vector index range containNumber containValue leadNumber leadValue coverNumber coverValue idOf wrongLength wrongIds wrongSpan containFound coverFound containAnswer leadOf leadAnswer coverAnswer resultLines normaliseReply mergeReply projectReply highest placeBy tickAt indexFrom vectorFound vectorAt known contains indices emptyKnowledge normalise larger merge knownInside project knownRaised raise lackingAt orElse lackingFrom lacking isNowhere covers coversFor largestAt largestFrom largest alikeFrom ownAlike tooManyReplicas tooManyRanges get at eqList eqPair insert sorted inSpan within sample build canonical rowIds stepIds usedIds vectorFrom vectorStepsFrom vectorSteps eqElement grown vectorsOf rangesOf indexed knowledgeOf normalOf eqRange eqKnowledge isNormal batchFields encodeBatch asks asked then uncovered ownAhead gone exhausted tooManyRecords storeLines newReply liveContent wrongBrought editLines edited editReply tombstone deleteLines deleted deleteReply makeLines makes makeReply applyLines applyReply kindOf recFields putRec putRecs items find newStore storeFields encodeStore batchWith batchAfter batchFrom decodeBatch lacksChange carried validBatch ifValidBatch openBatch storeWith storeFrom decodeStore versionsIn validStore ifValid openStore replace nextTick changedRec changed selected made wins winnerOf joinFrom join applied partBytes partNumber partSide partAtPlace partLength placesFrom places partsAt toGive placeOf ofStore ofBatch winnerAt winnerPart learnedPart coverageNumber coverageContained coverageAll coverageThousandths countIn thousandths coverageAnswer recLength behind contentAt recAt whole front recsAt tagKept validRec validRecs emptyValue smallest itemBytes replicaBytes tagBytes tagged one two parts again fresh store batch p1 q1 p2 q2 bytesK6 bytesK10 bytesK11 bytesDeleted bytesTwoRecords bytesTwoVectors alone knowledgeRows newOf editedOnce editedTwice batchOne batchTwo storeRows spelledRows table
+unfolding beFrom beAt put ownFault readOr answer after numberOf writtenOf firstFault readAt clamp idsAt elementsAt vectorsAt afterVectors
+    rangesAt decode opening beforeVectors beforeElements beforeRanges closing putFields putIds putElements putVectors putRanges encode keys
+    bounds replicaMap vectorCount vectorList rangeList ended checked told parse repeat number same fields limit empty among judged replicaId
+    tick element firstVector vector index range containNumber containValue leadNumber leadValue coverNumber coverValue idOf wrongLength
+    wrongIds wrongSpan containFound coverFound containAnswer leadOf leadAnswer coverAnswer resultLines normaliseReply mergeReply
+    projectReply highest placeBy tickAt indexFrom vectorFound vectorAt known contains indices emptyKnowledge normalise larger merge
+    knownInside project knownRaised raise lackingAt orElse lackingFrom lacking isNowhere covers coversFor largestAt largestFrom largest
+    alikeFrom ownAlike tooManyReplicas tooManyRanges get at eqList eqPair insert sorted inSpan within sample build canonical rowIds stepIds
+    usedIds vectorFrom vectorStepsFrom vectorSteps eqElement grown vectorsOf rangesOf indexed knowledgeOf normalOf eqRange eqKnowledge
+    isNormal batchFields encodeBatch asks asked then uncovered ownAhead gone exhausted tooManyRecords storeLines newReply liveContent
+    wrongBrought editLines edited editReply tombstone deleteLines deleted deleteReply makeLines makes makeReply applyLines applyReply kindOf
+    recFields putRec putRecs items find newStore storeFields encodeStore batchWith batchAfter batchFrom decodeBatch lacksChange carried
+    validBatch ifValidBatch openBatch storeWith storeFrom decodeStore versionsIn validStore ifValid openStore replace nextTick changedRec
+    changed selected made wins winnerOf joinFrom join applied partBytes partNumber partSide partAtPlace partLength placesFrom places partsAt
+    toGive placeOf ofStore ofBatch winnerAt winnerPart learnedPart coverageNumber coverageContained coverageAll coverageThousandths countIn
+    thousandths coverageAnswer recLength behind contentAt recAt whole front recsAt tagKept validRec validRecs emptyValue smallest itemBytes
+    replicaBytes tagBytes tagged one two parts again fresh store batch p1 q1 p2 q2 bytesK6 bytesK10 bytesK11 bytesDeleted bytesTwoRecords
+    bytesTwoVectors alone knowledgeRows newOf editedOnce editedTwice batchOne batchTwo storeRows spelledRows table
 first-knowledge = ((refl, refl), (refl, (refl, (refl, (refl, (refl, (refl, (refl, (refl, (refl, (refl, ((refl, refl), ((refl, refl), (refl, (refl, tt)))))))))))))))
 
 last-knowledge : AllHold (knowledgeRows p2 q2)
-unfolding beFrom beAt put ownFault readOr answer after numberOf writtenOf firstFault readAt brought idsAt elementsAt vectorsAt afterVectors rangesAt decode opening beforeVectors beforeElements beforeRanges closing putFields putIds putElements putVectors putRanges encode keys bounds replicaMap vectorCount vectorList rangeList ended checked told parse repeat number same fields limit empty among judged replicaId tick element firstVector vector index range containNumber containValue leadNumber leadValue coverNumber coverValue idOf wrongLength wrongIds wrongSpan containFound coverFound containAnswer leadOf leadAnswer coverAnswer resultLines normaliseReply mergeReply projectReply highest placeBy tickAt indexFrom vectorFound vectorAt known contains indices emptyKnowledge normalise larger merge knownInside project knownRaised raise lackingAt orElse lackingFrom lacking isNowhere covers coversFor largestAt largestFrom largest alikeFrom ownAlike tooManyReplicas tooManyRanges get at eqList eqPair insert sorted inSpan within sample build canonical rowIds stepIds usedIds vectorFrom vectorStepsFrom vectorSteps eqElement grown vectorsOf rangesOf indexed knowledgeOf normalOf eqRange eqKnowledge isNormal batchFields encodeBatch asks asked then uncovered ownAhead gone exhausted tooManyRecords storeLines newReply liveContent wrongBrought editLines edited editReply tombstone deleteLines deleted deleteReply makeLines makes makeReply applyLines applyReply kindOf recFields putRec putRecs items find newStore storeFields encodeStore batchWith batchAfter batchFrom decodeBatch lacksChange carried validBatch ifValidBatch openBatch storeWith storeFrom decodeStore versionsIn validStore ifValid openStore replace nextTick changedRec changed selected made wins winnerOf joinFrom join applied partBytes partNumber partSide partAtPlace partLength placesFrom places partsAt toGive placeOf ofStore ofBatch winnerAt winnerPart learnedPart coverageNumber coverageContained coverageAll coverageThousandths countIn thousandths coverageAnswer recLength behind contentAt recAt whole front recsAt tagKept validRec validRecs emptyValue smallest itemBytes replicaBytes tagBytes tagged one two parts again fresh store batch p1 q1 p2 q2 bytesK6 bytesK10 bytesK11 bytesDeleted bytesTwoRecords bytesTwoVectors alone knowledgeRows newOf editedOnce editedTwice batchOne batchTwo storeRows spelledRows table
+unfolding beFrom beAt put ownFault readOr answer after numberOf writtenOf firstFault readAt clamp idsAt elementsAt vectorsAt afterVectors
+    rangesAt decode opening beforeVectors beforeElements beforeRanges closing putFields putIds putElements putVectors putRanges encode keys
+    bounds replicaMap vectorCount vectorList rangeList ended checked told parse repeat number same fields limit empty among judged replicaId
+    tick element firstVector vector index range containNumber containValue leadNumber leadValue coverNumber coverValue idOf wrongLength
+    wrongIds wrongSpan containFound coverFound containAnswer leadOf leadAnswer coverAnswer resultLines normaliseReply mergeReply
+    projectReply highest placeBy tickAt indexFrom vectorFound vectorAt known contains indices emptyKnowledge normalise larger merge
+    knownInside project knownRaised raise lackingAt orElse lackingFrom lacking isNowhere covers coversFor largestAt largestFrom largest
+    alikeFrom ownAlike tooManyReplicas tooManyRanges get at eqList eqPair insert sorted inSpan within sample build canonical rowIds stepIds
+    usedIds vectorFrom vectorStepsFrom vectorSteps eqElement grown vectorsOf rangesOf indexed knowledgeOf normalOf eqRange eqKnowledge
+    isNormal batchFields encodeBatch asks asked then uncovered ownAhead gone exhausted tooManyRecords storeLines newReply liveContent
+    wrongBrought editLines edited editReply tombstone deleteLines deleted deleteReply makeLines makes makeReply applyLines applyReply kindOf
+    recFields putRec putRecs items find newStore storeFields encodeStore batchWith batchAfter batchFrom decodeBatch lacksChange carried
+    validBatch ifValidBatch openBatch storeWith storeFrom decodeStore versionsIn validStore ifValid openStore replace nextTick changedRec
+    changed selected made wins winnerOf joinFrom join applied partBytes partNumber partSide partAtPlace partLength placesFrom places partsAt
+    toGive placeOf ofStore ofBatch winnerAt winnerPart learnedPart coverageNumber coverageContained coverageAll coverageThousandths countIn
+    thousandths coverageAnswer recLength behind contentAt recAt whole front recsAt tagKept validRec validRecs emptyValue smallest itemBytes
+    replicaBytes tagBytes tagged one two parts again fresh store batch p1 q1 p2 q2 bytesK6 bytesK10 bytesK11 bytesDeleted bytesTwoRecords
+    bytesTwoVectors alone knowledgeRows newOf editedOnce editedTwice batchOne batchTwo storeRows spelledRows table
 last-knowledge = ((refl, refl), (refl, (refl, (refl, (refl, (refl, (refl, (refl, (refl, (refl, (refl, ((refl, refl), ((refl, refl), (refl, (refl, tt)))))))))))))))
 
 first-stores : AllHold (storeRows p1 q1)
-unfolding beFrom beAt put ownFault readOr answer after numberOf writtenOf firstFault readAt brought idsAt elementsAt vectorsAt afterVectors rangesAt decode opening beforeVectors beforeElements beforeRanges closing putFields putIds putElements putVectors putRanges encode keys bounds replicaMap vectorCount vectorList rangeList ended checked told parse repeat number same fields limit empty among judged replicaId tick element firstVector vector index range containNumber containValue leadNumber leadValue coverNumber coverValue idOf wrongLength wrongIds wrongSpan containFound coverFound containAnswer leadOf leadAnswer coverAnswer resultLines normaliseReply mergeReply projectReply highest placeBy tickAt indexFrom vectorFound vectorAt known contains indices emptyKnowledge normalise larger merge knownInside project knownRaised raise lackingAt orElse lackingFrom lacking isNowhere covers coversFor largestAt largestFrom largest alikeFrom ownAlike tooManyReplicas tooManyRanges get at eqList eqPair insert sorted inSpan within sample build canonical rowIds stepIds usedIds vectorFrom vectorStepsFrom vectorSteps eqElement grown vectorsOf rangesOf indexed knowledgeOf normalOf eqRange eqKnowledge isNormal batchFields encodeBatch asks asked then uncovered ownAhead gone exhausted tooManyRecords storeLines newReply liveContent wrongBrought editLines edited editReply tombstone deleteLines deleted deleteReply makeLines makes makeReply applyLines applyReply kindOf recFields putRec putRecs items find newStore storeFields encodeStore batchWith batchAfter batchFrom decodeBatch lacksChange carried validBatch ifValidBatch openBatch storeWith storeFrom decodeStore versionsIn validStore ifValid openStore replace nextTick changedRec changed selected made wins winnerOf joinFrom join applied partBytes partNumber partSide partAtPlace partLength placesFrom places partsAt toGive placeOf ofStore ofBatch winnerAt winnerPart learnedPart coverageNumber coverageContained coverageAll coverageThousandths countIn thousandths coverageAnswer recLength behind contentAt recAt whole front recsAt tagKept validRec validRecs emptyValue smallest itemBytes replicaBytes tagBytes tagged one two parts again fresh store batch p1 q1 p2 q2 bytesK6 bytesK10 bytesK11 bytesDeleted bytesTwoRecords bytesTwoVectors alone knowledgeRows newOf editedOnce editedTwice batchOne batchTwo storeRows spelledRows table
-first-stores = ((refl, refl), ((refl, refl), ((refl, refl), ((refl, refl), ((refl, refl), (refl, (refl, ((refl, refl), ((refl, refl), ((refl, refl), (refl, (refl, ((refl, refl), (refl, ((refl, refl), ((refl, refl), tt))))))))))))))))
+unfolding beFrom beAt put ownFault readOr answer after numberOf writtenOf firstFault readAt clamp idsAt elementsAt vectorsAt afterVectors
+    rangesAt decode opening beforeVectors beforeElements beforeRanges closing putFields putIds putElements putVectors putRanges encode keys
+    bounds replicaMap vectorCount vectorList rangeList ended checked told parse repeat number same fields limit empty among judged replicaId
+    tick element firstVector vector index range containNumber containValue leadNumber leadValue coverNumber coverValue idOf wrongLength
+    wrongIds wrongSpan containFound coverFound containAnswer leadOf leadAnswer coverAnswer resultLines normaliseReply mergeReply
+    projectReply highest placeBy tickAt indexFrom vectorFound vectorAt known contains indices emptyKnowledge normalise larger merge
+    knownInside project knownRaised raise lackingAt orElse lackingFrom lacking isNowhere covers coversFor largestAt largestFrom largest
+    alikeFrom ownAlike tooManyReplicas tooManyRanges get at eqList eqPair insert sorted inSpan within sample build canonical rowIds stepIds
+    usedIds vectorFrom vectorStepsFrom vectorSteps eqElement grown vectorsOf rangesOf indexed knowledgeOf normalOf eqRange eqKnowledge
+    isNormal batchFields encodeBatch asks asked then uncovered ownAhead gone exhausted tooManyRecords storeLines newReply liveContent
+    wrongBrought editLines edited editReply tombstone deleteLines deleted deleteReply makeLines makes makeReply applyLines applyReply kindOf
+    recFields putRec putRecs items find newStore storeFields encodeStore batchWith batchAfter batchFrom decodeBatch lacksChange carried
+    validBatch ifValidBatch openBatch storeWith storeFrom decodeStore versionsIn validStore ifValid openStore replace nextTick changedRec
+    changed selected made wins winnerOf joinFrom join applied partBytes partNumber partSide partAtPlace partLength placesFrom places partsAt
+    toGive placeOf ofStore ofBatch winnerAt winnerPart learnedPart coverageNumber coverageContained coverageAll coverageThousandths countIn
+    thousandths coverageAnswer recLength behind contentAt recAt whole front recsAt tagKept validRec validRecs emptyValue smallest itemBytes
+    replicaBytes tagBytes tagged one two parts again fresh store batch p1 q1 p2 q2 bytesK6 bytesK10 bytesK11 bytesDeleted bytesTwoRecords
+    bytesTwoVectors alone knowledgeRows newOf editedOnce editedTwice batchOne batchTwo storeRows spelledRows table
+first-stores = (
+  (refl, refl),
+  (
+    (refl, refl),
+    (
+      (refl, refl),
+      (
+        (refl, refl),
+        (
+          (refl, refl),
+          (refl, (refl, ((refl, refl), ((refl, refl), ((refl, refl), (refl, (refl, ((refl, refl), (refl, ((refl, refl), ((refl, refl), tt))))))))))),
+        ),
+      ),
+    ),
+  ),
+)
 
 last-stores : AllHold (storeRows p2 q2)
-unfolding beFrom beAt put ownFault readOr answer after numberOf writtenOf firstFault readAt brought idsAt elementsAt vectorsAt afterVectors rangesAt decode opening beforeVectors beforeElements beforeRanges closing putFields putIds putElements putVectors putRanges encode keys bounds replicaMap vectorCount vectorList rangeList ended checked told parse repeat number same fields limit empty among judged replicaId tick element firstVector vector index range containNumber containValue leadNumber leadValue coverNumber coverValue idOf wrongLength wrongIds wrongSpan containFound coverFound containAnswer leadOf leadAnswer coverAnswer resultLines normaliseReply mergeReply projectReply highest placeBy tickAt indexFrom vectorFound vectorAt known contains indices emptyKnowledge normalise larger merge knownInside project knownRaised raise lackingAt orElse lackingFrom lacking isNowhere covers coversFor largestAt largestFrom largest alikeFrom ownAlike tooManyReplicas tooManyRanges get at eqList eqPair insert sorted inSpan within sample build canonical rowIds stepIds usedIds vectorFrom vectorStepsFrom vectorSteps eqElement grown vectorsOf rangesOf indexed knowledgeOf normalOf eqRange eqKnowledge isNormal batchFields encodeBatch asks asked then uncovered ownAhead gone exhausted tooManyRecords storeLines newReply liveContent wrongBrought editLines edited editReply tombstone deleteLines deleted deleteReply makeLines makes makeReply applyLines applyReply kindOf recFields putRec putRecs items find newStore storeFields encodeStore batchWith batchAfter batchFrom decodeBatch lacksChange carried validBatch ifValidBatch openBatch storeWith storeFrom decodeStore versionsIn validStore ifValid openStore replace nextTick changedRec changed selected made wins winnerOf joinFrom join applied partBytes partNumber partSide partAtPlace partLength placesFrom places partsAt toGive placeOf ofStore ofBatch winnerAt winnerPart learnedPart coverageNumber coverageContained coverageAll coverageThousandths countIn thousandths coverageAnswer recLength behind contentAt recAt whole front recsAt tagKept validRec validRecs emptyValue smallest itemBytes replicaBytes tagBytes tagged one two parts again fresh store batch p1 q1 p2 q2 bytesK6 bytesK10 bytesK11 bytesDeleted bytesTwoRecords bytesTwoVectors alone knowledgeRows newOf editedOnce editedTwice batchOne batchTwo storeRows spelledRows table
-last-stores = ((refl, refl), ((refl, refl), ((refl, refl), ((refl, refl), ((refl, refl), (refl, (refl, ((refl, refl), ((refl, refl), ((refl, refl), (refl, (refl, ((refl, refl), (refl, ((refl, refl), ((refl, refl), tt))))))))))))))))
+unfolding beFrom beAt put ownFault readOr answer after numberOf writtenOf firstFault readAt clamp idsAt elementsAt vectorsAt afterVectors
+    rangesAt decode opening beforeVectors beforeElements beforeRanges closing putFields putIds putElements putVectors putRanges encode keys
+    bounds replicaMap vectorCount vectorList rangeList ended checked told parse repeat number same fields limit empty among judged replicaId
+    tick element firstVector vector index range containNumber containValue leadNumber leadValue coverNumber coverValue idOf wrongLength
+    wrongIds wrongSpan containFound coverFound containAnswer leadOf leadAnswer coverAnswer resultLines normaliseReply mergeReply
+    projectReply highest placeBy tickAt indexFrom vectorFound vectorAt known contains indices emptyKnowledge normalise larger merge
+    knownInside project knownRaised raise lackingAt orElse lackingFrom lacking isNowhere covers coversFor largestAt largestFrom largest
+    alikeFrom ownAlike tooManyReplicas tooManyRanges get at eqList eqPair insert sorted inSpan within sample build canonical rowIds stepIds
+    usedIds vectorFrom vectorStepsFrom vectorSteps eqElement grown vectorsOf rangesOf indexed knowledgeOf normalOf eqRange eqKnowledge
+    isNormal batchFields encodeBatch asks asked then uncovered ownAhead gone exhausted tooManyRecords storeLines newReply liveContent
+    wrongBrought editLines edited editReply tombstone deleteLines deleted deleteReply makeLines makes makeReply applyLines applyReply kindOf
+    recFields putRec putRecs items find newStore storeFields encodeStore batchWith batchAfter batchFrom decodeBatch lacksChange carried
+    validBatch ifValidBatch openBatch storeWith storeFrom decodeStore versionsIn validStore ifValid openStore replace nextTick changedRec
+    changed selected made wins winnerOf joinFrom join applied partBytes partNumber partSide partAtPlace partLength placesFrom places partsAt
+    toGive placeOf ofStore ofBatch winnerAt winnerPart learnedPart coverageNumber coverageContained coverageAll coverageThousandths countIn
+    thousandths coverageAnswer recLength behind contentAt recAt whole front recsAt tagKept validRec validRecs emptyValue smallest itemBytes
+    replicaBytes tagBytes tagged one two parts again fresh store batch p1 q1 p2 q2 bytesK6 bytesK10 bytesK11 bytesDeleted bytesTwoRecords
+    bytesTwoVectors alone knowledgeRows newOf editedOnce editedTwice batchOne batchTwo storeRows spelledRows table
+last-stores = (
+  (refl, refl),
+  (
+    (refl, refl),
+    (
+      (refl, refl),
+      (
+        (refl, refl),
+        (
+          (refl, refl),
+          (refl, (refl, ((refl, refl), ((refl, refl), ((refl, refl), (refl, (refl, ((refl, refl), (refl, ((refl, refl), ((refl, refl), tt))))))))))),
+        ),
+      ),
+    ),
+  ),
+)
 
 pub instances : Tables table
 unfolding table

@@ -12,7 +12,7 @@ use Rattle.layout.specs.Knowledge.{putVectors, putRanges, encode, bounds}
 use Rattle.layout.proofs.Forward.{encode-bytes}
 use Rattle.replication.specs.Call.{BytesBrought, Given}
 use Rattle.replication.specs.Promise.{Promise, ends}
-use Rattle.replication.proofs.PartBytes.{no-bytes}
+use Rattle.replication.proofs.Bytes.Part.{no-bytes}
 use Rattle.replication.proofs.Demand3.{demand3-basic}
 use Rattle.instances.specs.Listed.{calls12}
 use Rattle.instances.specs.Answers.{storesOf}
@@ -81,7 +81,20 @@ promise12 = demand3-basic (calls12 p1 q1) (given12 p1 q1 (small-ids .0) (small-i
 -- both stores at the end, computed in one run
 stores12 : storesOf (q1 ∷ p1 ∷ []) (ends basic (calls12 p1 q1))
     ≡ encodeStore (store q1 (one p1 2) (fresh 1 p1 1 9 ∷ fresh 2 p1 2 8 ∷ [])) ∷ encodeStore (editedTwice p1) ∷ []
-unfolding beFrom beAt put ownFault readOr answer firstFault idsAt elementsAt vectorsAt afterVectors rangesAt decode opening beforeVectors beforeElements beforeRanges closing putFields putIds putElements putVectors putRanges encode bounds replicaMap vectorCount vectorList rangeList ended checked told parse repeat number same fields limit empty among judged replicaId tick element firstVector vector index range idOf wrongLength wrongSpan resultLines highest placeBy tickAt indexFrom vectorFound vectorAt known contains emptyKnowledge normalise larger merge knownInside project knownRaised raise lackingAt orElse lackingFrom lacking isNowhere covers coversFor largestAt largestFrom largest alikeFrom ownAlike tooManyReplicas tooManyRanges get at eqList eqPair insert sorted inSpan within sample build canonical rowIds stepIds usedIds vectorFrom vectorStepsFrom vectorSteps eqElement grown vectorsOf rangesOf indexed knowledgeOf normalOf eqRange eqKnowledge isNormal batchFields encodeBatch then uncovered ownAhead gone exhausted tooManyRecords storeLines liveContent wrongBrought editLines edited editReply tombstone deleteLines deleted deleteReply makeLines makes makeReply applyLines applyReply kindOf recFields putRec putRecs find newStore storeFields encodeStore start outcome batchNumber applyTo writes putAt keep run trace batchWith batchAfter batchFrom decodeBatch lacksChange carried validBatch ifValidBatch openBatch storeWith storeFrom decodeStore versionsIn validStore ifValid openStore replace nextTick changedRec changed selected made wins winnerOf joinFrom join applied ends recLength behind contentAt recAt whole front recsAt tagKept validRec validRecs emptyValue smallest itemBytes tagBytes tagged one two again fresh store batch p1 q1 calls12 editedTwice storesOf
+unfolding beFrom beAt put ownFault readOr answer firstFault idsAt elementsAt vectorsAt afterVectors rangesAt decode opening beforeVectors
+    beforeElements beforeRanges closing putFields putIds putElements putVectors putRanges encode bounds replicaMap vectorCount vectorList
+    rangeList ended checked told parse repeat number same fields limit empty among judged replicaId tick element firstVector vector index
+    range idOf wrongLength wrongSpan resultLines highest placeBy tickAt indexFrom vectorFound vectorAt known contains emptyKnowledge
+    normalise larger merge knownInside project knownRaised raise lackingAt orElse lackingFrom lacking isNowhere covers coversFor largestAt
+    largestFrom largest alikeFrom ownAlike tooManyReplicas tooManyRanges get at eqList eqPair insert sorted inSpan within sample build
+    canonical rowIds stepIds usedIds vectorFrom vectorStepsFrom vectorSteps eqElement grown vectorsOf rangesOf indexed knowledgeOf normalOf
+    eqRange eqKnowledge isNormal batchFields encodeBatch then uncovered ownAhead gone exhausted tooManyRecords storeLines liveContent
+    wrongBrought editLines edited editReply tombstone deleteLines deleted deleteReply makeLines makes makeReply applyLines applyReply kindOf
+    recFields putRec putRecs find newStore storeFields encodeStore start outcome batchNumber applyTo writes putAt keep run trace batchWith
+    batchAfter batchFrom decodeBatch lacksChange carried validBatch ifValidBatch openBatch storeWith storeFrom decodeStore versionsIn
+    validStore ifValid openStore replace nextTick changedRec changed selected made wins winnerOf joinFrom join applied ends recLength behind
+    contentAt recAt whole front recsAt tagKept validRec validRecs emptyValue smallest itemBytes tagBytes tagged one two again fresh store
+    batch p1 q1 calls12 editedTwice storesOf
 stores12 = refl
 
 -- what the list ends in: Q has both of P's records, and P's store is as P left it

@@ -12,7 +12,7 @@ use Rattle.layout.proofs.Forward.{encode-bytes}
 use Rattle.replication.specs.Call.{Given}
 use Rattle.replication.specs.Promise.{Promise, ends, storeAfter}
 use Rattle.replication.specs.Runner.{Number}
-use Rattle.replication.proofs.PartBytes.{no-bytes}
+use Rattle.replication.proofs.Bytes.Part.{no-bytes}
 use Rattle.replication.proofs.Consumed.{either-exactly, twice-exactly}
 use Rattle.replication.proofs.Demand3.{demand3-basic}
 use Rattle.instances.specs.Given.{emptyValue, smallest, itemBytes, tagBytes, tagged, two, p1, q1}
@@ -96,7 +96,20 @@ computed : seen (p1 ∷ q1 ∷ s1 ∷ t1 ∷ []) (ranOnce basic start longer)
       stores = bytesP ∷ bytesQ ∷ bytesS ∷ bytesT ∷ [];
       batches = bytesBatch0 ∷ bytesBatch1 ∷ bytesBatch2 ∷ bytesBatch3 ∷ [];
     }
-unfolding beFrom beAt put ownFault readOr answer firstFault idsAt elementsAt vectorsAt afterVectors rangesAt decode opening beforeVectors beforeElements beforeRanges closing putFields putIds putElements putVectors putRanges encode bounds replicaMap vectorCount vectorList rangeList ended checked told parse repeat number same fields limit empty among judged replicaId tick element firstVector vector index range idOf wrongLength wrongSpan resultLines highest placeBy tickAt indexFrom vectorFound vectorAt known contains emptyKnowledge normalise larger merge knownInside project knownRaised raise lackingAt orElse lackingFrom lacking isNowhere covers coversFor largestAt largestFrom largest alikeFrom ownAlike tooManyReplicas tooManyRanges get at eqList eqPair insert sorted inSpan within sample build canonical rowIds stepIds usedIds vectorFrom vectorStepsFrom vectorSteps eqElement grown vectorsOf rangesOf indexed knowledgeOf normalOf eqRange eqKnowledge isNormal batchFields encodeBatch then uncovered ownAhead gone exhausted tooManyRecords storeLines liveContent wrongBrought editLines edited editReply tombstone deleteLines deleted deleteReply makeLines makes makeReply applyLines applyReply kindOf recFields putRec putRecs find newStore storeFields encodeStore start outcome batchNumber putAt keep batchWith batchAfter batchFrom decodeBatch lacksChange carried validBatch ifValidBatch openBatch storeWith storeFrom decodeStore versionsIn validStore ifValid openStore replace nextTick changedRec changed selected made wins winnerOf joinFrom join applied recLength behind contentAt recAt whole front recsAt tagKept validRec validRecs emptyValue smallest itemBytes tagBytes tagged two p1 q1 s1 t1 turns storesOf appliedTo replied noted ranOnce seen longer longerFlags longerAnswers bytesP bytesQ bytesS bytesT bytesBatch0 bytesBatch1 bytesBatch2 bytesBatch3
+unfolding beFrom beAt put ownFault readOr answer firstFault idsAt elementsAt vectorsAt afterVectors rangesAt decode opening beforeVectors
+    beforeElements beforeRanges closing putFields putIds putElements putVectors putRanges encode bounds replicaMap vectorCount vectorList
+    rangeList ended checked told parse repeat number same fields limit empty among judged replicaId tick element firstVector vector index
+    range idOf wrongLength wrongSpan resultLines highest placeBy tickAt indexFrom vectorFound vectorAt known contains emptyKnowledge
+    normalise larger merge knownInside project knownRaised raise lackingAt orElse lackingFrom lacking isNowhere covers coversFor largestAt
+    largestFrom largest alikeFrom ownAlike tooManyReplicas tooManyRanges get at eqList eqPair insert sorted inSpan within sample build
+    canonical rowIds stepIds usedIds vectorFrom vectorStepsFrom vectorSteps eqElement grown vectorsOf rangesOf indexed knowledgeOf normalOf
+    eqRange eqKnowledge isNormal batchFields encodeBatch then uncovered ownAhead gone exhausted tooManyRecords storeLines liveContent
+    wrongBrought editLines edited editReply tombstone deleteLines deleted deleteReply makeLines makes makeReply applyLines applyReply kindOf
+    recFields putRec putRecs find newStore storeFields encodeStore start outcome batchNumber putAt keep batchWith batchAfter batchFrom
+    decodeBatch lacksChange carried validBatch ifValidBatch openBatch storeWith storeFrom decodeStore versionsIn validStore ifValid
+    openStore replace nextTick changedRec changed selected made wins winnerOf joinFrom join applied recLength behind contentAt recAt whole
+    front recsAt tagKept validRec validRecs emptyValue smallest itemBytes tagBytes tagged two p1 q1 s1 t1 turns storesOf appliedTo replied
+    noted ranOnce seen longer longerFlags longerAnswers bytesP bytesQ bytesS bytesT bytesBatch0 bytesBatch1 bytesBatch2 bytesBatch3
 computed = refl
 
 longer-stores : storesOf (p1 ∷ q1 ∷ s1 ∷ t1 ∷ []) (ends basic longer) ≡ bytesP ∷ bytesQ ∷ bytesS ∷ bytesT ∷ []

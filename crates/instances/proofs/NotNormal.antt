@@ -19,5 +19,114 @@ use Rattle.instances.specs.Table.{AllHold}
 use Rattle.instances.specs.NotNormal.{bytesTickZero, bytesSeven, notNormalRows}
 
 pub not-normal : AllHold notNormalRows
-unfolding beFrom beAt put firstFault putFields putIds putElements putVectors putRanges encode opening beforeVectors beforeElements beforeRanges closing bounds replicaMap vectorCount vectorList rangeList ended checked idsAt elementsAt vectorsAt afterVectors rangesAt decode told parse repeat number same fields limit empty among judged replicaId tick element firstVector vector index range idOf readOr ownFault wrongLength wrongIds containFound containAnswer resultLines normaliseReply highest placeBy tickAt indexFrom vectorFound vectorAt known contains vectorFrom vectorStepsFrom vectorSteps eqElement grown vectorsOf rangesOf indexed knowledgeOf normalOf emptyKnowledge normalise tooManyReplicas tooManyRanges get eqList eqPair insert sorted inSpan within sample build canonical rowIds stepIds usedIds itemBytes replicaBytes bytesTickZero bytesSeven notNormalRows tickZero unusedReplica unusedVector equalVectors emptyTwice equalNeighbours firstAbove laterFirst replicasFall keysFall
-not-normal = (refl, ((refl, refl), (refl, ((refl, refl), (refl, (refl, (refl, (refl, ((refl, refl), (refl, (refl, (refl, ((refl, refl), (refl, (refl, (refl, ((refl, refl), (refl, (refl, (refl, (refl, ((refl, refl), (refl, (refl, (refl, ((refl, refl), (refl, (refl, (refl, ((refl, refl), (refl, (refl, (refl, ((refl, refl), (refl, (refl, (refl, (refl, ((refl, refl), (refl, (refl, (refl, ((refl, refl), (refl, (refl, tt)))))))))))))))))))))))))))))))))))))))))))))
+unfolding beFrom beAt put firstFault putFields putIds putElements putVectors putRanges encode opening beforeVectors beforeElements
+    beforeRanges closing bounds replicaMap vectorCount vectorList rangeList ended checked idsAt elementsAt vectorsAt afterVectors rangesAt
+    decode told parse repeat number same fields limit empty among judged replicaId tick element firstVector vector index range idOf readOr
+    ownFault wrongLength wrongIds containFound containAnswer resultLines normaliseReply highest placeBy tickAt indexFrom vectorFound
+    vectorAt known contains vectorFrom vectorStepsFrom vectorSteps eqElement grown vectorsOf rangesOf indexed knowledgeOf normalOf
+    emptyKnowledge normalise tooManyReplicas tooManyRanges get eqList eqPair insert sorted inSpan within sample build canonical rowIds
+    stepIds usedIds itemBytes replicaBytes bytesTickZero bytesSeven notNormalRows tickZero unusedReplica unusedVector equalVectors
+    emptyTwice equalNeighbours firstAbove laterFirst replicasFall keysFall
+not-normal = (
+  refl,
+  (
+    (refl, refl),
+    (
+      refl,
+      (
+        (refl, refl),
+        (
+          refl,
+          (
+            refl,
+            (
+              refl,
+              (
+                refl,
+                (
+                  (refl, refl),
+                  (
+                    refl,
+                    (
+                      refl,
+                      (
+                        refl,
+                        (
+                          (refl, refl),
+                          (
+                            refl,
+                            (
+                              refl,
+                              (
+                                refl,
+                                (
+                                  (refl, refl),
+                                  (
+                                    refl,
+                                    (
+                                      refl,
+                                      (
+                                        refl,
+                                        (
+                                          refl,
+                                          (
+                                            (refl, refl),
+                                            (
+                                              refl,
+                                              (
+                                                refl,
+                                                (
+                                                  refl,
+                                                  (
+                                                    (refl, refl),
+                                                    (
+                                                      refl,
+                                                      (
+                                                        refl,
+                                                        (
+                                                          refl,
+                                                          (
+                                                            (refl, refl),
+                                                            (
+                                                              refl,
+                                                              (
+                                                                refl,
+                                                                (
+                                                                  refl,
+                                                                  (
+                                                                    (refl, refl),
+                                                                    (refl, (refl, (refl, (refl, ((refl, refl), (refl, (refl, (refl, ((refl, refl), (refl, (refl, tt))))))))))),
+                                                                  ),
+                                                                ),
+                                                              ),
+                                                            ),
+                                                          ),
+                                                        ),
+                                                      ),
+                                                    ),
+                                                  ),
+                                                ),
+                                              ),
+                                            ),
+                                          ),
+                                        ),
+                                      ),
+                                    ),
+                                  ),
+                                ),
+                              ),
+                            ),
+                          ),
+                        ),
+                      ),
+                    ),
+                  ),
+                ),
+              ),
+            ),
+          ),
+        ),
+      ),
+    ),
+  ),
+)

@@ -39,8 +39,8 @@ use Rattle.replication.specs.Call.{ReplicaId, Call, Given}
 use Rattle.replication.specs.Formats.{Store, kindOf, recFields, putRec, putRecs, find, newStore, storeFields, encodeStore}
 use Rattle.replication.specs.Lists.{World, writes, start, trace, outcome, batchNumber, putAt, keep}
 use Rattle.replication.specs.Promise.{IsStore, ends, storeAfter}
-use Rattle.replication.specs.Round.{Server, Round, Alike, NothingLost, afterRound}
-use Rattle.replication.specs.RoundCalls.{Half, gathers, spreads, AllDone}
+use Rattle.corollaries.specs.Round.{Server, Round, Alike, NothingLost, afterRound}
+use Rattle.corollaries.specs.RoundCalls.{Half, gathers, spreads, AllDone}
 use Rattle.replication.specs.BatchFormat.{batchFields, encodeBatch}
 use Rattle.replication.specs.Calls.{then, uncovered, ownAhead, exhausted, tooManyRecords, storeLines, liveContent, wrongBrought, editLines}
 use Rattle.replication.specs.Calls.{edited, editReply, makeLines, makes, makeReply, applyLines, applyReply}
@@ -49,12 +49,12 @@ use Rattle.replication.specs.OpenBatch.{openBatch}
 use Rattle.replication.specs.OpenStore.{storeWith, storeFrom, decodeStore, versionsIn, validStore, ifValid, openStore}
 use Rattle.replication.specs.Operate.{replace, nextTick, changedRec, changed, selected, made, wins, winnerOf, joinFrom, join, applied}
 use Rattle.replication.specs.Reading.{recLength, behind, contentAt, recAt, whole, front, recsAt, tagKept, validRec, validRecs}
-use Rattle.replication.proofs.ContentsValid.{store-exact}
-use Rattle.replication.proofs.StoreBytes.{store-bytes}
+use Rattle.replication.proofs.Contents.Valid.{store-exact}
+use Rattle.replication.proofs.Bytes.Store.{store-bytes}
 use Rattle.replication.proofs.Demand3.{store-one}
-use Rattle.replication.proofs.OneRound.{one-round-basic}
+use Rattle.corollaries.proofs.Round.OneRound.{one-round-basic}
 use Rattle.replication.proofs.Runner.{ends-more}
-use Rattle.replication.proofs.RoundCalls.{of-server, calls-round}
+use Rattle.corollaries.proofs.Round.Calls.{of-server, calls-round}
 use Rattle.instances.specs.Given.{itemBytes, tagBytes, tagged, el, one, two, fresh, again, store, batch, p1, q1}
 use Rattle.instances.specs.Answers.{appliedTo, replied, flags, storesOf}
 use Rattle.instances.specs.Longer.{s1}
@@ -120,7 +120,20 @@ comesTo =
     []
 
 computed : inStages basic servers start stages ≡ comesTo
-unfolding beFrom beAt put ownFault readOr answer firstFault idsAt elementsAt vectorsAt afterVectors rangesAt decode opening beforeVectors beforeElements beforeRanges closing putFields putIds putElements putVectors putRanges encode bounds replicaMap vectorCount vectorList rangeList ended checked told parse repeat number same fields limit empty among judged replicaId tick element firstVector vector index range idOf wrongLength wrongSpan resultLines highest placeBy tickAt indexFrom vectorFound vectorAt known contains emptyKnowledge normalise larger merge knownInside project knownRaised raise lackingAt orElse lackingFrom lacking isNowhere covers coversFor largestAt largestFrom largest alikeFrom ownAlike tooManyReplicas tooManyRanges get at eqList eqPair insert sorted inSpan within sample build canonical rowIds stepIds usedIds vectorFrom vectorStepsFrom vectorSteps eqElement grown vectorsOf rangesOf indexed knowledgeOf normalOf eqRange eqKnowledge isNormal batchFields encodeBatch then uncovered ownAhead exhausted tooManyRecords storeLines liveContent wrongBrought editLines edited editReply makeLines makes makeReply applyLines applyReply kindOf recFields putRec putRecs find newStore storeFields encodeStore start outcome batchNumber putAt keep batchWith batchAfter batchFrom decodeBatch lacksChange carried validBatch ifValidBatch openBatch storeWith storeFrom decodeStore versionsIn validStore ifValid openStore replace nextTick changedRec changed selected made wins winnerOf joinFrom join applied recLength behind contentAt recAt whole front recsAt tagKept validRec validRecs itemBytes tagBytes tagged two p1 q1 s1 storesOf appliedTo replied noted ranOnce seen inStages one again fresh store batch roundBefore roundGather roundSpread byP byQ byS editedBy begins halfway allThree finishes fromQ fromS forQ forS stages
+unfolding beFrom beAt put ownFault readOr answer firstFault idsAt elementsAt vectorsAt afterVectors rangesAt decode opening beforeVectors
+    beforeElements beforeRanges closing putFields putIds putElements putVectors putRanges encode bounds replicaMap vectorCount vectorList
+    rangeList ended checked told parse repeat number same fields limit empty among judged replicaId tick element firstVector vector index
+    range idOf wrongLength wrongSpan resultLines highest placeBy tickAt indexFrom vectorFound vectorAt known contains emptyKnowledge
+    normalise larger merge knownInside project knownRaised raise lackingAt orElse lackingFrom lacking isNowhere covers coversFor largestAt
+    largestFrom largest alikeFrom ownAlike tooManyReplicas tooManyRanges get at eqList eqPair insert sorted inSpan within sample build
+    canonical rowIds stepIds usedIds vectorFrom vectorStepsFrom vectorSteps eqElement grown vectorsOf rangesOf indexed knowledgeOf normalOf
+    eqRange eqKnowledge isNormal batchFields encodeBatch then uncovered ownAhead exhausted tooManyRecords storeLines liveContent
+    wrongBrought editLines edited editReply makeLines makes makeReply applyLines applyReply kindOf recFields putRec putRecs find newStore
+    storeFields encodeStore start outcome batchNumber putAt keep batchWith batchAfter batchFrom decodeBatch lacksChange carried validBatch
+    ifValidBatch openBatch storeWith storeFrom decodeStore versionsIn validStore ifValid openStore replace nextTick changedRec changed
+    selected made wins winnerOf joinFrom join applied recLength behind contentAt recAt whole front recsAt tagKept validRec validRecs
+    itemBytes tagBytes tagged two p1 q1 s1 storesOf appliedTo replied noted ranOnce seen inStages one again fresh store batch roundBefore
+    roundGather roundSpread byP byQ byS editedBy begins halfway allThree finishes fromQ fromS forQ forS stages
 computed = refl
 
 -- of each stage: which calls are refused (none), what they answer, and the bytes of the stores and batches after it
@@ -242,7 +255,15 @@ Opens st = openStore base (encodeStore st) ≡ accepted st
 
 -- the stores that the servers have at some stage are valid
 opens : Opens halfway × All (λ p. Opens (begins p) × Opens (finishes p)) servers
-unfolding beFrom beAt put idsAt elementsAt vectorsAt afterVectors rangesAt decode opening beforeVectors beforeElements beforeRanges closing putFields putIds putElements putVectors putRanges encode bounds replicaMap vectorCount vectorList rangeList ended checked told parse repeat number same fields limit empty among judged replicaId tick element firstVector vector index range highest placeBy tickAt indexFrom vectorFound vectorAt known contains normalise larger lackingAt orElse lackingFrom lacking isNowhere covers coversFor largestAt largestFrom largest alikeFrom ownAlike get at eqList eqPair insert sorted inSpan within sample build canonical rowIds stepIds usedIds vectorFrom vectorStepsFrom vectorSteps eqElement grown vectorsOf rangesOf indexed knowledgeOf normalOf eqRange eqKnowledge isNormal kindOf recFields putRec putRecs find storeFields encodeStore storeWith storeFrom decodeStore versionsIn validStore ifValid openStore recLength behind contentAt recAt whole front recsAt tagKept validRec validRecs two p1 q1 s1 one again fresh store byP byQ byS editedBy begins halfway allThree finishes
+unfolding beFrom beAt put idsAt elementsAt vectorsAt afterVectors rangesAt decode opening beforeVectors beforeElements beforeRanges closing
+    putFields putIds putElements putVectors putRanges encode bounds replicaMap vectorCount vectorList rangeList ended checked told parse
+    repeat number same fields limit empty among judged replicaId tick element firstVector vector index range highest placeBy tickAt
+    indexFrom vectorFound vectorAt known contains normalise larger lackingAt orElse lackingFrom lacking isNowhere covers coversFor largestAt
+    largestFrom largest alikeFrom ownAlike get at eqList eqPair insert sorted inSpan within sample build canonical rowIds stepIds usedIds
+    vectorFrom vectorStepsFrom vectorSteps eqElement grown vectorsOf rangesOf indexed knowledgeOf normalOf eqRange eqKnowledge isNormal
+    kindOf recFields putRec putRecs find storeFields encodeStore storeWith storeFrom decodeStore versionsIn validStore ifValid openStore
+    recLength behind contentAt recAt whole front recsAt tagKept validRec validRecs two p1 q1 s1 one again fresh store byP byQ byS editedBy
+    begins halfway allThree finishes
 opens = (refl, ((refl, refl), ((refl, refl), ((refl, refl), tt))))
 
 is-store : (s : List ℕ) (st : Store) → s ≡ encodeStore st → Opens st → IsStore base s st

@@ -5,7 +5,7 @@
 use Prim.Native.Nat.{ℕ}
 use mathlib.Core.Path.{_≡_, refl}
 use mathlib.Core.Bool.{Bool, true, false}
-use mathlib.Core.List.{List, [], _∷_}
+use mathlib.Core.List.{[], _∷_}
 use Rattle.codec.specs.Number.{beFrom, beAt, put}
 use Rattle.codec.specs.Parsed.{accepted}
 use Rattle.layout.specs.Knowledge.{Element, Range, Knowledge, largestTick, base}
@@ -92,10 +92,26 @@ unfoldable pub silentBatch : Batch
 silentBatch = record { first = 0; last = topItem; needed = mostKnown; learned = mostKnown; records = [] }
 
 pub unusual-store : openStore base (encodeStore unusualStore) ≡ accepted unusualStore
-unfolding beFrom beAt put opening beforeVectors beforeElements beforeRanges closing putFields putIds putElements putVectors putRanges encode bounds idsAt elementsAt vectorsAt afterVectors rangesAt decode replicaMap vectorCount vectorList rangeList ended checked told parse repeat number same fields limit empty among judged replicaId tick element firstVector vector index range highest placeBy tickAt indexFrom vectorFound vectorAt known contains emptyKnowledge knownInside project alikeFrom ownAlike get at eqList eqPair insert sorted inSpan within sample build canonical rowIds stepIds usedIds vectorFrom vectorStepsFrom vectorSteps eqElement grown vectorsOf rangesOf indexed knowledgeOf normalOf eqRange eqKnowledge isNormal kindOf recFields putRec putRecs storeFields encodeStore batchFields encodeBatch recLength behind contentAt recAt whole front recsAt tagKept validRec validRecs storeWith storeFrom decodeStore versionsIn validStore ifValid openStore batchWith batchAfter batchFrom decodeBatch lacksChange carried validBatch ifValidBatch openBatch unusualStore
+unfolding beFrom beAt put opening beforeVectors beforeElements beforeRanges closing putFields putIds putElements putVectors putRanges encode
+    bounds idsAt elementsAt vectorsAt afterVectors rangesAt decode replicaMap vectorCount vectorList rangeList ended checked told parse
+    repeat number same fields limit empty among judged replicaId tick element firstVector vector index range highest placeBy tickAt
+    indexFrom vectorFound vectorAt known contains emptyKnowledge knownInside project alikeFrom ownAlike get at eqList eqPair insert sorted
+    inSpan within sample build canonical rowIds stepIds usedIds vectorFrom vectorStepsFrom vectorSteps eqElement grown vectorsOf rangesOf
+    indexed knowledgeOf normalOf eqRange eqKnowledge isNormal kindOf recFields putRec putRecs storeFields encodeStore batchFields
+    encodeBatch recLength behind contentAt recAt whole front recsAt tagKept validRec validRecs storeWith storeFrom decodeStore versionsIn
+    validStore ifValid openStore batchWith batchAfter batchFrom decodeBatch lacksChange carried validBatch ifValidBatch openBatch
+    unusualStore
 unusual-store = refl
 
 pub unusual-batches : (openBatch base (encodeBatch unusualBatch) ≡ accepted unusualBatch)
     × ((openBatch base (encodeBatch emptyBatch) ≡ accepted emptyBatch) × (openBatch base (encodeBatch silentBatch) ≡ accepted silentBatch))
-unfolding beFrom beAt put opening beforeVectors beforeElements beforeRanges closing putFields putIds putElements putVectors putRanges encode bounds idsAt elementsAt vectorsAt afterVectors rangesAt decode replicaMap vectorCount vectorList rangeList ended checked told parse repeat number same fields limit empty among judged replicaId tick element firstVector vector index range highest placeBy tickAt indexFrom vectorFound vectorAt known contains emptyKnowledge knownInside project alikeFrom ownAlike get at eqList eqPair insert sorted inSpan within sample build canonical rowIds stepIds usedIds vectorFrom vectorStepsFrom vectorSteps eqElement grown vectorsOf rangesOf indexed knowledgeOf normalOf eqRange eqKnowledge isNormal kindOf recFields putRec putRecs storeFields encodeStore batchFields encodeBatch recLength behind contentAt recAt whole front recsAt tagKept validRec validRecs storeWith storeFrom decodeStore versionsIn validStore ifValid openStore batchWith batchAfter batchFrom decodeBatch lacksChange carried validBatch ifValidBatch openBatch unusualBatch emptyBatch silentBatch
+unfolding beFrom beAt put opening beforeVectors beforeElements beforeRanges closing putFields putIds putElements putVectors putRanges encode
+    bounds idsAt elementsAt vectorsAt afterVectors rangesAt decode replicaMap vectorCount vectorList rangeList ended checked told parse
+    repeat number same fields limit empty among judged replicaId tick element firstVector vector index range highest placeBy tickAt
+    indexFrom vectorFound vectorAt known contains emptyKnowledge knownInside project alikeFrom ownAlike get at eqList eqPair insert sorted
+    inSpan within sample build canonical rowIds stepIds usedIds vectorFrom vectorStepsFrom vectorSteps eqElement grown vectorsOf rangesOf
+    indexed knowledgeOf normalOf eqRange eqKnowledge isNormal kindOf recFields putRec putRecs storeFields encodeStore batchFields
+    encodeBatch recLength behind contentAt recAt whole front recsAt tagKept validRec validRecs storeWith storeFrom decodeStore versionsIn
+    validStore ifValid openStore batchWith batchAfter batchFrom decodeBatch lacksChange carried validBatch ifValidBatch openBatch
+    unusualBatch emptyBatch silentBatch
 unusual-batches = (refl, (refl, refl))

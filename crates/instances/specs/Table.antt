@@ -1,21 +1,20 @@
 -- The table of document 01's instances. A row says what is asked and the whole reply.
-use Prim.Native.Nat.{ℕ, suc}
+use Prim.Native.Nat.{ℕ}
 use mathlib.Core.Path.{_≡_}
 use mathlib.Core.List.{List, [], _∷_, _++_}
-use lib.IntN.{ℤ, pos, negsuc}
+use lib.IntN.{pos, negsuc}
 use lib.ListN.{length, take, drop}
 use Rattle.codec.specs.Reply.{Reply, gives, refuses}
 use Rattle.layout.specs.declared.Checked.{Checked}
 use Rattle.layout.specs.declared.Checked.the-variants.{Accepted, Refused}
 use Rattle.layout.specs.Knowledge.{basic, Knowledge, encode, base}
-use Rattle.layout.specs.Parse.{checked, parse, checkedBy}
+use Rattle.layout.specs.Parse.{parse, checkedBy}
 use Rattle.ticks.specs.Meaning.{highest, known}
 use Rattle.ticks.specs.Calls.{containAnswer, leadAnswer, mergeReply, projectReply}
 use Rattle.ticks.specs.declared.Contain.{Contain}
 use Rattle.ticks.specs.declared.Contain.the-variants as C
 use Rattle.ticks.specs.declared.Lead.{Lead}
 use Rattle.ticks.specs.declared.Lead.the-variants as D
-use Rattle.replication.specs.Record.{Rec}
 use Rattle.replication.specs.Formats.{Store, encodeStore}
 use Rattle.replication.specs.BatchFormat.{Batch, encodeBatch}
 use Rattle.replication.specs.Operate.{nextTick}

@@ -125,7 +125,8 @@ pub record Applies (p n : ℕ) (w next : World) : Type 0 where
   pub keeps : Keeps (apply p n room) number written left w next
 
 module _ (p n : ℕ) (w next : World) (a : Applies p n w next) where
-  pub handed : List ℕ  -- the batch that it handed over
+  -- the batch that it handed over
+  pub handed : List ℕ
   handed = a .makes .1 .0
 
   pub handed-is : batchNumber n (w .batches) ≡ some handed

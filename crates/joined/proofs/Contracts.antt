@@ -147,7 +147,7 @@ pub compare-told : (κs : Lfts 5) (a : Dens κs compare-kinds.ps) (r : resT comp
     r (now (a .1 .1 .1 .1 .0)) (now (s .1 .1 .1 .1 .0)) (now (a .1 .1 .1 .0)) (now (s .1 .1 .1 .0))
     × (now (s .1 .1 .0) ≡ orderValue basic (now (a .0)) (now (a .1 .0))
     (answer (compareReply basic (now (a .0)) (now (a .1 .0))) (length (now (a .1 .1 .1 .0)))) (now (a .1 .1 .0)))
-compare-told κs a r s h = (record { returned = h .0; told = h .1 .1 .0; buffer = h .1 .1 .1 }, h .1 .0)
+compare-told κs a r s h = (record { returned = h .0 .0; told = h .0 .1 .0; buffer = h .0 .1 .1 }, h .1)
 
 -- sync_new(own, out, written)
 pub new-asks : (κs : Lfts 3) (a : Dens κs new-kinds.ps) → new-reads.Asked κs a

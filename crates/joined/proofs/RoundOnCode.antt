@@ -8,9 +8,9 @@ use Rattle.layout.proofs.Numbers.{all-front}
 use Rattle.replication.specs.Call.{ReplicaId, Call, Given}
 use Rattle.replication.specs.Lists.{World}
 use Rattle.replication.specs.Promise.{storeAfter}
-use Rattle.replication.specs.Round.{Server, Round, Alike, afterRound}
-use Rattle.replication.proofs.RoundMoments.{all-behind}
-use Rattle.replication.proofs.OneRound.{one-round-basic}
+use Rattle.corollaries.specs.Round.{Server, Round, Alike, afterRound}
+use Rattle.corollaries.proofs.Round.Moments.{all-behind}
+use Rattle.corollaries.proofs.Round.OneRound.{one-round-basic}
 use Rattle.joined.specs.Program.{Reached}
 use Rattle.joined.proofs.OnCode.{reached-here, demand3-on-code}
 

@@ -14,7 +14,7 @@ use Rattle.layout.specs.declared.Checked.the-variants.{Accepted, Refused
 use Rattle.layout.specs.Knowledge.{Rules, basic, Knowledge}
 use Rattle.layout.specs.Permitted.{Permitted}
 use Rattle.layout.specs.Answer.{checkedNumber, checkedSizes, elements}
-use Rattle.layout.specs.Parse.{checked, parse, checkedBy}
+use Rattle.layout.specs.Parse.{parse, checkedBy}
 use Rattle.layout.proofs.BackwardRefused.{refused-numbers}
 use Rattle.layout.proofs.Exact.{sizes-exact, refused-exact, base-permitted}
 use Rattle.codec.specs.Parsed.{accepted, refused}

@@ -17,11 +17,11 @@ use mir.Val.{boolByte}
 use Rattle.layout.specs.Knowledge.{Rules, largestTick, Knowledge, encode, Lawful, basic, base}
 use Rattle.layout.specs.Permitted.{Permitted, longest, mostVectors}
 use Rattle.layout.specs.Answer.{elements}
-use Rattle.layout.specs.Parse.{checked, told, parse, checkedBy}
+use Rattle.layout.specs.Parse.{told, parse, checkedBy}
 use Rattle.layout.specs.Decode.{decode}
-use Rattle.layout.proofs.Forward.{forward, decoded, encode-length, encode-bytes}
+use Rattle.layout.proofs.Forward.{forward, decoded, encode-length}
 use Rattle.layout.proofs.Backward.{Means, backward}
-use Rattle.codec.specs.Parsed.{Parsed, accepted, refused}
+use Rattle.codec.specs.Parsed.{accepted, refused}
 use Rattle.codec.proofs.Difference.{Larger, larger-tick}
 
 told-refusal : (s : List ℕ) (n : ℕ) → told s (Refused n) ≡ refused n

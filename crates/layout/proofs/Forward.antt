@@ -11,7 +11,9 @@ use Rattle.codec.proofs.Numbers.{put-bytes}
 use Rattle.layout.specs.declared.Got.the-variants.{Num}
 use Rattle.layout.specs.declared.Checked.{Checked}
 use Rattle.layout.specs.declared.Checked.the-variants.{Accepted}
-use Rattle.layout.specs.Knowledge.{Rules, Element, Range, Knowledge, Field, opening, beforeVectors, beforeElements, beforeRanges, closing, putFields, putIds, putElements, putVectors, putRanges, encode, All, Distinct, Rising, bounds, Lawful}
+use Rattle.layout.specs.Knowledge.{Rules, Element, Range, Knowledge, Field, opening, beforeVectors, beforeElements, beforeRanges}
+use Rattle.layout.specs.Knowledge.{closing, putFields, putIds, putElements, putVectors, putRanges, encode, All, Distinct, Rising}
+use Rattle.layout.specs.Knowledge.{bounds, Lawful}
 use Rattle.layout.proofs.Parts.{LawfulId, LawfulVector, LawfulRange, Parts, parts}
 use Rattle.layout.specs.Permitted.{Permitted, mostVectors, mostCount}
 use Rattle.layout.specs.Answer.{elements}

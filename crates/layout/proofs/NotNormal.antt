@@ -5,7 +5,6 @@ use Prim.Native.Nat.{ℕ}
 use mathlib.Core.Path.{_≡_, refl}
 use mathlib.Core.List.{List, [], _∷_}
 use Rattle.codec.specs.Number.{beFrom, beAt, put}
-use Rattle.layout.specs.declared.Checked.{Checked}
 use Rattle.layout.specs.declared.Checked.the-variants.{Accepted}
 use Rattle.layout.specs.Knowledge.{basic, Element, Range, Knowledge, encode}
 use Rattle.layout.specs.Knowledge.{opening, beforeVectors, beforeElements, beforeRanges, closing, putFields, putIds, putElements, putVectors, putRanges}
@@ -76,7 +75,10 @@ pub record AllAccepted : Type 0 where
   pub keys-fall : checkedBy basic (encode keysFall) ≡ Accepted 2 2 2 1
 
 pub all-accepted : AllAccepted
-unfolding tickZero unusedReplica unusedVector equalVectors emptyTwice equalNeighbours firstAbove laterFirst replicasFall keysFall beFrom beAt put opening beforeVectors beforeElements beforeRanges closing putFields putIds putElements putVectors putRanges encode repeat number same fields limit empty among judged replicaId tick element firstVector vector index range replicaMap vectorCount vectorList rangeList ended checked
+unfolding tickZero unusedReplica unusedVector equalVectors emptyTwice equalNeighbours firstAbove laterFirst replicasFall keysFall beFrom
+    beAt put opening beforeVectors beforeElements beforeRanges closing putFields putIds putElements putVectors putRanges encode repeat
+    number same fields limit empty among judged replicaId tick element firstVector vector index range replicaMap vectorCount vectorList
+    rangeList ended checked
 all-accepted = record {
   tick-zero = refl;
   unused-replica = refl;

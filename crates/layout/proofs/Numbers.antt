@@ -15,14 +15,19 @@ use Rattle.layout.specs.declared.Checked.the-variants.{Refused}
 use Rattle.layout.specs.Knowledge.{Rules, Element, Range, Field, opening, beforeVectors, beforeElements, beforeRanges, putFields, All, keys, bounds}
 use Rattle.layout.specs.Permitted.{Permitted}
 use Rattle.layout.specs.Read.{_▷_, number, same, fields, limit}
-use Rattle.layout.specs.Parse.{vectorCount, checked, checkedBy}
+use Rattle.layout.specs.Parse.{vectorCount, checkedBy}
 use Rattle.layout.proofs.Chain.{Stands, stands-whole, Fit, opening-fits, beforeVectors-fits, beforeElements-fits, beforeRanges-fits, closing-fits}
 use Rattle.layout.proofs.ForwardRead.{lowest}
-use Rattle.layout.proofs.FaultSteps.{fixed-cut, fixed-differs, fields-fault, count-cut, count-low, count-high, counted-fault, first-cut, first-filled, id-cut, id-seen, id-judged, key-cut, key-above, key-seen, tick-fault, tick-cut, tick-above, bound-cut, bound-low, index-fault, index-cut, index-above}
+use Rattle.layout.proofs.FaultSteps.{fixed-cut, fixed-differs, fields-fault, count-cut, count-low, count-high, counted-fault}
+use Rattle.layout.proofs.FaultSteps.{first-cut, first-filled, id-cut, id-seen, id-judged, key-cut, key-above, key-seen, tick-fault}
+use Rattle.layout.proofs.FaultSteps.{tick-cut, tick-above, bound-cut, bound-low, index-fault, index-cut, index-above}
 use Rattle.layout.proofs.Table.{mapBytes, vectorBytes, elementBytes, rangeBytes, FirstIds, FirstVectors}
 use Rattle.layout.proofs.Table.{Refuses, Parted, Differs, NotAbove, Line}
-use Rattle.layout.proofs.Table.{fixed-opening, count-r, replica-id, replica-judged, fixed-vectors, count-v, fixed-vector, count-first, count-elements, key, tick, fixed-ranges, count-g, bound, index, fixed-closing}
-use Rattle.layout.proofs.FaultPlaces.{opening-fault, id-fault, vectors-fault, first-fault, vector-fault, ranges-fault, range-fault, closing-fault, element-fault, vector-count-fault, first-count-fault, first-fixed-fault, range-count-fault}
+use Rattle.layout.proofs.Table.{fixed-opening, count-r, replica-id, replica-judged, fixed-vectors, count-v, fixed-vector}
+use Rattle.layout.proofs.Table.{count-first, count-elements, key, tick, fixed-ranges, count-g, bound, index, fixed-closing}
+use Rattle.layout.proofs.FaultPlaces.{opening-fault, id-fault, vectors-fault, first-fault, vector-fault, ranges-fault, range-fault}
+use Rattle.layout.proofs.FaultPlaces.{closing-fault, element-fault, vector-count-fault, first-count-fault, first-fixed-fault}
+use Rattle.layout.proofs.FaultPlaces.{range-count-fault}
 
 -- both halves of a line by one law: a fault of the part where t stands is the check's
 line : (R : Rules) (n : ℕ) (p : List ℕ → List ℕ) (Bad : ℕ → Type 0) (j : ℕ) →

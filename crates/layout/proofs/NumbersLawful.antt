@@ -11,12 +11,13 @@ use Rattle.layout.specs.declared.Checked.{Checked}
 use Rattle.layout.specs.declared.Checked.the-variants.{Accepted, Refused}
 use Rattle.layout.specs.Knowledge.{Rules, Element, Range, Knowledge, encode, All, Distinct, Rising, keys, bounds, Lawful}
 use Rattle.layout.specs.Permitted.{Permitted}
-use Rattle.layout.specs.Parse.{checked, checkedBy}
+use Rattle.layout.specs.Parse.{checkedBy}
 use Rattle.layout.proofs.Parts.{LawfulId, LawfulElement, LawfulVector, LawfulRange, Parts, parts}
 use Rattle.layout.proofs.Forward.{forward}
 use Rattle.layout.proofs.Prefix.{Cut, stopped, whole, ends, over, cut}
 use Rattle.layout.proofs.Table.{FirstIds, FirstVectors, FirstElements, FirstRanges, Seen, NotAbove, Refuses, Line, NumbersOf}
-use Rattle.layout.proofs.Table.{fixed-opening, count-r, replica-id, replica-judged, fixed-vectors, count-v, fixed-vector, count-first, count-elements, key, tick, fixed-ranges, count-g, bound, index, fixed-closing}
+use Rattle.layout.proofs.Table.{fixed-opening, count-r, replica-id, replica-judged, fixed-vectors, count-v, fixed-vector}
+use Rattle.layout.proofs.Table.{count-first, count-elements, key, tick, fixed-ranges, count-g, bound, index, fixed-closing}
 use Rattle.layout.proofs.Numbers.{all-front, numbers-exact}
 
 accepted-refused : (r v e g n : ℕ) (C : Type 0) → Refused n ≡ Accepted r v e g → C

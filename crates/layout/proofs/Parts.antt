@@ -1,5 +1,5 @@
 -- The conditions of a lawful knowledge gathered by replica id, element, clock vector and range, as the proofs take them one after the
--- other. `parts` and `whole` say that this is the same list of conditions.
+-- other. `check_parts` and `whole` say that this is the same list of conditions.
 use Prim.Native.Nat.{ℕ, _+_, _≤_, _<_, _^_}
 use mathlib.Core.Path.{_≡_}
 use mathlib.Core.List.{List, [], _∷_}
@@ -68,7 +68,8 @@ module _ (R : Rules) (k : Knowledge) where
             (λ es a b. record { count = a .0; elements = b; distinct = a .1 }) (k .vectors) counted elements;
         someRange = l .someRange;
         ranges = l .ranges;
-        spans = all-both (λ x. x .bound < 256 ^ 24) (λ x. x .index .0 < length (k .vectors)) (LawfulRange (length (k .vectors))) (λ x a b. record { size = a; index = b }) (k .ranges) (l .items) (l .indices);
+        spans = all-both (λ x. x .bound < 256 ^ 24) (λ x. x .index .0 < length (k .vectors)) (LawfulRange (length (k .vectors)))
+            (λ x a b. record { size = a; index = b }) (k .ranges) (l .items) (l .indices);
         rising = l .rising;
       }
 

@@ -1,8 +1,7 @@
 -- Where everything of an accepted knowledge stands: the value that is read is the one at the places that the four sizes
 -- give, the vectors end 16 bytes before the ranges, and the length is the one that the sizes give. A list read by places has
 -- as many parts as were asked for, so the counts in the bytes are the sizes of the value; and the sizes of the value are
--- those that the check answered. Vector j stands where stepping over the j vectors before it leads, and ends before the
--- ranges.
+-- those that the check answered. Vector j stands where stepping over the j vectors before it leads.
 use Prim.Native.Nat.{ℕ, zero, suc, _+_, _*_, _<_, _≤_}
 use mathlib.Core.Path.{_≡_, refl, sym, ap, ap₂, _∙_, subst}
 use mathlib.Core.List.{List, []}
@@ -16,7 +15,7 @@ use Rattle.layout.specs.Permitted.{Permitted, mostVectors, mostCount}
 use Rattle.layout.specs.Answer.{elements}
 use Rattle.layout.specs.Parse.{checkedBy, told, parse}
 use Rattle.layout.specs.Decode.{idsAt, elementsAt, vectorsAt, afterVectors, rangesAt, decode}
-use Rattle.layout.specs.MethodPlaces.{idsPlace, vectorsPlace, rangesPlace, wholeLength, vectorPlace, countAt, valueAt}
+use Rattle.layout.specs.MethodPlaces.{vectorsPlace, rangesPlace, wholeLength, vectorPlace, countAt, valueAt}
 use Rattle.layout.proofs.Forward.{decoded}
 use Rattle.layout.proofs.Backward.{Means, backward}
 use Rattle.layout.proofs.Lengths.{lawful-length}
@@ -72,13 +71,6 @@ after-add s zero n at = let z : zero + n ≡ n = omega arith in ap (λ k. afterV
 after-add s (suc m) n at =
     let z : suc m + n ≡ suc (m + n) = omega arith in
     ap (λ k. afterVectors s k at) z ∙ after-add s m n (at + 8 + 12 * beAt s 4 (at + 4))
-
-pub after-next : (s : List ℕ) (j at : ℕ)
-    → afterVectors s (suc j) at ≡ afterVectors s j at + 8 + 12 * countAt s (afterVectors s j at)
-after-next s j at =
-    let z : suc j ≡ j + 1 = omega arith in
-    ap (λ k. afterVectors s k at) z ∙ after-add s j 1 at ∙ after-suc s 0 (afterVectors s j at)
-    ∙ after-zero s (afterVectors s j at + 8 + 12 * countAt s (afterVectors s j at))
 
 pub after-later : (s : List ℕ) (n at : ℕ) → at + 8 * n ≤ afterVectors s n at
 after-later s n at = omega (arith, vectors-end s n at)
@@ -215,21 +207,8 @@ module _ (R : Rules) (s : List ℕ) (r v e g : ℕ) (h : Reading R s r v e g) wh
         ranges = omega (arith, lawful .ranges, means .gs);
       }
 
-  -- id j
-  pub id-place : (j : ℕ) → j < r → getD (valueAt s r v e g .replicas) j 0 ≡ beAt s 16 (idsPlace + 16 * j)
-  unfolding valueAt
-  id-place j l = id-at s r j idsPlace l
-
-  -- vector j, and its end
+  -- vector j
   pub vector-place : (j : ℕ) → j < v
       → getD (valueAt s r v e g .vectors) j [] ≡ elementsAt s (countAt s (vectorPlace s r j)) (vectorPlace s r j + 8)
   unfolding valueAt
   vector-place j l = vector-at s v j (vectorsPlace r) l
-
-  pub vector-before-ranges : (j : ℕ) → j < v
-      → vectorPlace s r j + 8 + 12 * countAt s (vectorPlace s r j) + 16 ≤ rangesPlace r v e
-  vector-before-ranges j l = omega (arith, vector-ends s v j (vectorsPlace r) l, after-place)
-
-  -- vector 0 is empty
-  pub first-empty : getD (valueAt s r v e g .vectors) 0 [] ≡ []
-  first-empty = places .lawful .first

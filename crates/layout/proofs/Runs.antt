@@ -5,7 +5,6 @@ use Prim.Native.Nat.{ℕ, _+_, _≤_}
 use mathlib.Core.Path.{_≡_, refl, sym, ap, ap₂, _∙_}
 use mathlib.Core.List.{List, [], _∷_, _++_, append-assoc}
 use native.Mathlib.Omega.{arith}
-use native.Mathlib.Nat.{add-zero}
 use lib.ListN.{length, drop}
 use Rattle.codec.specs.Number.{Bytes, beAt, put}
 use Rattle.codec.proofs.Numbers.{put-append, put-back, put-bytes, put-length}
@@ -25,6 +24,15 @@ run-none t = refl
 pub run-first : (f : Field) (fs : List Field) (t : List ℕ) → putFields (f ∷ fs) t ≡ put (f .size) (f .value) (putFields fs t)
 unfolding putFields
 run-first f fs t = refl
+
+-- a run written out, number by number
+abbrev pub puts : List Field → List ℕ → List ℕ
+puts [] t = t
+puts (f ∷ fs) t = put (f .size) (f .value) (puts fs t)
+
+pub run-puts : (fs : List Field) (t : List ℕ) → putFields fs t ≡ puts fs t
+run-puts [] t = run-none t
+run-puts (f ∷ fs) t = run-first f fs t ∙ ap (put (f .size) (f .value)) (run-puts fs t)
 
 pub run-length : (fs : List Field) (t : List ℕ) → length (putFields fs t) ≡ sizes fs + length t
 unfolding putFields

@@ -1,7 +1,7 @@
 -- The table of faults and the lawful knowledges share out all bytes: any bytes have one fault or are those of a lawful knowledge,
 -- never both and never two faults. So `table-exact` and `exact` settle the check's answer: there is no second one that meets them.
 use Prim.Native.Nat.{ℕ}
-use mathlib.Core.Path.{_≡_, refl, sym, _∙_}
+use mathlib.Core.Path.{_≡_, refl}
 use mathlib.Core.Logic.{_⊎_, inl, inr}
 use mathlib.Core.List.{List}
 use native.Mathlib.Omega.{arith}

@@ -13,7 +13,7 @@ use Rattle.codec.specs.Number.{put}
 use Rattle.layout.specs.declared.Checked.the-variants.{Refused}
 use Rattle.layout.specs.Knowledge.{Rules, largestTick, Element, Range, Knowledge, Field, opening, beforeVectors, beforeElements, beforeRanges, closing}
 use Rattle.layout.specs.Knowledge.{putFields, putIds, putElements, putVectors, putRanges, encode, All, Distinct, Rising, keys, bounds, Lawful}
-use Rattle.layout.specs.Parse.{checked, checkedBy}
+use Rattle.layout.specs.Parse.{checkedBy}
 use Rattle.layout.proofs.Parts.{LawfulId, LawfulElement, LawfulVector, LawfulRange}
 
 -- the bytes of a knowledge of r replicas up to and with the first of them, in front of t

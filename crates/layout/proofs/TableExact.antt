@@ -29,12 +29,14 @@ use Rattle.layout.proofs.Backward.{id-part, vector-count, range-part}
 use Rattle.layout.proofs.FaultSteps.{among-seen, id-at, key-at}
 use Rattle.layout.proofs.Table.{mapBytes, vectorBytes, elementBytes, rangeBytes, FirstIds, FirstVectors, FirstElements, FirstRanges}
 use Rattle.layout.proofs.Table.{Refuses, Seen, NotAbove, Hit, cut-short, bad-value, Faulty, at-field, at-end}
-use Rattle.layout.proofs.Table.{fixed-opening, count-r, replica-id, replica-judged, fixed-vectors, count-v, fixed-vector, count-first, count-elements, key, tick, fixed-ranges, count-g, bound, index, fixed-closing}
+use Rattle.layout.proofs.Table.{fixed-opening, count-r, replica-id, replica-judged, fixed-vectors, count-v, fixed-vector}
+use Rattle.layout.proofs.Table.{count-first, count-elements, key, tick, fixed-ranges, count-g, bound, index, fixed-closing}
 use Rattle.layout.proofs.Numbers.{numbers-exact, lowest-last, keys-length, keys-less}
 use Rattle.layout.proofs.NumbersLawful.{numbers-lawful}
 use Rattle.layout.proofs.Exact.{refused-exact}
 use Rattle.layout.proofs.Appended.{encode-append}
-use Rattle.layout.proofs.FoundSteps.{then-fault, next-fault, repeat-found, fields-found, counted-found, limit-found, empty-found, id-found, element-found, range-found, among-found, hit-map, num-fault, true-false}
+use Rattle.layout.proofs.FoundSteps.{then-fault, next-fault, repeat-found, fields-found, counted-found, limit-found, empty-found}
+use Rattle.layout.proofs.FoundSteps.{id-found, element-found, range-found, among-found, hit-map, num-fault, true-false}
 use Rattle.layout.proofs.FoundSteps.{opening-some, beforeVectors-some, beforeElements-some, beforeRanges-some, closing-some}
 use Rattle.codec.specs.Parsed.{refused}
 

@@ -49,7 +49,8 @@ checked replicas ranges judge s =
     rangeList ranges s v at ▶ λ g at.
     fields s closing 0 at ▶ ended s (Accepted r v e g)
 
-abbrev pub checkedBy : Rules → List ℕ → Checked  -- the same by rules
+-- the same by rules
+abbrev pub checkedBy : Rules → List ℕ → Checked
 checkedBy R s = checked (R .limits .replicas) (R .limits .ranges) (R .judge) s
 
 unfoldable pub told : List ℕ → Checked → Parsed Knowledge

@@ -2,7 +2,7 @@
 -- limits are permitted (`base-permitted`), so are all limits given as numbers (`within-permitted`), and document 01's limits
 -- and rules are such (`base-within`, `basic-within`).
 use Rattle.codec.specs.Prelude.{ℕ, _+_, _*_, _≤_}
-use Rattle.codec.specs.Total.{brought}
+use Rattle.codec.specs.Total.{clamp}
 use Rattle.layout.specs.Knowledge.{Limits, Rules, anyId, base}
 
 -- one vector for each range, and vector 0
@@ -37,12 +37,12 @@ largestRanges = 64
 abbrev pub largestRecords : ℕ
 largestRecords = 256
 
--- limits given as numbers: each is brought into 1 to its largest
+-- limits given as numbers: each is clamped to 1 to its largest
 abbrev pub within : ℕ → ℕ → ℕ → Limits
 within replicas ranges records = record {
-  replicas = brought replicas largestReplicas;
-  ranges = brought ranges largestRanges;
-  records = brought records largestRecords;
+  replicas = clamp replicas largestReplicas;
+  ranges = clamp ranges largestRanges;
+  records = clamp records largestRecords;
 }
 
 -- rules given as numbers: the most replicas and the most ranges. How many records there may be is nothing that reading a

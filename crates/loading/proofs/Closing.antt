@@ -1,12 +1,10 @@
 -- From a planned table to the reply of a call. A knowledge given to an operation was accepted, so the lines of its own fault do not
 -- hold, and what is left of the call's table are the lines of the result: 11, 12, and else the bytes. The plan has their sizes, and the
 -- pieces that are written for it are the result's bytes (`Tabled`).
-use Prim.Native.Nat.{ℕ, _+_, _≤_, _<_}
-use mathlib.Core.Path.{_≡_, refl, sym, ap, _∙_, subst}
-use mathlib.Core.Bool.{Bool, true, false}
+use Prim.Native.Nat.{ℕ, _≤_, _<_}
+use mathlib.Core.Path.{_≡_, refl, sym, ap, _∙_}
+use mathlib.Core.Bool.{true, false}
 use mathlib.Core.List.{List, [], _∷_}
-use native.Mathlib.Omega.{arith}
-use lib.Dec.{ltb}
 use lib.ListN.{length}
 use borrow.Author.Tests.{lt-ltb, le-ltb}
 use Rattle.codec.specs.Part.{placed}
@@ -19,8 +17,7 @@ use Rattle.ticks.specs.Operations.{normalise, merge, project, tooManyReplicas, 
 use Rattle.ticks.specs.Calls.{idOf, readAs, wrongSpan, resultLines, normaliseReply, mergeReply, projectReply}
 use Rattle.tables.specs.declared.Sizes.{Sizes}
 use Rattle.tables.specs.MethodWords.{Words, cell, idAt, boundAt}
-use Rattle.tables.specs.MethodPlan.{firstsOf, numbersOf, columnsOf, page, sizesOf, lengthOf, Plans}
-use Rattle.tables.specs.MethodPieces.{laid, pagePieces}
+use Rattle.tables.specs.MethodPlan.{firstsOf, numbersOf, columnsOf, page, sizesOf, Plans}
 use Rattle.tables.proofs.PageSizes.{page-replicas, page-ranges}
 use Rattle.tables.proofs.Pieces.{planned-length, planned-written}
 use Rattle.loading.specs.MethodReply.{resultReply, Tabled}

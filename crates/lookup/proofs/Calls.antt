@@ -13,9 +13,10 @@ use mir.Syntax.{w64}
 use mir.Val.{SFits, toZ, ofZ}
 use mir.Facts.{toZ-pos, toZ-ofZ}
 use Rattle.codec.specs.Number.{Bytes, beAt}
-use Rattle.codec.specs.Total.{readAt}
-use Rattle.codec.specs.Words.{words2, words3}
-use Rattle.codec.proofs.Total.{read-id2, read-id3}
+use Rattle.codec.specs.declared.Item.{Item}
+use Rattle.codec.specs.declared.Replica.{Replica}
+use Rattle.codec.specs.Ids.{itemOf, replicaOf, itemRead, replicaRead}
+use Rattle.codec.proofs.Ids.{item-there, replica-there}
 use Rattle.layout.specs.declared.Checked.{Checked}
 use Rattle.layout.specs.declared.Checked.the-variants as A
 use Rattle.layout.specs.Knowledge.{Rules, basic, base}
@@ -38,9 +39,10 @@ use Rattle.ticks.proofs.Answers.{sub-ahead, sub-behind}
 use Rattle.ticks.proofs.ForCode.{Refusing, contain-refuses, contain-wrong, contain-answers, found-yes, found-zero, found-later}
 use Rattle.ticks.proofs.ForCode.{lead-refuses-first, lead-refuses-second, lead-wrong, lead-answers}
 use Rattle.lookup.specs.declared.Cursor.{Cursor}
+use Rattle.lookup.specs.declared.View.{View}
 use Rattle.lookup.specs.declared.Opened.{Opened}
 use Rattle.lookup.specs.declared.Opened.the-variants as O
-use Rattle.lookup.specs.Method.{startAt, tickFrom, inFour, openOf, Opens, Open, Known}
+use Rattle.lookup.specs.Method.{startAt, tickFrom, inFour, view, openOf, Opens, Open, Known}
 use Rattle.lookup.proofs.Loops.{cursor}
 use Rattle.lookup.proofs.Leaf.{opens-reading, leaf-known, known-small}
 
@@ -51,25 +53,26 @@ unfolding startAt
 start-is r v e g = refl
 
 pub opened-at : (k : Checked) (r v e g : ℕ) (c : Cursor) → k ≡ A.Accepted r v e g
-    → c ≡ startAt (inFour r) (inFour v) (inFour e) (inFour g) → O.At (inFour r) c ≡ openOf k
+    → c ≡ startAt (inFour r) (inFour v) (inFour e) (inFour g) → O.At (view (inFour r) c) ≡ openOf k
 unfolding openOf
-opened-at k r v e g c is from = ap (O.At (inFour r)) from ∙ sym (ap openOf is)
+opened-at k r v e g c is from = ap (λ (d : Cursor). O.At (view (inFour r) d)) from ∙ sym (ap openOf is)
 
 pub opened-refused : (c : Checked) (n : ℕ) → c ≡ A.Refused n → O.Refused n ≡ openOf c
 unfolding openOf
 opened-refused c n is = sym (ap openOf is)
 
 module _ (R : Rules) (permitted : Permitted (R .limits)) (s : List ℕ) where
-  open-cases : (k : Checked) → Bytes s → k ≡ checkedBy R s → (r : ℕ) (c : Cursor) → openOf k ≡ O.At r c → Opens R s r c
+  open-cases : (k : Checked) → Bytes s → k ≡ checkedBy R s → (w : View) → openOf k ≡ O.At w → Opens R s (w .r) (w .start)
   unfolding openOf
-  open-cases (A.Accepted r v e g) b h q c f =
+  open-cases (A.Accepted r v e g) b h w f =
       let p = places R s r v e g (record { permitted = permitted; bytes = b; accepts = sym h }) in
       let er : inFour r ≡ r = omega (arith, p .whole, p .small) in
       let ev : inFour v ≡ v = omega (arith, p .whole, p .small) in
       let ee : inFour e ≡ e = omega (arith, p .whole, p .small) in
       let eg : inFour g ≡ g = omega (arith, p .whole, p .small) in
-      let own : r ≡ q = cc in
-      let start : startAt (inFour r) (inFour v) (inFour e) (inFour g) ≡ c = cc in
+      let whole : view (inFour r) (startAt (inFour r) (inFour v) (inFour e) (inFour g)) ≡ w = cc in
+      let own : r ≡ w .r = sym er ∙ ap (λ (x : View). x .r) whole in
+      let start : startAt (inFour r) (inFour v) (inFour e) (inFour g) ≡ w .start = ap (λ (x : View). x .start) whole in
       record {
         permitted = permitted;
         v = v;
@@ -79,7 +82,7 @@ module _ (R : Rules) (permitted : Permitted (R .limits)) (s : List ℕ) where
         accepts = sym h ∙ ap (λ n. A.Accepted n v e g) own;
         start = sym start ∙ cc;
       }
-  open-cases (A.Refused n) b h q c f = absurd (let z : _≡_ {A = ℕ} 0 1 = cc in omega arith)
+  open-cases (A.Refused n) b h w f = absurd (let z : _≡_ {A = ℕ} 0 1 = cc in omega arith)
 
   refused-cases : (k : Checked) → k ≡ checkedBy R s → (n : ℕ) → openOf k ≡ O.Refused n → checkedBy R s ≡ A.Refused n
   unfolding openOf
@@ -87,8 +90,8 @@ module _ (R : Rules) (permitted : Permitted (R .limits)) (s : List ℕ) where
   refused-cases (A.Refused m) h n f = sym h ∙ cc
 
   module _ (o : Opened) (is : o ≡ openOf (checkedBy R s)) where
-    pub opens : Bytes s → (r : ℕ) (c : Cursor) → o ≡ O.At r c → Opens R s r c
-    opens b r c e = open-cases (checkedBy R s) b refl r c (sym is ∙ e)
+    pub opens : Bytes s → (v : View) → o ≡ O.At v → Opens R s (v .r) (v .start)
+    opens b v e = open-cases (checkedBy R s) b refl v (sym is ∙ e)
 
     pub opens-refused : (n : ℕ) → o ≡ O.Refused n → Refusing R s n
     opens-refused n e = record { permitted = permitted; refuses = refused-cases (checkedBy R s) refl n (sym is ∙ e) }
@@ -100,7 +103,7 @@ checked-opens R s k o e f = f ∙ ap openOf e
 -- limits given as numbers
 module _ (replicas ranges : ℕ) (s : List ℕ) where
   module _ (o : Opened) (is : o ≡ openOf (checkedBy (rulesWithin replicas ranges) s)) where
-    pub opens-within : Bytes s → (r : ℕ) (c : Cursor) → o ≡ O.At r c → Opens (rulesWithin replicas ranges) s r c
+    pub opens-within : Bytes s → (v : View) → o ≡ O.At v → Opens (rulesWithin replicas ranges) s (v .r) (v .start)
     opens-within = opens (rulesWithin replicas ranges) (within-permitted replicas ranges (base .records)) s o is
 
     pub refuses-within : (n : ℕ) → o ≡ O.Refused n → Refusing (rulesWithin replicas ranges) s n
@@ -115,18 +118,17 @@ module _ (replicas ranges : ℕ) (s : List ℕ) where
 -- The known tick, ids given as bytes
 
 pub tick-known : (s : List ℕ) (r : ℕ) (c : Cursor) → Open s r c → (item replica : List ℕ) → length item ≡ 24
-    → length replica ≡ 16 → (i0 i1 i2 p0 p1 t : ℕ) → i0 ≡ readAt item 8 0 → i1 ≡ readAt item 8 8 → i2 ≡ readAt item 8 16
-    → p0 ≡ readAt replica 8 0 → p1 ≡ readAt replica 8 8 → t ≡ tickFrom s r c (words3 i0 i1 i2) (words2 p0 p1)
-    → Known s item replica t
-tick-known s r c w item replica h k i0 i1 i2 p0 p1 t e0 e1 e2 f0 f1 is =
+    → length replica ≡ 16 → (i : Item) (p : Replica) (t : ℕ) → i ≡ itemRead item → p ≡ replicaRead replica
+    → t ≡ tickFrom s r c (itemOf i) (replicaOf p) → Known s item replica t
+tick-known s r c w item replica h k i p t e f is =
     let R = w .rules in
     let o = w .opens in
-    let i = beAt item 24 0 in
-    let p = beAt replica 16 0 in
-    let ie : words3 i0 i1 i2 ≡ i = cc (read-id3 item 0 (omega arith)) in
-    let pe : words2 p0 p1 ≡ p = cc (read-id2 replica 0 (omega arith)) in
-    let found : t ≡ known (decode s) i p = is ∙ ap₂ (λ i p. tickFrom s r c i p) ie pe ∙ leaf-known R s r c o i p in
-    record { is = found; small = omega (arith, found, known-small R s r (o .v) (o .e) (o .g) (opens-reading R s r c o) i p) }
+    let x = beAt item 24 0 in
+    let y = beAt replica 16 0 in
+    let ie : itemOf i ≡ x = ap (λ (j : Item). itemOf j) e ∙ item-there item (omega arith) in
+    let pe : replicaOf p ≡ y = ap (λ (q : Replica). replicaOf q) f ∙ replica-there replica (omega arith) in
+    let found : t ≡ known (decode s) x y = is ∙ ap₂ (λ x y. tickFrom s r c x y) ie pe ∙ leaf-known R s r c o x y in
+    record { is = found; small = omega (arith, found, known-small R s r (o .v) (o .e) (o .g) (opens-reading R s r c o) x y) }
 
 -- Contain
 

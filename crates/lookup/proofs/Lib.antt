@@ -2,3 +2,4 @@
 pub mod Loops
 pub mod Leaf
 pub mod Calls
+pub mod Span

@@ -11,9 +11,6 @@ use lib.ListN.{length}
 use borrow.Author.Tests.{le-leb, lt-leb, lt-ltb, le-ltb, eq-eqb, ne-eqb}
 use Rattle.codec.specs.Number.{Bytes, beAt}
 use Rattle.codec.specs.Words.{words2, words3}
-use Rattle.codec.proofs.Order.{words2-be, words3-be}
-use Rattle.codec.proofs.Numbers.{be-below}
-use Rattle.codec.proofs.Words.{same2-rest, same2-first, less2-rest, less2-first, less3-rest, less3-first}
 use Rattle.layout.specs.declared.ReplicaKey.{ReplicaKey}
 use Rattle.layout.specs.declared.VectorIndex.{VectorIndex}
 use Rattle.layout.specs.Decode.{idsAt, elementsAt}
@@ -23,49 +20,6 @@ use Rattle.ticks.specs.MethodLookup.{keyOf}
 use Rattle.lookup.specs.declared.Cursor.{Cursor}
 use Rattle.lookup.specs.Method.{keyAt, stepped, vectorFrom, past, passed, settled, advanced}
 use Rattle.lookup.specs.Method.{elementsThere, There, elementAt, elementsHere, tickHere, tickOf, tickFrom}
-
--- Words
-
--- an id of two words at a place, compared word by word
-module _ (s : List ℕ) (at p0 p1 w : ℕ) (is : w ≡ beAt s 8 at) where
-  id-words : (x : ℕ) → x ≡ words2 (beAt s 8 at) (beAt s 8 (at + 8))
-      → eqb x (words2 p0 p1) ≡ eqb (beAt s 16 at) (words2 p0 p1)
-  id-words x e = ap (λ y. eqb y (words2 p0 p1)) (e ∙ sym (words2-be s at))
-
-  pub id-differs : Bytes s → p1 < 2 ^ 64 → (w ≡ p0 → ⊥) → false ≡ eqb (beAt s 16 at) (words2 p0 p1)
-  id-differs b k n =
-      same2-first (beAt s 8 at) (beAt s 8 (at + 8)) p0 p1 (be-below s 8 (at + 8) b) k (λ e. n (is ∙ e)) ∙ id-words _ refl
-
-  pub id-rest : (x : ℕ) → x ≡ beAt s 8 (at + 8) → w ≡ p0 → eqb x p1 ≡ eqb (beAt s 16 at) (words2 p0 p1)
-  id-rest x f e = ap (λ y. eqb y p1) f ∙ same2-rest (beAt s 8 at) (beAt s 8 (at + 8)) p0 p1 (sym is ∙ e) ∙ id-words _ refl
-
--- an item compared with the bound at a place, word by word
-module _ (s : List ℕ) (at i0 i1 i2 w : ℕ) (is : w ≡ beAt s 8 at) where
-  bound-words : (r : Bool) → r ≡ ltb (words3 i0 i1 i2) (words3 (beAt s 8 at) (beAt s 8 (at + 8)) (beAt s 8 (at + 16)))
-      → r ≡ ltb (words3 i0 i1 i2) (beAt s 24 at)
-  bound-words r e = e ∙ ap (ltb (words3 i0 i1 i2)) (sym (words3-be s at))
-
-  pub bound-first : Bytes s → i1 < 2 ^ 64 → i2 < 2 ^ 64 → (i0 ≡ w → ⊥) → ltb i0 w ≡ ltb (words3 i0 i1 i2) (beAt s 24 at)
-  bound-first b h k n =
-      bound-words (ltb i0 w)
-      (ap (ltb i0) is
-      ∙ less3-first i0 i1 i2 (beAt s 8 at) (beAt s 8 (at + 8)) (beAt s 8 (at + 16)) h k (be-below s 8 (at + 8) b)
-      (be-below s 8 (at + 16) b) (λ e. n (e ∙ sym is)))
-
-  pub bound-second : (x : ℕ) → x ≡ beAt s 8 (at + 8) → Bytes s → i2 < 2 ^ 64 → i0 ≡ w → (i1 ≡ x → ⊥)
-      → ltb i1 x ≡ ltb (words3 i0 i1 i2) (beAt s 24 at)
-  bound-second x f b h e n =
-      bound-words (ltb i1 x)
-      (less3-rest i0 i1 i2 (beAt s 8 at) (beAt s 8 (at + 8)) (beAt s 8 (at + 16)) (ltb i1 x) (e ∙ is)
-      (ap (ltb i1) f ∙ less2-first i1 i2 (beAt s 8 (at + 8)) (beAt s 8 (at + 16)) h (be-below s 8 (at + 16) b)
-      (λ d. n (d ∙ sym f))))
-
-  pub bound-third : (x y : ℕ) → x ≡ beAt s 8 (at + 8) → y ≡ beAt s 8 (at + 16) → i0 ≡ w → i1 ≡ x
-      → ltb i2 y ≡ ltb (words3 i0 i1 i2) (beAt s 24 at)
-  bound-third x y f g e d =
-      bound-words (ltb i2 y)
-      (less3-rest i0 i1 i2 (beAt s 8 at) (beAt s 8 (at + 8)) (beAt s 8 (at + 16)) (ltb i2 y) (e ∙ is)
-      (ap (ltb i2) g ∙ less2-rest i1 i2 (beAt s 8 (at + 8)) (beAt s 8 (at + 16)) (d ∙ f)))
 
 -- The key of an id
 

@@ -15,6 +15,7 @@ use Rattle.layout.specs.MethodPlaces.{idsPlace, vectorsPlace, rangesPlace, coun
 use Rattle.ticks.specs.Meaning.{tickAt, known}
 use Rattle.ticks.specs.MethodLookup.{keyOf, firstIndex}
 use Rattle.lookup.specs.declared.Cursor.{Cursor}
+use Rattle.lookup.specs.declared.View.{View}
 use Rattle.lookup.specs.declared.Opened.{Opened}
 use Rattle.lookup.specs.declared.Opened.the-variants as O
 
@@ -112,8 +113,12 @@ tickFrom s r c i p = tickOf s (advanced s r c i .vector) (keyAt s r p)
 abbrev pub inFour : ℕ → ℕ
 inFour n = n % 4294967296
 
+-- an opened knowledge: how many replicas it has, and the cursor before any of its ranges
+abbrev pub view : ℕ → Cursor → View
+view r c = record { r = r; start = c }
+
 unfoldable pub openOf : Checked → Opened
-openOf (A.Accepted r v e g) = O.At (inFour r) (startAt (inFour r) (inFour v) (inFour e) (inFour g))
+openOf (A.Accepted r v e g) = O.At (view (inFour r) (startAt (inFour r) (inFour v) (inFour e) (inFour g)))
 openOf (A.Refused n) = O.Refused n
 
 -- accepted bytes of r replicas, and the cursor before any of their ranges

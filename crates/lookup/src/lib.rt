@@ -1,33 +1,26 @@
 // The known tick in the bytes of a knowledge, and the calls that look for it: contain and lead.
 //
 // Every public function is total. The leaves go by places and take any bytes, any sizes and any cursor; for bytes that the check
-// accepts, with the sizes that it answers, they give the known tick. An item id is three words of 64 bits and a replica id two,
-// the highest first.
+// accepts, with the sizes that it answers, they give the known tick.
+use codec::Item;
+use codec::Replica;
 use layout::Checked;
+use layout::Limits;
 use layout::ReplicaKey;
 use layout::VectorIndex;
 use ticks::Contain;
 use ticks::Lead;
 ghost use mathlib.Core.Path.{_≡_};
 ghost use Prim.Native.Nat.{_+_, _*_, _^_, _≤_, _<_};
-ghost use lib.Dec.{eqb, ltb};
 ghost use lib.IntN.{pos, _-ℤ_};
-ghost use lib.ListN.{length, getD};
-ghost use Rattle.codec.specs.Number.{beAt};
-ghost use Rattle.codec.specs.Words.{words2, words3};
+ghost use lib.ListN.{length};
+ghost use Rattle.codec.specs.Ids.{itemOf, replicaOf};
 ghost use Rattle.layout.specs.Knowledge.{Rules, basic};
 ghost use Rattle.layout.specs.Permitted.{rulesWithin};
 ghost use Rattle.layout.specs.Parse.{checkedBy};
-ghost use Rattle.ticks.specs.Calls.{containAnswer, leadAnswer};
+ghost use Rattle.ticks.specs.Calls.{containAnswer, leadAnswer, wrongSpan};
 ghost use Rattle.lookup.specs.Method.{keyAt, stepped, vectorFrom, passed, advanced, There, tickHere, tickOf, tickFrom};
 ghost use Rattle.lookup.specs.Method.{startAt, openOf, Opens, Open, Known};
-
-// the places of the replica ids, of the vectors where there is no replica, and of the ranges where there is nothing else
-const IDS: usize = 27;
-
-const VECTORS: usize = 48;
-
-const RANGES: usize = 64;
 
 // A place among the ranges of a knowledge, for items in rising order: it only moves forward.
 pub struct Cursor {
@@ -39,63 +32,33 @@ pub struct Cursor {
     pub vector: usize,
 }
 
+// A knowledge that was opened: how many replicas it has, and the cursor before any of its ranges.
+pub struct View {
+    pub r: u32,
+    pub start: Cursor,
+}
+
 // What the check of a knowledge comes to for lookup.
 pub enum Opened {
-    // the count of replicas, and the cursor before any range
-    At { r: u32, start: Cursor },
+    At(View),
     // the refusal's number
     Refused(u32),
 }
 
-// ---- numbers that are there
-
-// The byte at a place, the number in the four bytes from a place on, and in the eight.
-fn one(s: &[u8], at: usize) -> u64
-    requires { ⌜ at < length (now s) ⌝ }
-    ensures { λ r. ⌜ (r ≡ getD (now (s .entry)) at 0) × (r < 256) ⌝ }
-{
-    s[at] as u64
-}
-
-fn four(s: &[u8], at: usize) -> u64
-    requires { ⌜ at + 4 ≤ length (now s) ⌝ }
-    ensures { λ r. ⌜ (r ≡ beAt (now (s .entry)) 4 at) × (r < 2 ^ 32) ⌝ }
-{
-    one(s, at) * 16777216 + one(s, at + 1) * 65536 + one(s, at + 2) * 256 + one(s, at + 3)
-}
-
-fn eight(s: &[u8], at: usize) -> u64
-    requires { ⌜ at + 8 ≤ length (now s) ⌝ }
-    ensures { λ r. ⌜ (r ≡ beAt (now (s .entry)) 8 at) × (r < 2 ^ 64) ⌝ }
-{
-    four(s, at) * 4294967296 + four(s, at + 4)
-}
-
 // ---- the key of an id
-
-// Is the replica id at a place the one of two words.
-fn id_at(s: &[u8], at: usize, p0: u64, p1: u64) -> bool
-    requires { ⌜ at + 16 ≤ length (now s) ⌝ }
-    ensures { λ r. ⌜ r ≡ eqb (beAt (now (s .entry)) 16 at) (words2 p0 p1) ⌝ }
-{
-    if eight(s, at) != p0 {
-        return false;
-    }
-    eight(s, at + 8) == p1
-}
 
 // The key of a replica id among the r ids of the map, in whatever order they stand; r where it is not among them, or where they
 // are not all there.
-pub fn key_of(s: &[u8], r: u32, p0: u64, p1: u64) -> ReplicaKey
-    ensures { λ k. ⌜ k ≡ keyAt (now (s .entry)) r (words2 p0 p1) ⌝ }
+pub fn key_of(s: &[u8], r: u32, p: Replica) -> ReplicaKey
+    ensures { λ k. ⌜ k ≡ keyAt (now (s .entry)) r (replicaOf p) ⌝ }
 {
     let mut key = ReplicaKey(0);
-    if s.len() < IDS + 16 * (r as usize) {
+    if s.len() < layout::IDS_PLACE + 16 * (r as usize) {
         return ReplicaKey(r);
     }
-    let mut at = IDS;
+    let mut at = layout::IDS_PLACE;
     while key.0 < r {
-        if id_at(s, at, p0, p1) {
+        if leaves::is_replica(&s[at..at + 16], p) {
             return key;
         }
         at += 16;
@@ -121,7 +84,7 @@ fn step_over(s: &[u8], n: u32, start: usize) -> usize
         if end < at {
             return at;
         }
-        at = at + 8 + 12 * (four(s, at + 4) as usize);
+        at = at + 8 + 12 * (leaves::four(&s[at + 4..at + 4 + 4]) as usize);
         i += 1;
     }
     at
@@ -134,38 +97,22 @@ pub fn vector_place(s: &[u8], r: u32, from: VectorIndex, at: usize, to: VectorIn
     if from.0 <= to.0 {
         return step_over(s, to.0 - from.0, at);
     }
-    step_over(s, to.0, VECTORS + 16 * (r as usize))
+    step_over(s, to.0, layout::VECTORS_PLACE + 16 * (r as usize))
 }
 
 // ---- the range of an item
 
-// Is the item below the bound at a place.
-fn below(s: &[u8], at: usize, i0: u64, i1: u64, i2: u64) -> bool
-    requires { ⌜ at + 24 ≤ length (now s) ⌝ }
-    ensures { λ r. ⌜ r ≡ ltb (words3 i0 i1 i2) (beAt (now (s .entry)) 24 at) ⌝ }
-{
-    let b0 = eight(s, at);
-    if i0 != b0 {
-        return i0 < b0;
-    }
-    let b1 = eight(s, at + 8);
-    if i1 != b1 {
-        return i1 < b1;
-    }
-    i2 < eight(s, at + 16)
-}
-
 // Passes the ranges whose bounds are at or below the item. The place of the vector stays what it was.
-fn pass(s: &[u8], c: Cursor, i0: u64, i1: u64, i2: u64) -> Cursor
+fn pass(s: &[u8], c: Cursor, i: Item) -> Cursor
     requires { ⌜ c .next + 28 * c .left ≤ length (now s) ⌝ }
-    ensures { λ d. ⌜ d ≡ passed (now (s .entry)) (words3 i0 i1 i2) (c .left) c ⌝ }
+    ensures { λ d. ⌜ d ≡ passed (now (s .entry)) (itemOf i) (c .left) c ⌝ }
 {
     let mut left = c.left;
     let mut next = c.next;
     let mut index = c.index;
     let vector = c.vector;
     while 0 < left {
-        if below(s, next, i0, i1, i2) {
+        if leaves::below(&s[next..next + 24], i) {
             return Cursor {
                 left,
                 next,
@@ -173,7 +120,7 @@ fn pass(s: &[u8], c: Cursor, i0: u64, i1: u64, i2: u64) -> Cursor
                 vector,
             };
         }
-        let n = four(s, next + 24) as u32;
+        let n = leaves::four(&s[next + 24..next + 24 + 4]) as u32;
         index = VectorIndex(n);
         next += 28;
         left -= 1;
@@ -188,8 +135,8 @@ fn pass(s: &[u8], c: Cursor, i0: u64, i1: u64, i2: u64) -> Cursor
 
 // Moves a cursor on to an item. With r replicas, the first vector stands after their ids. Where the ranges are not all there, the
 // cursor stays.
-pub fn advance(s: &[u8], r: u32, c: Cursor, i0: u64, i1: u64, i2: u64) -> Cursor
-    ensures { λ d. ⌜ d ≡ advanced (now (s .entry)) r c (words3 i0 i1 i2) ⌝ }
+pub fn advance(s: &[u8], r: u32, c: Cursor, i: Item) -> Cursor
+    ensures { λ d. ⌜ d ≡ advanced (now (s .entry)) r c (itemOf i) ⌝ }
 {
     if s.len() < c.next {
         return c;
@@ -197,7 +144,7 @@ pub fn advance(s: &[u8], r: u32, c: Cursor, i0: u64, i1: u64, i2: u64) -> Cursor
     if s.len() - c.next < 28 * (c.left as usize) {
         return c;
     }
-    let d = pass(s, c, i0, i1, i2);
+    let d = pass(s, c, i);
     let from = c.index;
     let to = d.index;
     let vector = vector_place(s, r, from, c.vector, to);
@@ -221,7 +168,7 @@ pub fn elements_at(s: &[u8], at: usize) -> usize
     if s.len() - 8 < at {
         return 0;
     }
-    let n = four(s, at + 4) as usize;
+    let n = leaves::four(&s[at + 4..at + 4 + 4]) as usize;
     if s.len() - 8 - at < 12 * n {
         return 0;
     }
@@ -239,8 +186,8 @@ fn tick_scan(s: &[u8], vector: usize, n: usize, key: ReplicaKey) -> u64
     let mut i: usize = 0;
     let mut at = vector + 8;
     while i < n {
-        if four(s, at) == key.0 as u64 {
-            return eight(s, at + 4);
+        if leaves::four(&s[at..at + 4]) == key.0 as u64 {
+            return leaves::eight(&s[at + 4..at + 4 + 8]);
         }
         at += 12;
         i += 1;
@@ -260,18 +207,18 @@ pub fn tick_at(s: &[u8], vector: usize, key: ReplicaKey) -> u64
         return tick_scan(&s[..], vector, n, key);
     }
     let at = vector + 8 + 12 * guess;
-    if four(s, at) == key.0 as u64 {
-        return eight(s, at + 4);
+    if leaves::four(&s[at..at + 4]) == key.0 as u64 {
+        return leaves::eight(&s[at + 4..at + 4 + 8]);
     }
     tick_scan(&s[..], vector, n, key)
 }
 
-// The known tick of an item and a replica, from a cursor that is not past the item.
-pub fn known_tick(s: &[u8], r: u32, c: Cursor, i0: u64, i1: u64, i2: u64, p0: u64, p1: u64) -> u64
-    ensures { λ t. ⌜ t ≡ tickFrom (now (s .entry)) r c (words3 i0 i1 i2) (words2 p0 p1) ⌝ }
+// The tick that an opened knowledge knows of an item and a replica.
+pub fn known_tick(s: &[u8], v: View, i: Item, p: Replica) -> u64
+    ensures { λ t. ⌜ t ≡ tickFrom (now (s .entry)) (v .r) (v .start) (itemOf i) (replicaOf p) ⌝ }
 {
-    let d = advance(s, r, c, i0, i1, i2);
-    let key = key_of(s, r, p0, p1);
+    let d = advance(s, v.r, v.start, i);
+    let key = key_of(s, v.r, p);
     tick_at(s, d.vector, key)
 }
 
@@ -282,9 +229,9 @@ pub fn start(r: u32, v: u32, e: u32, g: u32) -> Cursor
     ensures { λ c. ⌜ c ≡ startAt r v e g ⌝ }
 {
     let left = g;
-    let next = RANGES + 16 * (r as usize) + 8 * (v as usize) + 12 * (e as usize);
+    let next = layout::RANGES_PLACE + 16 * (r as usize) + 8 * (v as usize) + 12 * (e as usize);
     let index = VectorIndex(0);
-    let vector = VECTORS + 16 * (r as usize);
+    let vector = layout::VECTORS_PLACE + 16 * (r as usize);
     Cursor {
         left,
         next,
@@ -303,42 +250,58 @@ pub fn from_check(c: Checked) -> Opened
             let v = (v % 4294967296) as u32;
             let e = (e % 4294967296) as u32;
             let g = (g % 4294967296) as u32;
-            Opened::At {
-                r,
-                start: start(r, v, e, g),
-            }
+            let start = start(r, v, e, g);
+            Opened::At(View { r, start })
         }
         Checked::Refused(n) => Opened::Refused(n),
     }
 }
 
-// Checks the bytes of a knowledge with limits of the caller's, the most replicas and the most ranges, each brought into 1 to its
+// Checks the bytes of a knowledge with limits of the caller's, the most replicas and the most ranges, each clamped to 1 to its
 // largest: what lookup goes on from. The check takes the slice anew, so that the caller's own need not lie in memory.
-pub fn open_within(s: &[u8], replicas: u32, ranges: u32) -> Opened
-    ensures { λ r. ⌜ r ≡ openOf (checkedBy (rulesWithin replicas ranges) (now (s .entry))) ⌝ }
+pub fn open_within(s: &[u8], limits: Limits) -> Opened
+    ensures { λ r. ⌜ r ≡ openOf (checkedBy (rulesWithin (limits .replicas) (limits .ranges)) (now (s .entry))) ⌝ }
 {
-    from_check(reader::check_within(&s[..], replicas, ranges))
+    from_check(check_knowledge::check_within(&s[..], limits.replicas, limits.ranges))
+}
+
+// ---- a span
+
+// Whether two ids are no span: one is not 24 bytes long, or the first is above the last.
+pub fn wrong_span(first: &[u8], last: &[u8]) -> bool
+    ensures { λ b. ⌜ b ≡ wrongSpan (now (first .entry)) (now (last .entry)) ⌝ }
+{
+    if first.len() != 24 {
+        return true;
+    }
+    if last.len() != 24 {
+        return true;
+    }
+    let f = codec::item_of(first);
+    let l = codec::item_of(last);
+    codec::less3(l.high, l.middle, l.low, f.high, f.middle, f.low)
 }
 
 // ---- the calls
 
-// The tick that an accepted knowledge knows of an item and a replica, each given as bytes.
-fn tick_of(s: &[u8], r: u32, start: Cursor, item: &[u8], replica: &[u8]) -> u64
-    requires { ⌜ (Open (now s) r start) × (length (now item) ≡ 24) × (length (now replica) ≡ 16) ⌝ }
+// The tick that an accepted knowledge knows of an item and a replica, each given as bytes. These are the steps of
+// `known_tick`; as a call they cost contain and lead more.
+fn tick_of(s: &[u8], v: View, item: &[u8], replica: &[u8]) -> u64
+    requires { ⌜ (Open (now s) (v .r) (v .start)) × (length (now item) ≡ 24) × (length (now replica) ≡ 16) ⌝ }
     ensures { λ t. ⌜ Known (now (s .entry)) (now (item .entry)) (now (replica .entry)) t ⌝ }
 {
-    let i0 = codec::read8(item, 0);
-    let i1 = codec::read8(item, 8);
-    let i2 = codec::read8(item, 16);
-    let p0 = codec::read8(replica, 0);
-    let p1 = codec::read8(replica, 8);
-    known_tick(s, r, start, i0, i1, i2, p0, p1)
+    let high = codec::read8(item, 0);
+    let middle = codec::read8(item, 8);
+    let low = codec::read8(item, 16);
+    let d = advance(s, v.r, v.start, Item { high, middle, low });
+    let key = key_of(s, v.r, codec::replica_of(replica));
+    tick_at(s, d.vector, key)
 }
 
 // Contain in an accepted knowledge, by whichever rules accept it.
-fn contain_in(s: &[u8], r: u32, start: Cursor, item: &[u8], replica: &[u8], tick: u64) -> Contain
-    requires { ⌜ Open (now s) r start ⌝ }
-    ensures { λ a. ⌜ ((R : Rules) → Opens R (now (s .entry)) r start
+fn contain_in(s: &[u8], v: View, item: &[u8], replica: &[u8], tick: u64) -> Contain
+    requires { ⌜ Open (now s) (v .r) (v .start) ⌝ }
+    ensures { λ a. ⌜ ((R : Rules) → Opens R (now (s .entry)) (v .r) (v .start)
         → a ≡ containAnswer R (now (s .entry)) (now (item .entry)) (now (replica .entry)) tick) ⌝ }
 {
     if item.len() != 24 {
@@ -347,7 +310,7 @@ fn contain_in(s: &[u8], r: u32, start: Cursor, item: &[u8], replica: &[u8], tick
     if replica.len() != 16 {
         return Contain::Refused(17);
     }
-    let known = tick_of(s, r, start, item, replica);
+    let known = tick_of(s, v, item, replica);
     if tick == 0 {
         return Contain::Lacking;
     }
@@ -363,14 +326,13 @@ fn contain_within(
     item: &[u8],
     replica: &[u8],
     tick: u64,
-    replicas: u32,
-    ranges: u32,
+    limits: Limits,
 ) -> Contain
-    ensures { λ a. ⌜ a ≡ containAnswer (rulesWithin replicas ranges)
+    ensures { λ a. ⌜ a ≡ containAnswer (rulesWithin (limits .replicas) (limits .ranges))
         (now (knowledge .entry)) (now (item .entry)) (now (replica .entry)) tick ⌝ }
 {
-    match open_within(knowledge, replicas, ranges) {
-        Opened::At { r, start } => contain_in(knowledge, r, start, item, replica, tick),
+    match open_within(knowledge, limits) {
+        Opened::At(v) => contain_in(knowledge, v, item, replica, tick),
         Opened::Refused(n) => Contain::Refused(n),
     }
 }
@@ -379,14 +341,12 @@ fn contain_within(
 pub fn contain(knowledge: &[u8], item: &[u8], replica: &[u8], tick: u64) -> Contain
     ensures { λ a. ⌜ a ≡ containAnswer basic (now (knowledge .entry)) (now (item .entry)) (now (replica .entry)) tick ⌝ }
 {
-    contain_within(
-        knowledge,
-        item,
-        replica,
-        tick,
-        layout::REPLICAS,
-        layout::RANGES,
-    )
+    let limits = Limits {
+        replicas: layout::REPLICAS,
+        ranges: layout::RANGES,
+        records: layout::RECORDS,
+    };
+    contain_within(knowledge, item, replica, tick, limits)
 }
 
 // The first tick minus the second. Both are at most 2^63 - 1, so it fits at both ends.
@@ -398,18 +358,9 @@ fn ahead(a: u64, b: u64) -> i64
 }
 
 // Lead of two accepted knowledges, by whichever rules accept both.
-fn lead_in(
-    s: &[u8],
-    r: u32,
-    start: Cursor,
-    t: &[u8],
-    m: u32,
-    begin: Cursor,
-    item: &[u8],
-    replica: &[u8],
-) -> Lead
-    requires { ⌜ (Open (now s) r start) × (Open (now t) m begin) ⌝ }
-    ensures { λ a. ⌜ ((R : Rules) → Opens R (now (s .entry)) r start → Opens R (now (t .entry)) m begin
+fn lead_in(s: &[u8], v: View, t: &[u8], w: View, item: &[u8], replica: &[u8]) -> Lead
+    requires { ⌜ (Open (now s) (v .r) (v .start)) × (Open (now t) (w .r) (w .start)) ⌝ }
+    ensures { λ a. ⌜ ((R : Rules) → Opens R (now (s .entry)) (v .r) (v .start) → Opens R (now (t .entry)) (w .r) (w .start)
         → a ≡ leadAnswer R (now (s .entry)) (now (t .entry)) (now (item .entry)) (now (replica .entry))) ⌝ }
 {
     if item.len() != 24 {
@@ -418,48 +369,30 @@ fn lead_in(
     if replica.len() != 16 {
         return Lead::Refused(17);
     }
-    let a = tick_of(s, r, start, item, replica);
-    let b = tick_of(t, m, begin, item, replica);
+    let a = tick_of(s, v, item, replica);
+    let b = tick_of(t, w, item, replica);
     Lead::Ahead(ahead(a, b))
 }
 
 // Lead with limits of the caller's, where the first knowledge is accepted.
-fn lead_second(
-    s: &[u8],
-    r: u32,
-    start: Cursor,
-    t: &[u8],
-    item: &[u8],
-    replica: &[u8],
-    replicas: u32,
-    ranges: u32,
-) -> Lead
-    requires { ⌜ Opens (rulesWithin replicas ranges) (now s) r start ⌝ }
-    ensures { λ a. ⌜ a ≡ leadAnswer (rulesWithin replicas ranges)
+fn lead_second(s: &[u8], v: View, t: &[u8], item: &[u8], replica: &[u8], limits: Limits) -> Lead
+    requires { ⌜ Opens (rulesWithin (limits .replicas) (limits .ranges)) (now s) (v .r) (v .start) ⌝ }
+    ensures { λ a. ⌜ a ≡ leadAnswer (rulesWithin (limits .replicas) (limits .ranges))
         (now (s .entry)) (now (t .entry)) (now (item .entry)) (now (replica .entry)) ⌝ }
 {
-    match open_within(t, replicas, ranges) {
-        Opened::At { r: m, start: begin } => lead_in(s, r, start, t, m, begin, item, replica),
+    match open_within(t, limits) {
+        Opened::At(w) => lead_in(s, v, t, w, item, replica),
         Opened::Refused(n) => Lead::Refused(n),
     }
 }
 
 // Lead with limits of the caller's.
-fn lead_within(
-    first: &[u8],
-    second: &[u8],
-    item: &[u8],
-    replica: &[u8],
-    replicas: u32,
-    ranges: u32,
-) -> Lead
-    ensures { λ a. ⌜ a ≡ leadAnswer (rulesWithin replicas ranges)
+fn lead_within(first: &[u8], second: &[u8], item: &[u8], replica: &[u8], limits: Limits) -> Lead
+    ensures { λ a. ⌜ a ≡ leadAnswer (rulesWithin (limits .replicas) (limits .ranges))
         (now (first .entry)) (now (second .entry)) (now (item .entry)) (now (replica .entry)) ⌝ }
 {
-    match open_within(first, replicas, ranges) {
-        Opened::At { r, start } => {
-            lead_second(first, r, start, second, item, replica, replicas, ranges)
-        }
+    match open_within(first, limits) {
+        Opened::At(v) => lead_second(first, v, second, item, replica, limits),
         Opened::Refused(n) => Lead::Refused(n),
     }
 }
@@ -468,12 +401,10 @@ fn lead_within(
 pub fn lead(first: &[u8], second: &[u8], item: &[u8], replica: &[u8]) -> Lead
     ensures { λ a. ⌜ a ≡ leadAnswer basic (now (first .entry)) (now (second .entry)) (now (item .entry)) (now (replica .entry)) ⌝ }
 {
-    lead_within(
-        first,
-        second,
-        item,
-        replica,
-        layout::REPLICAS,
-        layout::RANGES,
-    )
+    let limits = Limits {
+        replicas: layout::REPLICAS,
+        ranges: layout::RANGES,
+        records: layout::RECORDS,
+    };
+    lead_within(first, second, item, replica, limits)
 }

@@ -1,3 +1,4 @@
 -- The laws of the operations.
+pub mod Opened
 pub mod Replies
-pub mod Scratch
+pub mod TableWords

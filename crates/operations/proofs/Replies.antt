@@ -1,46 +1,69 @@
--- A call that has ended as the reply of its result says has ended as its own reply says: the bytes were accepted, and the span is one,
--- so no line of the call's table before those of the result holds. Document 01's limits are those of its two numbers.
+-- A call that opens its bytes and then takes a function on what was opened has ended as its own reply says: the bytes were accepted, and the
+-- span is one, so no line of the call's table before those of the result holds. Document 01's limits are those of its two numbers.
 use Prim.Native.Nat.{ℕ}
-use mathlib.Core.Path.{_≡_, sym, ap, _∙_, subst}
+use mathlib.Core.Path.{_≡_, refl, sym, ap, _∙_, subst}
 use mathlib.Core.Bool.{false}
 use mathlib.Core.List.{List}
 use lib.ListN.{length}
 use Rattle.codec.specs.Reply.{Reply, answer, after}
+use Rattle.codec.specs.MethodEnded.{Ended, endOf}
+use Rattle.codec.specs.Ids.{InWords, itemOf, itemRead}
 use Rattle.codec.specs.declared.Answer.{Answer}
+use Rattle.codec.specs.declared.Item.{Item}
 use Rattle.layout.specs.Knowledge.{Rules, Knowledge, basic, base}
 use Rattle.layout.specs.Permitted.{rulesWithin}
 use Rattle.layout.specs.Decode.{decode}
+use Rattle.layout.specs.declared.Limits.{Limits}
 use Rattle.layout.proofs.Within.{basic-within}
 use Rattle.ticks.specs.Operations.{normalise, merge, project}
 use Rattle.ticks.specs.Calls.{wrongSpan, normaliseReply, mergeReply, projectReply}
-use Rattle.loading.specs.MethodReply.{resultReply}
-use Rattle.loading.proofs.Closing.{normalise-accepted, merge-accepted, project-accepted}
-use Rattle.lookup.specs.declared.Cursor.{Cursor}
+use Rattle.lookup.specs.declared.View.{View}
 use Rattle.lookup.specs.Method.{Opens}
-use Rattle.sampling.specs.declared.Bound.{Bound}
-use Rattle.sampling.specs.MethodRows.{itemOf, boundRead}
+use Rattle.loading.proofs.Closing.{result-is, normalise-accepted, merge-accepted, project-accepted}
 use Rattle.sampling.proofs.Opening.{opened-read}
-use Rattle.preparing.specs.MethodPrepared.{Ended}
-use Rattle.preparing.proofs.Ready.{first-item, last-item}
+use Rattle.preparing.proofs.Ready.{first-item, last-item, span-rises}
+use Rattle.operations.specs.MethodOpened.{Reads, resultOf, mergedEnd, normalisedEnd, projectedEnd}
+use Rattle.operations.proofs.Opened.{merge-opened, normalise-opened, project-opened}
 
-module _ (R : Rules) (s : List ℕ) (r : ℕ) (c : Cursor) (o : Opens R s r c) (out u : List ℕ) (a : Answer) where
-  abbrev Says : Knowledge → Type 0
-  Says k = Ended (resultReply (R .limits) k) out u a
+module _ (replicas ranges : ℕ) where
+  abbrev R : Rules
+  R = rulesWithin replicas ranges
 
-  pub normalise-says : Says (normalise (decode s)) → Ended (normaliseReply R s) out u a
-  normalise-says h = subst (λ reply. Ended reply out u a) (sym (normalise-accepted R s (decode s) (opened-read R s r c o))) h
+  abbrev most : Limits
+  most = record { replicas = replicas; ranges = ranges; records = base .records }
 
-  pub merge-says : (other : List ℕ) (m : ℕ) (d : Cursor) → Opens R other m d → Says (merge (decode s) (decode other))
-      → Ended (mergeReply R s other) out u a
-  merge-says other m d w h =
-      subst (λ reply. Ended reply out u a)
-      (sym (merge-accepted R s other (decode s) (opened-read R s r c o) (decode other) (opened-read R other m d w))) h
+  reads : (s : List ℕ) (v : View) → Opens R s (v .r) (v .start) → Reads most s v
+  reads s v o = record { rules = R; limits = refl; opens = o }
 
-  pub project-says : (first last : List ℕ) → wrongSpan first last ≡ false → (f l : Bound) → f ≡ boundRead first → l ≡ boundRead last
-      → Says (project (itemOf f) (itemOf l) (decode s)) → Ended (projectReply R s first last) out u a
-  project-says first last right f l e g h =
-      subst (λ reply. Ended reply out u a) (sym (project-accepted R s first last (decode s) (opened-read R s r c o) right))
-      (rw (← first-item first last right f e, ← last-item first last right l g) h)
+  module _ (s : List ℕ) (v : View) (o : Opens R s (v .r) (v .start)) (out u : List ℕ) (a : Answer) where
+    -- the reply of the call, where it is what the result says
+    says : (k : Knowledge) (reply : Reply) → reply ≡ resultOf most k → Ended (resultOf most k) out u a → Ended reply out u a
+    says k reply e h = subst (λ x. Ended x out u a) (sym e) h
+
+    pub normalise-says : endOf u a ≡ normalisedEnd most s v out → Ended (normaliseReply R s) out u a
+    normalise-says e =
+        says (normalise (decode s)) (normaliseReply R s)
+        (normalise-accepted R s (decode s) (opened-read R s (v .r) (v .start) o) ∙ result-is (R .limits) (normalise (decode s)))
+        (normalise-opened most s v out u a e (reads s v o))
+
+    pub merge-says : (other : List ℕ) (w : View) → Opens R other (w .r) (w .start) → endOf u a ≡ mergedEnd most s v other w out
+        → Ended (mergeReply R s other) out u a
+    merge-says other w p e =
+        let k = merge (decode s) (decode other) in
+        says k (mergeReply R s other)
+        (merge-accepted R s other (decode s) (opened-read R s (v .r) (v .start) o) (decode other) (opened-read R other (w .r) (w .start) p)
+        ∙ result-is (R .limits) k)
+        (merge-opened most s v other w out u a e (reads s v o) (reads other w p))
+
+    pub project-says : (first last : List ℕ) → wrongSpan first last ≡ false → (f l : Item) → f ≡ itemRead first → l ≡ itemRead last
+        → InWords f → InWords l → endOf u a ≡ projectedEnd most s v (record { first = f; last = l }) out
+        → Ended (projectReply R s first last) out u a
+    project-says first last right f l is too i j e =
+        let k = project (itemOf f) (itemOf l) (decode s) in
+        says k (projectReply R s first last)
+        (project-accepted R s first last (decode s) (opened-read R s (v .r) (v .start) o) right
+        ∙ rw (← first-item first last right f is, ← last-item first last right l too) (result-is (R .limits) k))
+        (project-opened most s v (record { first = f; last = l }) out u a e (reads s v o) i j (span-rises first last right f l is too))
 
 -- Document 01's limits
 

@@ -1,106 +1,352 @@
-// The operations on one knowledge that write one: normalise and project. Each fills a table of words with known ticks, plans what
-// is written for it, and then writes that.
+// The operations that write a knowledge: normalise, merge and project, and raising a tick. Each fills a table of words with known ticks, plans
+// what is written for it, and then writes that. This is the one crate that owns scratch for tables.
+//
+// The functions `.._opened` take bytes that were opened, and write into a lent buffer. They are total, and nothing but the buffer can change.
+// Their contracts say what they leave for any input; laws say what that is where the bytes were opened under the limits.
 use codec::Answer;
-use lookup::Cursor;
+use codec::Replica;
+use codec::Span;
+use layout::Limits;
 use lookup::Opened;
+use lookup::View;
 ghost use mathlib.Core.Path.{_≡_};
-ghost use mathlib.Core.Bool.{false};
-ghost use Prim.Native.Nat.{_+_, _<_};
 ghost use lib.ListN.{length};
+ghost use Rattle.codec.specs.Part.{placed};
 ghost use Rattle.codec.specs.Reply.{answer, after};
-ghost use Rattle.layout.specs.Knowledge.{basic};
+ghost use Rattle.codec.specs.MethodEnded.{Ended, endOf};
+ghost use Rattle.layout.specs.Knowledge.{basic, encode};
 ghost use Rattle.layout.specs.Permitted.{rulesWithin};
-ghost use Rattle.ticks.specs.Calls.{wrongSpan, normaliseReply, projectReply};
+ghost use Rattle.ticks.specs.Meaning.{emptyKnowledge};
+ghost use Rattle.ticks.specs.Calls.{normaliseReply, mergeReply, projectReply};
 ghost use Rattle.lookup.specs.Method.{Opens};
-ghost use Rattle.sampling.specs.MethodTables.{TableRoom};
-ghost use Rattle.preparing.specs.MethodPrepared.{few, Ended};
+ghost use Rattle.tables.specs.MethodWords.{mostRows};
+ghost use Rattle.sampling.specs.MethodTables.{oneTable, twoTable, spanTable, raisedTable};
+ghost use Rattle.operations.specs.MethodOpened.{smallRows, middleRows, oneRows, sizeFor, zeroed, tableEnd};
+ghost use Rattle.operations.specs.MethodOpened.{mergedEnd, raisedEnd, normalisedEnd, projectedEnd};
 
-// ---- normalise
+// Rows of scratch: so many in small scratch, in middle scratch, and for one knowledge at the largest limits: row 0, one at the first item, one
+// for each range, and two at the ends of a span. Two knowledges at the largest limits take `tables::ROWS`. A table of `n` rows takes
+// 2 * STRIDE words of ids, 3 * n words of bounds and STRIDE * n words of ticks, all 0: to clear them is what a small call must not pay for.
+const SMALL: usize = 12;
 
-// In scratch that has room.
-fn normalise_in(
+const MIDDLE: usize = 34;
+
+const ONE: usize = layout::LARGEST_RANGES as usize + 4;
+
+enum Size {
+    Small,
+    Middle,
+    Large,
+}
+
+// Which scratch a table takes that may come up to a row.
+fn size_for(row: usize) -> Size
+    ensures { λ z. ⌜ z ≡ sizeFor row ⌝ }
+{
+    if row < SMALL {
+        return Size::Small;
+    }
+    if row < MIDDLE {
+        return Size::Middle;
+    }
+    Size::Large
+}
+
+// ---- merge of what was opened
+
+fn merge_in(
     s: &[u8],
-    r: u32,
-    start: Cursor,
-    replicas: u32,
-    ranges: u32,
+    v: View,
+    other: &[u8],
+    w: View,
+    limits: Limits,
     out: &mut [u8],
     ids: &mut [u64],
     bounds: &mut [u64],
     t: &mut [u64],
 ) -> Answer
-    requires { ⌜ (Opens (rulesWithin replicas ranges) (now s) r start) × (TableRoom r (start .left + 1) (now ids) (now bounds) (now t)) ⌝ }
-    ensures { λ a. ⌜ Ended (normaliseReply (rulesWithin replicas ranges) (now (s .entry))) (now (out .entry)) (now (out .exit)) a ⌝ }
+    ensures { λ a. ⌜ endOf (now (out .exit)) a ≡ tableEnd limits (now (out .entry)) (twoTable (now (s .entry)) (v .r) (v .start)
+        (now (other .entry)) (w .r) (w .start) (now (ids .entry)) (now (bounds .entry)) (now (t .entry))) ⌝ }
 {
-    let q = filling::fill_one(s, r, start, ids, bounds, t);
-    preparing::conclude(q, replicas, ranges, out, ids, bounds, t)
+    let q = filling::fill_two(s, v.r, v.start, other, w.r, w.start, ids, bounds, t);
+    preparing::conclude(q, limits.replicas, limits.ranges, out, ids, bounds, t)
 }
 
-fn normalise_few(
-    s: &[u8],
-    r: u32,
-    start: Cursor,
-    replicas: u32,
-    ranges: u32,
-    out: &mut [u8],
-) -> Answer
-    requires { ⌜ (Opens (rulesWithin replicas ranges) (now s) r start) × (start .left + 1 < few) ⌝ }
-    ensures { λ a. ⌜ Ended (normaliseReply (rulesWithin replicas ranges) (now (s .entry))) (now (out .entry)) (now (out .exit)) a ⌝ }
+fn merge_small(s: &[u8], v: View, other: &[u8], w: View, limits: Limits, out: &mut [u8]) -> Answer
+    ensures { λ a. ⌜ endOf (now (out .exit)) a ≡ tableEnd limits (now (out .entry)) (zeroed smallRows (twoTable (now (s .entry)) (v .r) (v .start)
+        (now (other .entry)) (w .r) (w .start))) ⌝ }
 {
     let mut ids = [0u64; 2 * tables::STRIDE];
-    let mut bounds = [0u64; 3 * preparing::FEW];
-    let mut t = [0u64; tables::STRIDE * preparing::FEW];
-    normalise_in(
-        s,
-        r,
-        start,
-        replicas,
-        ranges,
-        out,
-        &mut ids,
-        &mut bounds,
-        &mut t,
-    )
+    let mut bounds = [0u64; 3 * SMALL];
+    let mut t = [0u64; tables::STRIDE * SMALL];
+    merge_in(s, v, other, w, limits, out, &mut ids, &mut bounds, &mut t)
 }
 
-fn normalise_many(
-    s: &[u8],
-    r: u32,
-    start: Cursor,
-    replicas: u32,
-    ranges: u32,
-    out: &mut [u8],
-) -> Answer
-    requires { ⌜ Opens (rulesWithin replicas ranges) (now s) r start ⌝ }
-    ensures { λ a. ⌜ Ended (normaliseReply (rulesWithin replicas ranges) (now (s .entry))) (now (out .entry)) (now (out .exit)) a ⌝ }
+fn merge_middle(s: &[u8], v: View, other: &[u8], w: View, limits: Limits, out: &mut [u8]) -> Answer
+    ensures { λ a. ⌜ endOf (now (out .exit)) a ≡ tableEnd limits (now (out .entry)) (zeroed middleRows (twoTable (now (s .entry)) (v .r) (v .start)
+        (now (other .entry)) (w .r) (w .start))) ⌝ }
 {
     let mut ids = [0u64; 2 * tables::STRIDE];
-    let mut bounds = [0u64; 3 * preparing::ONE];
-    let mut t = [0u64; tables::STRIDE * preparing::ONE];
-    normalise_in(
-        s,
-        r,
-        start,
-        replicas,
-        ranges,
-        out,
-        &mut ids,
-        &mut bounds,
-        &mut t,
-    )
+    let mut bounds = [0u64; 3 * MIDDLE];
+    let mut t = [0u64; tables::STRIDE * MIDDLE];
+    merge_in(s, v, other, w, limits, out, &mut ids, &mut bounds, &mut t)
 }
+
+fn merge_large(s: &[u8], v: View, other: &[u8], w: View, limits: Limits, out: &mut [u8]) -> Answer
+    ensures { λ a. ⌜ endOf (now (out .exit)) a ≡ tableEnd limits (now (out .entry)) (zeroed mostRows (twoTable (now (s .entry)) (v .r) (v .start)
+        (now (other .entry)) (w .r) (w .start))) ⌝ }
+{
+    let mut ids = [0u64; 2 * tables::STRIDE];
+    let mut bounds = [0u64; 3 * tables::ROWS];
+    let mut t = [0u64; tables::STRIDE * tables::ROWS];
+    merge_in(s, v, other, w, limits, out, &mut ids, &mut bounds, &mut t)
+}
+
+// Writes the normal form of what either of two knowledges knows.
+pub fn merge_opened(
+    s: &[u8],
+    v: View,
+    other: &[u8],
+    w: View,
+    limits: Limits,
+    out: &mut [u8],
+) -> Answer
+    ensures { λ a. ⌜ endOf (now (out .exit)) a ≡ mergedEnd limits (now (s .entry)) v (now (other .entry)) w (now (out .entry)) ⌝ }
+{
+    match size_for(v.start.left as usize + w.start.left as usize + 1) {
+        Size::Small => merge_small(s, v, other, w, limits, out),
+        Size::Middle => merge_middle(s, v, other, w, limits, out),
+        Size::Large => merge_large(s, v, other, w, limits, out),
+    }
+}
+
+// ---- raise of what was opened
+
+fn raise_in(
+    s: &[u8],
+    v: View,
+    p: Replica,
+    tick: u64,
+    limits: Limits,
+    out: &mut [u8],
+    ids: &mut [u64],
+    bounds: &mut [u64],
+    t: &mut [u64],
+) -> Answer
+    ensures { λ a. ⌜ endOf (now (out .exit)) a ≡ tableEnd limits (now (out .entry)) (raisedTable (now (s .entry)) (v .r) (v .start)
+        (p .high) (p .low) tick (now (ids .entry)) (now (bounds .entry)) (now (t .entry))) ⌝ }
+{
+    let q = filling::fill_raised(s, v.r, v.start, p.high, p.low, tick, ids, bounds, t);
+    preparing::conclude(q, limits.replicas, limits.ranges, out, ids, bounds, t)
+}
+
+fn raise_small(s: &[u8], v: View, p: Replica, tick: u64, limits: Limits, out: &mut [u8]) -> Answer
+    ensures { λ a. ⌜ endOf (now (out .exit)) a ≡ tableEnd limits (now (out .entry))
+        (zeroed smallRows (raisedTable (now (s .entry)) (v .r) (v .start) (p .high) (p .low) tick)) ⌝ }
+{
+    let mut ids = [0u64; 2 * tables::STRIDE];
+    let mut bounds = [0u64; 3 * SMALL];
+    let mut t = [0u64; tables::STRIDE * SMALL];
+    raise_in(s, v, p, tick, limits, out, &mut ids, &mut bounds, &mut t)
+}
+
+fn raise_middle(s: &[u8], v: View, p: Replica, tick: u64, limits: Limits, out: &mut [u8]) -> Answer
+    ensures { λ a. ⌜ endOf (now (out .exit)) a ≡ tableEnd limits (now (out .entry))
+        (zeroed middleRows (raisedTable (now (s .entry)) (v .r) (v .start) (p .high) (p .low) tick)) ⌝ }
+{
+    let mut ids = [0u64; 2 * tables::STRIDE];
+    let mut bounds = [0u64; 3 * MIDDLE];
+    let mut t = [0u64; tables::STRIDE * MIDDLE];
+    raise_in(s, v, p, tick, limits, out, &mut ids, &mut bounds, &mut t)
+}
+
+fn raise_large(s: &[u8], v: View, p: Replica, tick: u64, limits: Limits, out: &mut [u8]) -> Answer
+    ensures { λ a. ⌜ endOf (now (out .exit)) a ≡ tableEnd limits (now (out .entry))
+        (zeroed oneRows (raisedTable (now (s .entry)) (v .r) (v .start) (p .high) (p .low) tick)) ⌝ }
+{
+    let mut ids = [0u64; 2 * tables::STRIDE];
+    let mut bounds = [0u64; 3 * ONE];
+    let mut t = [0u64; tables::STRIDE * ONE];
+    raise_in(s, v, p, tick, limits, out, &mut ids, &mut bounds, &mut t)
+}
+
+// Writes the normal form of what a knowledge knows with the tick of a replica raised to one that no range has.
+pub fn raise_opened(
+    s: &[u8],
+    v: View,
+    p: Replica,
+    tick: u64,
+    limits: Limits,
+    out: &mut [u8],
+) -> Answer
+    ensures { λ a. ⌜ endOf (now (out .exit)) a ≡ raisedEnd limits (now (s .entry)) v p tick (now (out .entry)) ⌝ }
+{
+    match size_for(v.start.left as usize + 1) {
+        Size::Small => raise_small(s, v, p, tick, limits, out),
+        Size::Middle => raise_middle(s, v, p, tick, limits, out),
+        Size::Large => raise_large(s, v, p, tick, limits, out),
+    }
+}
+
+// ---- normalise of what was opened
+
+fn normalise_in(
+    s: &[u8],
+    v: View,
+    limits: Limits,
+    out: &mut [u8],
+    ids: &mut [u64],
+    bounds: &mut [u64],
+    t: &mut [u64],
+) -> Answer
+    ensures { λ a. ⌜ endOf (now (out .exit)) a ≡ tableEnd limits (now (out .entry)) (oneTable (now (s .entry)) (v .r) (v .start)
+        (now (ids .entry)) (now (bounds .entry)) (now (t .entry))) ⌝ }
+{
+    let q = filling::fill_one(s, v.r, v.start, ids, bounds, t);
+    preparing::conclude(q, limits.replicas, limits.ranges, out, ids, bounds, t)
+}
+
+fn normalise_small(s: &[u8], v: View, limits: Limits, out: &mut [u8]) -> Answer
+    ensures { λ a. ⌜ endOf (now (out .exit)) a ≡ tableEnd limits (now (out .entry)) (zeroed smallRows (oneTable (now (s .entry)) (v .r) (v .start))) ⌝ }
+{
+    let mut ids = [0u64; 2 * tables::STRIDE];
+    let mut bounds = [0u64; 3 * SMALL];
+    let mut t = [0u64; tables::STRIDE * SMALL];
+    normalise_in(s, v, limits, out, &mut ids, &mut bounds, &mut t)
+}
+
+fn normalise_middle(s: &[u8], v: View, limits: Limits, out: &mut [u8]) -> Answer
+    ensures { λ a. ⌜ endOf (now (out .exit)) a ≡ tableEnd limits (now (out .entry)) (zeroed middleRows (oneTable (now (s .entry)) (v .r) (v .start))) ⌝ }
+{
+    let mut ids = [0u64; 2 * tables::STRIDE];
+    let mut bounds = [0u64; 3 * MIDDLE];
+    let mut t = [0u64; tables::STRIDE * MIDDLE];
+    normalise_in(s, v, limits, out, &mut ids, &mut bounds, &mut t)
+}
+
+fn normalise_large(s: &[u8], v: View, limits: Limits, out: &mut [u8]) -> Answer
+    ensures { λ a. ⌜ endOf (now (out .exit)) a ≡ tableEnd limits (now (out .entry)) (zeroed oneRows (oneTable (now (s .entry)) (v .r) (v .start))) ⌝ }
+{
+    let mut ids = [0u64; 2 * tables::STRIDE];
+    let mut bounds = [0u64; 3 * ONE];
+    let mut t = [0u64; tables::STRIDE * ONE];
+    normalise_in(s, v, limits, out, &mut ids, &mut bounds, &mut t)
+}
+
+// Writes the normal form of a knowledge.
+pub fn normalise_opened(s: &[u8], v: View, limits: Limits, out: &mut [u8]) -> Answer
+    ensures { λ a. ⌜ endOf (now (out .exit)) a ≡ normalisedEnd limits (now (s .entry)) v (now (out .entry)) ⌝ }
+{
+    match size_for(v.start.left as usize + 1) {
+        Size::Small => normalise_small(s, v, limits, out),
+        Size::Middle => normalise_middle(s, v, limits, out),
+        Size::Large => normalise_large(s, v, limits, out),
+    }
+}
+
+// ---- project of what was opened
+
+fn project_in(
+    s: &[u8],
+    v: View,
+    span: Span,
+    limits: Limits,
+    out: &mut [u8],
+    ids: &mut [u64],
+    bounds: &mut [u64],
+    t: &mut [u64],
+) -> Answer
+    ensures { λ a. ⌜ endOf (now (out .exit)) a ≡ tableEnd limits (now (out .entry)) (spanTable (now (s .entry)) (v .r) (v .start)
+        (span .first) (span .last) (now (ids .entry)) (now (bounds .entry)) (now (t .entry))) ⌝ }
+{
+    let q = filling::fill_span(s, v.r, v.start, span.first, span.last, ids, bounds, t);
+    preparing::conclude(q, limits.replicas, limits.ranges, out, ids, bounds, t)
+}
+
+fn project_small(s: &[u8], v: View, span: Span, limits: Limits, out: &mut [u8]) -> Answer
+    ensures { λ a. ⌜ endOf (now (out .exit)) a ≡ tableEnd limits (now (out .entry))
+        (zeroed smallRows (spanTable (now (s .entry)) (v .r) (v .start) (span .first) (span .last))) ⌝ }
+{
+    let mut ids = [0u64; 2 * tables::STRIDE];
+    let mut bounds = [0u64; 3 * SMALL];
+    let mut t = [0u64; tables::STRIDE * SMALL];
+    project_in(s, v, span, limits, out, &mut ids, &mut bounds, &mut t)
+}
+
+fn project_middle(s: &[u8], v: View, span: Span, limits: Limits, out: &mut [u8]) -> Answer
+    ensures { λ a. ⌜ endOf (now (out .exit)) a ≡ tableEnd limits (now (out .entry))
+        (zeroed middleRows (spanTable (now (s .entry)) (v .r) (v .start) (span .first) (span .last))) ⌝ }
+{
+    let mut ids = [0u64; 2 * tables::STRIDE];
+    let mut bounds = [0u64; 3 * MIDDLE];
+    let mut t = [0u64; tables::STRIDE * MIDDLE];
+    project_in(s, v, span, limits, out, &mut ids, &mut bounds, &mut t)
+}
+
+fn project_large(s: &[u8], v: View, span: Span, limits: Limits, out: &mut [u8]) -> Answer
+    ensures { λ a. ⌜ endOf (now (out .exit)) a ≡ tableEnd limits (now (out .entry))
+        (zeroed oneRows (spanTable (now (s .entry)) (v .r) (v .start) (span .first) (span .last))) ⌝ }
+{
+    let mut ids = [0u64; 2 * tables::STRIDE];
+    let mut bounds = [0u64; 3 * ONE];
+    let mut t = [0u64; tables::STRIDE * ONE];
+    project_in(s, v, span, limits, out, &mut ids, &mut bounds, &mut t)
+}
+
+// Writes the normal form of what a knowledge knows of the items in a span.
+pub fn project_opened(s: &[u8], v: View, span: Span, limits: Limits, out: &mut [u8]) -> Answer
+    ensures { λ a. ⌜ endOf (now (out .exit)) a ≡ projectedEnd limits (now (s .entry)) v span (now (out .entry)) ⌝ }
+{
+    match size_for(v.start.left as usize + 3) {
+        Size::Small => project_small(s, v, span, limits, out),
+        Size::Middle => project_middle(s, v, span, limits, out),
+        Size::Large => project_large(s, v, span, limits, out),
+    }
+}
+
+// ---- the empty knowledge
+
+// the length of the empty knowledge
+pub const EMPTY: usize = 113;
+
+// The bytes of the empty knowledge, 113 of them, where there is room.
+pub fn write_empty(out: &mut [u8], at: usize)
+    ensures { λ _. ⌜ now (out .exit) ≡ placed (now (out .entry)) at (encode emptyKnowledge) ⌝ }
+{
+    let mut bytes = [0u8; EMPTY];
+    bytes[3] = 5;
+    bytes[11] = 1;
+    bytes[19] = 5;
+    bytes[22] = 16;
+    bytes[30] = 24;
+    bytes[33] = 16;
+    bytes[36] = 24;
+    bytes[39] = 1;
+    bytes[43] = 21;
+    bytes[47] = 1;
+    bytes[51] = 1;
+    bytes[59] = 23;
+    bytes[63] = 1;
+    bytes[67] = 22;
+    bytes[71] = 1;
+    bytes[107] = 25;
+    bytes[108] = 1;
+    codec::copy_part(&bytes, 0, EMPTY, out, at);
+}
+
+// ---- normalise
 
 // With limits of the caller's.
 fn normalise_within(knowledge: &[u8], out: &mut [u8], replicas: u32, ranges: u32) -> Answer
     ensures { λ a. ⌜ Ended (normaliseReply (rulesWithin replicas ranges) (now (knowledge .entry))) (now (out .entry)) (now (out .exit)) a ⌝ }
 {
-    match lookup::open_within(knowledge, replicas, ranges) {
-        Opened::At { r, start } => {
-            if start.left < preparing::FEW as u32 - 1 {
-                return normalise_few(knowledge, r, start, replicas, ranges, out);
-            }
-            normalise_many(knowledge, r, start, replicas, ranges, out)
-        }
+    let limits = Limits {
+        replicas,
+        ranges,
+        records: layout::RECORDS,
+    };
+    match lookup::open_within(knowledge, limits) {
+        Opened::At(v) => normalise_opened(knowledge, v, limits, out),
         Opened::Refused(n) => Answer::Refused(n),
     }
 }
@@ -115,118 +361,33 @@ pub fn normalise(knowledge: &[u8], out: &mut [u8]) -> Answer
 
 // ---- project
 
-// In scratch that has room.
-fn project_in(
-    s: &[u8],
-    r: u32,
-    start: Cursor,
-    first: &[u8],
-    last: &[u8],
-    replicas: u32,
-    ranges: u32,
-    out: &mut [u8],
-    ids: &mut [u64],
-    bounds: &mut [u64],
-    t: &mut [u64],
-) -> Answer
-    requires { ⌜ (Opens (rulesWithin replicas ranges) (now s) r start) × (wrongSpan (now first) (now last) ≡ false)
-        × (TableRoom r (start .left + 3) (now ids) (now bounds) (now t)) ⌝ }
-    ensures { λ a. ⌜ Ended (projectReply (rulesWithin replicas ranges) (now (s .entry)) (now (first .entry)) (now (last .entry)))
-        (now (out .entry)) (now (out .exit)) a ⌝ }
-{
-    let f = filling::bound_of(first);
-    let l = filling::bound_of(last);
-    let q = filling::fill_span(s, r, start, f, l, ids, bounds, t);
-    preparing::conclude(q, replicas, ranges, out, ids, bounds, t)
-}
-
-fn project_few(
-    s: &[u8],
-    r: u32,
-    start: Cursor,
-    first: &[u8],
-    last: &[u8],
-    replicas: u32,
-    ranges: u32,
-    out: &mut [u8],
-) -> Answer
-    requires { ⌜ (Opens (rulesWithin replicas ranges) (now s) r start) × (wrongSpan (now first) (now last) ≡ false)
-        × (start .left + 3 < few) ⌝ }
-    ensures { λ a. ⌜ Ended (projectReply (rulesWithin replicas ranges) (now (s .entry)) (now (first .entry)) (now (last .entry)))
-        (now (out .entry)) (now (out .exit)) a ⌝ }
-{
-    let mut ids = [0u64; 2 * tables::STRIDE];
-    let mut bounds = [0u64; 3 * preparing::FEW];
-    let mut t = [0u64; tables::STRIDE * preparing::FEW];
-    project_in(
-        s,
-        r,
-        start,
-        first,
-        last,
-        replicas,
-        ranges,
-        out,
-        &mut ids,
-        &mut bounds,
-        &mut t,
-    )
-}
-
-fn project_many(
-    s: &[u8],
-    r: u32,
-    start: Cursor,
-    first: &[u8],
-    last: &[u8],
-    replicas: u32,
-    ranges: u32,
-    out: &mut [u8],
-) -> Answer
-    requires { ⌜ (Opens (rulesWithin replicas ranges) (now s) r start) × (wrongSpan (now first) (now last) ≡ false) ⌝ }
-    ensures { λ a. ⌜ Ended (projectReply (rulesWithin replicas ranges) (now (s .entry)) (now (first .entry)) (now (last .entry)))
-        (now (out .entry)) (now (out .exit)) a ⌝ }
-{
-    let mut ids = [0u64; 2 * tables::STRIDE];
-    let mut bounds = [0u64; 3 * preparing::ONE];
-    let mut t = [0u64; tables::STRIDE * preparing::ONE];
-    project_in(
-        s,
-        r,
-        start,
-        first,
-        last,
-        replicas,
-        ranges,
-        out,
-        &mut ids,
-        &mut bounds,
-        &mut t,
-    )
-}
-
-// Where the knowledge is accepted: 17 for the span, or the call in scratch that has room.
+// Where the knowledge is accepted: 17 for the span, or the projection.
 fn project_span(
     s: &[u8],
-    r: u32,
-    start: Cursor,
+    v: View,
     first: &[u8],
     last: &[u8],
     replicas: u32,
     ranges: u32,
     out: &mut [u8],
 ) -> Answer
-    requires { ⌜ Opens (rulesWithin replicas ranges) (now s) r start ⌝ }
+    requires { ⌜ Opens (rulesWithin replicas ranges) (now s) (v .r) (v .start) ⌝ }
     ensures { λ a. ⌜ Ended (projectReply (rulesWithin replicas ranges) (now (s .entry)) (now (first .entry)) (now (last .entry)))
         (now (out .entry)) (now (out .exit)) a ⌝ }
 {
-    if preparing::wrong_span(first, last) {
+    if lookup::wrong_span(first, last) {
         return Answer::Refused(17);
     }
-    if start.left < preparing::FEW as u32 - 3 {
-        return project_few(s, r, start, first, last, replicas, ranges, out);
-    }
-    project_many(s, r, start, first, last, replicas, ranges, out)
+    let span = Span {
+        first: codec::item_of(first),
+        last: codec::item_of(last),
+    };
+    let limits = Limits {
+        replicas,
+        ranges,
+        records: layout::RECORDS,
+    };
+    project_opened(s, v, span, limits, out)
 }
 
 // With limits of the caller's.
@@ -241,10 +402,13 @@ fn project_within(
     ensures { λ a. ⌜ Ended (projectReply (rulesWithin replicas ranges) (now (knowledge .entry)) (now (first .entry)) (now (last .entry)))
         (now (out .entry)) (now (out .exit)) a ⌝ }
 {
-    match lookup::open_within(knowledge, replicas, ranges) {
-        Opened::At { r, start } => {
-            project_span(knowledge, r, start, first, last, replicas, ranges, out)
-        }
+    let limits = Limits {
+        replicas,
+        ranges,
+        records: layout::RECORDS,
+    };
+    match lookup::open_within(knowledge, limits) {
+        Opened::At(v) => project_span(knowledge, v, first, last, replicas, ranges, out),
         Opened::Refused(n) => Answer::Refused(n),
     }
 }
@@ -264,4 +428,53 @@ pub fn project(knowledge: &[u8], first: &[u8], last: &[u8], out: &mut [u8]) -> A
         layout::REPLICAS,
         layout::RANGES,
     )
+}
+
+// ---- merge
+
+// Once the first knowledge is accepted.
+fn merge_second(
+    s: &[u8],
+    v: View,
+    other: &[u8],
+    out: &mut [u8],
+    replicas: u32,
+    ranges: u32,
+) -> Answer
+    requires { ⌜ Opens (rulesWithin replicas ranges) (now s) (v .r) (v .start) ⌝ }
+    ensures { λ a. ⌜ Ended (mergeReply (rulesWithin replicas ranges) (now (s .entry)) (now (other .entry))) (now (out .entry)) (now (out .exit)) a ⌝ }
+{
+    let limits = Limits {
+        replicas,
+        ranges,
+        records: layout::RECORDS,
+    };
+    match lookup::open_within(other, limits) {
+        Opened::At(w) => merge_opened(s, v, other, w, limits, out),
+        Opened::Refused(n) => Answer::Refused(n),
+    }
+}
+
+// With limits of the caller's.
+fn merge_within(first: &[u8], second: &[u8], out: &mut [u8], replicas: u32, ranges: u32) -> Answer
+    ensures { λ a. ⌜ Ended (mergeReply (rulesWithin replicas ranges) (now (first .entry)) (now (second .entry)))
+        (now (out .entry)) (now (out .exit)) a ⌝ }
+{
+    let limits = Limits {
+        replicas,
+        ranges,
+        records: layout::RECORDS,
+    };
+    match lookup::open_within(first, limits) {
+        Opened::At(v) => merge_second(first, v, second, out, replicas, ranges),
+        Opened::Refused(n) => Answer::Refused(n),
+    }
+}
+
+// Writes the normal form of what either of two knowledges knows. All of the first is checked before any of the second.
+pub fn merge(first: &[u8], second: &[u8], out: &mut [u8]) -> Answer
+    ensures { λ a. ⌜ a ≡ answer (mergeReply basic (now (first .entry)) (now (second .entry))) (length (now (out .entry))) ⌝ }
+    ensures { λ _. ⌜ now (out .exit) ≡ after (mergeReply basic (now (first .entry)) (now (second .entry))) (now (out .entry)) ⌝ }
+{
+    merge_within(first, second, out, layout::REPLICAS, layout::RANGES)
 }

@@ -6,10 +6,10 @@ use mathlib.Core.List.{List}
 use native.Mathlib.Omega.{arith}
 use lib.ListN.{length, replicate}
 use borrow.Author.Tests.{lt-ltb, le-ltb}
-use Rattle.codec.specs.Reply.{Reply, refuses}
+use Rattle.codec.specs.Reply.{Reply}
 use Rattle.codec.specs.declared.Answer.{Answer}
 use Rattle.codec.specs.declared.Answer.the-variants as A
-use Rattle.codec.proofs.Calls.{refused-answer, refused-after, short-answer, short-after, written-answer, written-after}
+use Rattle.codec.proofs.Calls.{short-answer, short-after, written-answer, written-after}
 use Rattle.layout.specs.Knowledge.{Limits}
 use Rattle.ticks.proofs.Lists.{order, less, same, more}
 use Rattle.tables.specs.declared.Sizes.{Sizes}
@@ -19,13 +19,12 @@ use Rattle.tables.specs.MethodPieces.{laid, pagePieces}
 use Rattle.sampling.specs.declared.Filled.{Filled}
 use Rattle.preparing.specs.declared.Prepared.{Prepared}
 use Rattle.preparing.specs.declared.Prepared.the-variants as P
-use Rattle.preparing.specs.MethodPrepared.{few, Plan, planOf, planned, End, endOf, writtenEnd, finished}
-use Rattle.preparing.specs.MethodPrepared.{plannedEnd, blankEnd, concluded, Holds, Prepares, Ended}
+use Rattle.codec.specs.MethodEnded.{End, endOf, Ended}
+use Rattle.preparing.specs.MethodPrepared.{few, Plan, planOf, planned, writtenEnd, finished}
+use Rattle.codec.proofs.Ended.{ended-refused}
+use Rattle.preparing.specs.MethodPrepared.{plannedEnd, blankEnd, concluded, Holds, Prepares}
 
 module _ (reply : Reply) (out : List ℕ) where
-  pub ended-refused : (n : ℕ) → reply ≡ refuses n → Ended reply out out (A.Refused n)
-  ended-refused n e = record { answers = refused-answer reply out n e; leaves = refused-after reply out n e }
-
   module _ (ids bounds t cols firsts numbers : List ℕ) (z : Sizes) (n : ℕ) (h : Holds reply ids bounds t cols firsts numbers z n) where
     pub ended-short : length out < lengthOf z → Ended reply out out (A.Refused 14)
     ended-short l = record {
@@ -39,14 +38,6 @@ module _ (reply : Reply) (out : List ℕ) where
       answers = ap A.Written (e ∙ sym (h .size)) ∙ written-answer reply out (h .bs) (h .is) (omega (arith, h .size));
       leaves = written-after reply out (h .bs) (h .is) u (omega (arith, h .size)) (p ∙ h .writes out 0 (omega arith));
     }
-
--- what was made ready, by its case
-module _ (reply : Reply) (ids bounds t cols firsts numbers : List ℕ) (p : Prepared) (h : Prepares reply ids bounds t cols firsts numbers p) where
-  pub prepared-ready : (z : Sizes) (n : ℕ) → p ≡ P.Ready z n → Holds reply ids bounds t cols firsts numbers z n
-  prepared-ready z n e = subst (λ q. Prepares reply ids bounds t cols firsts numbers q) e h .is
-
-  pub prepared-refused : (n : ℕ) → p ≡ P.Refused n → reply ≡ refuses n
-  prepared-refused n e = subst (λ q. Prepares reply ids bounds t cols firsts numbers q) e h .is
 
 -- the end that is computed, by its cases
 module _ (out ids bounds t cols firsts numbers : List ℕ) where
@@ -93,10 +84,6 @@ module _ (reply : Reply) (out ids bounds t cols firsts numbers : List ℕ) where
   unfolding finished
   fine-finished (P.Ready z n) h = fine-written z n (h .is)
   fine-finished (P.Refused n) h = ended-refused reply out n (h .is)
-
-  pub finished-ended : (p : Prepared) (u : List ℕ) (a : Answer) → endOf u a ≡ finished out ids bounds t cols firsts numbers p
-      → Prepares reply ids bounds t cols firsts numbers p → Ended reply out u a
-  finished-ended p u a e h = subst Fine (sym e) (fine-finished p h)
 
 -- the end after a plan
 module _ (L : Limits) (q : Filled) (out ids bounds t : List ℕ) where

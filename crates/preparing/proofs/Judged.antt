@@ -19,7 +19,7 @@ use Rattle.loading.proofs.Closing.{result-replicas, result-ranges, result-gives
 use Rattle.sampling.specs.declared.Filled.{Filled}
 use Rattle.preparing.specs.declared.Prepared.{Prepared}
 use Rattle.preparing.specs.declared.Prepared.the-variants as P
-use Rattle.preparing.specs.MethodPrepared.{judged, Plan, planOf, over, planned, Prepares, PlanRoom}
+use Rattle.preparing.specs.MethodPrepared.{judged, Plan, planOf, over, planned, Prepares}
 
 -- the cases of what is judged
 
@@ -112,11 +112,11 @@ module _ (L : Limits) (q : Filled) (ids t c f x : List ℕ) where
 
   -- and is what the reply of the planned knowledge says
   pub planned-prepares : (bounds c' f' x' : List ℕ) (p : Prepared) → planOf c' f' x' p ≡ planned L q ids t c f x → q .columns ≤ stride
-      → q .rows < mostRows → PlanRoom (q .columns) (q .rows) c f x → Words ids → Words bounds → (k : Knowledge)
+      → q .rows < mostRows → q .columns ≤ length c → q .rows < length f → q .rows ≤ length x → Words ids → Words bounds → (k : Knowledge)
       → page (idAt ids) (boundAt bounds) (cell t) (q .columns) (q .rows) ≡ k → Prepares (resultReply L k) ids bounds t c' f' x' p
-  planned-prepares bounds c' f' x' p e a b room wi wb k g =
+  planned-prepares bounds c' f' x' p e a b i j l wi wb k g =
       let there : Fits (q .columns) (q .rows) (length c) (length f) (length x) =
-      record { columns = a; rows = b; toColumns = room .columns; toFirsts = room .distinct; toNumbers = room .rows } in
+      record { columns = a; rows = b; toColumns = i; toFirsts = j; toNumbers = l } in
       let z = sizesOf (cell t) columns rows each in
       let plan : Plans (idAt ids) (cell t) (q .columns) (q .rows) c f x (over columns c) (over rows f) (over each x) z =
       record { sizes = refl; columns = refl; firsts = refl; numbers = refl } in

@@ -1,6 +1,4 @@
 -- The laws of preparing a table and of ending a call.
 pub mod Judged
 pub mod Ends
-pub mod Scratch
-pub mod Span
 pub mod Ready

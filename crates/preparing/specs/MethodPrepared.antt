@@ -1,13 +1,12 @@
--- What an operation has made ready before its buffer is looked at, and the scratch that it works in. There is nothing to believe here:
+-- What an operation has made ready before its buffer is looked at. There is nothing to believe here:
 -- the calls' contracts cite the replies of `ticks`.
 use Rattle.codec.specs.Prelude.{ℕ, _+_, _≤_, _<_, _≡_, true, false, List, _++_, ltb, length, drop}
 use lib.ListN.{replicate}
 use Rattle.codec.specs.Part.{placed}
-use Rattle.codec.specs.Reply.{Reply, gives, refuses, answer, after}
-use Rattle.codec.specs.declared.Answer.{Answer}
+use Rattle.codec.specs.MethodEnded.{End, endOf}
+use Rattle.codec.specs.Reply.{Reply, gives, refuses}
 use Rattle.codec.specs.declared.Answer.the-variants as A
 use Rattle.layout.specs.Knowledge.{Limits, Knowledge}
-use Rattle.layout.specs.Permitted.{largestRanges}
 use Rattle.tables.specs.declared.Sizes.{Sizes}
 use Rattle.tables.specs.MethodWords.{stride, mostRows, cell, idAt, boundAt}
 use Rattle.tables.specs.MethodPlan.{firstsOf, numbersOf, columnsOf, sizesOf, page, lengthOf}
@@ -20,10 +19,6 @@ use Rattle.preparing.specs.declared.Prepared.the-variants as P
 -- up to so many rows a call takes less room
 abbrev pub few : ℕ
 few = 12
-
--- rows for one knowledge: row 0, one at the first item, one for each range, and two at the ends of a span
-abbrev pub oneRows : ℕ
-oneRows = largestRanges + 4
 
 -- 11 over the most replicas, 12 over the most ranges, or n rows that are ready
 unfoldable pub judged : Limits → Sizes → ℕ → Prepared
@@ -61,13 +56,6 @@ planned L q ids t c f x =
     ]
 
 -- How a call ends that writes a knowledge
-
-pub record End : Type 0 where
-  pub out : List ℕ
-  pub answer : Answer
-
-abbrev pub endOf : List ℕ → Answer → End
-endOf out a = record { out = out; answer = a }
 
 -- with n rows of a table that was planned so: 14 and the buffer as it was where it is too short, or the table written from its front
 unfoldable pub writtenEnd : List ℕ → List ℕ → List ℕ → List ℕ → List ℕ → List ℕ → List ℕ → Sizes → ℕ → End
@@ -112,17 +100,6 @@ Says reply ids bounds t cols firsts numbers (P.Refused n) = reply ≡ refuses n
 
 pub record Prepares (reply : Reply) (ids bounds t cols firsts numbers : List ℕ) (p : Prepared) : Type 0 where
   pub is : Says reply ids bounds t cols firsts numbers p
-
--- a call that writes has ended as its reply says
-pub record Ended (reply : Reply) (out after' : List ℕ) (a : Answer) : Type 0 where
-  pub answers : a ≡ answer reply (length out)
-  pub leaves : after' ≡ after reply out
-
--- room for the plan of m columns and of the rows up to n
-pub record PlanRoom (m n : ℕ) (cols firsts numbers : List ℕ) : Type 0 where
-  pub columns : m ≤ length cols
-  pub distinct : n < length firsts
-  pub rows : n ≤ length numbers
 
 -- a table is filled up to m columns and up to row n, which the most rows have room for, and its plan is the knowledge k
 pub record Sheet (ids bounds t : List ℕ) (m n : ℕ) (q : Filled) (k : Knowledge) : Type 0 where

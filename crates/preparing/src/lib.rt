@@ -1,23 +1,18 @@
 // What a call does with a table of known ticks once it is filled: it plans what is written, judges that by the limits, and writes it.
 //
-// Every public function is total. A caller that writes more than a knowledge takes `prepare`, and then `writer::length` and
-// `writer::write`; one that writes just a knowledge ends with `conclude`, which has lists of its own for the plan.
+// Every public function is total. A call ends with `conclude`, which has lists of its own for the plan.
 use codec::Answer;
 use sampling::Filled;
 use tables::Sizes;
 ghost use mathlib.Core.Path.{_≡_};
 ghost use Rattle.layout.specs.Permitted.{rulesWithin};
-ghost use Rattle.ticks.specs.Calls.{wrongSpan};
 ghost use Rattle.tables.specs.MethodWords.{mostRows};
-ghost use Rattle.preparing.specs.MethodPrepared.{few, judged, planOf, planned, endOf, writtenEnd, finished};
+ghost use Rattle.codec.specs.MethodEnded.{endOf};
+ghost use Rattle.preparing.specs.MethodPrepared.{few, judged, planOf, planned, writtenEnd, finished};
 ghost use Rattle.preparing.specs.MethodPrepared.{plannedEnd, blankEnd, concluded};
 
-// Rows of scratch: so many for a call whose rows are few, and so many for one knowledge at the largest limits: row 0, one at the first
-// item, one for each range, and two at the ends of a span. Two knowledges at the largest limits take `tables::ROWS`. A table of `n` rows
-// takes 2 * STRIDE words of ids, 3 * n words of bounds and STRIDE * n words of ticks, all 0, and its plan STRIDE, n and n numbers.
+// Rows of scratch for a plan whose rows are few; the others take `tables::ROWS`. The plan of a table of `n` rows takes STRIDE, n and n numbers.
 pub const FEW: usize = 12;
-
-pub const ONE: usize = layout::LARGEST_RANGES as usize + 4;
 
 // A table that is ready to be written, with its count of rows, or the number of its refusal.
 pub enum Prepared {
@@ -31,16 +26,16 @@ pub enum Prepared {
 fn judge(z: Sizes, n: u32, replicas: u32, ranges: u32) -> Prepared
     ensures { λ p. ⌜ p ≡ judged (rulesWithin replicas ranges .limits) z n ⌝ }
 {
-    if codec::brought(replicas, layout::LARGEST_REPLICAS) < z.replicas {
+    if codec::clamp(replicas, layout::LARGEST_REPLICAS) < z.replicas {
         return Prepared::Refused(11);
     }
-    if codec::brought(ranges, layout::LARGEST_RANGES) < z.ranges {
+    if codec::clamp(ranges, layout::LARGEST_RANGES) < z.ranges {
         return Prepared::Refused(12);
     }
     Prepared::Ready { sizes: z, rows: n }
 }
 
-// Plans what is written for a table, and judges it by the limits: each is brought into 1 to its largest. A table that is not filled, or
+// Plans what is written for a table, and judges it by the limits: each is clamped to 1 to its largest. A table that is not filled, or
 // lists without room for its plan, get sizes of 0.
 pub fn prepare(
     q: Filled,
@@ -211,21 +206,4 @@ pub fn conclude(
         return conclude_few(q, replicas, ranges, out, ids, bounds, t);
     }
     conclude_many(q, replicas, ranges, out, ids, bounds, t)
-}
-
-// ---- a span
-
-// Whether two ids are no span: one is not 24 bytes long, or the first is above the last.
-pub fn wrong_span(first: &[u8], last: &[u8]) -> bool
-    ensures { λ b. ⌜ b ≡ wrongSpan (now (first .entry)) (now (last .entry)) ⌝ }
-{
-    if first.len() != 24 {
-        return true;
-    }
-    if last.len() != 24 {
-        return true;
-    }
-    let f = filling::bound_of(first);
-    let l = filling::bound_of(last);
-    codec::less3(l.high, l.middle, l.low, f.high, f.middle, f.low)
 }

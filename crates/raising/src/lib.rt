@@ -2,6 +2,7 @@
 //
 // Every public function is total: where there are not the bounds of all rows, no cell is raised. The tick of row k and column c is word
 // STRIDE * k + c of `t`.
+use codec::Item;
 use layout::ReplicaKey;
 use lookup::Cursor;
 ghost use mathlib.Core.Path.{_≡_};
@@ -11,9 +12,6 @@ ghost use Rattle.codec.specs.Number.{beAt};
 ghost use Rattle.lookup.specs.Method.{elementsHere};
 ghost use Rattle.sampling.specs.MethodCells.{raisedIn, raisedBy, filled};
 ghost use Rattle.sampling.specs.MethodTables.{fits, filledIn};
-
-// the place of the replica ids
-const IDS: usize = 27;
 
 // ---- numbers that are there
 
@@ -57,7 +55,7 @@ pub fn fits(
     if layout::LARGEST_REPLICAS < r {
         return false;
     }
-    if s.len() < IDS + 16 * (r as usize) {
+    if s.len() < layout::IDS_PLACE + 16 * (r as usize) {
         return false;
     }
     if s.len() < c.next {
@@ -103,7 +101,7 @@ fn raise_cell(keys: &[u32], t: &mut [u64], k: u32, key: ReplicaKey, tick: u64)
     if t.len() <= i {
         return;
     }
-    t[i] = codec::larger(t[i], tick);
+    t[i] = codec::max(t[i], tick);
 }
 
 // Raises row k from the clock vector at a place: each element the cell of its key's column.
@@ -140,7 +138,10 @@ fn fill_rows(
     let mut k = from;
     while k <= top {
         let i = 3 * (k as usize);
-        c = lookup::advance(s, r, c, bounds[i], bounds[i + 1], bounds[i + 2]);
+        let high = bounds[i];
+        let middle = bounds[i + 1];
+        let low = bounds[i + 2];
+        c = lookup::advance(s, r, c, Item { high, middle, low });
         raise_row(s, c.vector, keys, t, k);
         k += 1;
     }

@@ -25,7 +25,7 @@ use Rattle.replication.specs.Operate.{wins}
 use Rattle.replication.specs.Reading.{itemPlace, changeReplicaPlace, changeTickPlace, createReplicaPlace, createTickPlace, tagPlace}
 use Rattle.replication.specs.Reading.{recLength, behind, contentAt, recAt, whole}
 use Rattle.replication.specs.MethodRecords.{WholeAt}
-use Rattle.replication.proofs.RecordBytes.{recSize, kind-length, kind-known, whole-exact, whole-back, rec-part}
+use Rattle.replication.proofs.Bytes.Record.{recSize, kind-length, kind-known, whole-exact, whole-back, rec-part}
 use Rattle.replication.specs.Queries.{lengthAt}
 use Rattle.records.specs.Method.{recordPart, readRec}
 
@@ -142,13 +142,6 @@ module _ (s : List ℕ) (at : ℕ) where
     pub length-behind : (n ≡ 0 → ⊥) → at + n ≡ behind s at
     length-behind z = omega (arith, behind-is, length-whole (length-stands z))
 
-    pub whole-length : ltb 0 n ≡ whole s at
-    whole-length = go (ltb 0 n) refl
-      where
-        go : (t : Bool) → ltb 0 n ≡ t → ltb 0 n ≡ whole s at
-        go true t = t ∙ sym (length-stands (λ z. omega (arith, ltb-true 0 n t)))
-        go false t = t ∙ sym (length-ends (omega (arith, ltb-false 0 n t)))
-
 -- ---- bytes
 
 part-is : (s : List ℕ) (at n : ℕ) → at + n ≤ length s → part s at n ≡ take n (drop at s)
@@ -254,22 +247,6 @@ module _ (s : List ℕ) (at : ℕ) (w : WholeAt s at) where
   pub item-word : readAt s 24 (at + itemPlace) ≡ recAt s at .item
   unfolding recAt
   item-word = read-there s 24 (at + itemPlace) (w .item)
-
-  pub change-replica-word : readAt s 16 (at + changeReplicaPlace) ≡ recAt s at .changeReplica
-  unfolding recAt
-  change-replica-word = read-there s 16 (at + changeReplicaPlace) (w .changeReplica)
-
-  pub change-tick-word : readAt s 8 (at + changeTickPlace) ≡ recAt s at .changeTick
-  unfolding recAt
-  change-tick-word = read-there s 8 (at + changeTickPlace) (w .changeTick)
-
-  pub create-replica-word : readAt s 16 (at + createReplicaPlace) ≡ recAt s at .createReplica
-  unfolding recAt
-  create-replica-word = read-there s 16 (at + createReplicaPlace) (w .createReplica)
-
-  pub create-tick-word : readAt s 8 (at + createTickPlace) ≡ recAt s at .createTick
-  unfolding recAt
-  create-tick-word = read-there s 8 (at + createTickPlace) (w .createTick)
 
   tag-word : readAt s 16 (at + tagPlace) ≡ beAt s 16 (at + tagPlace)
   tag-word = read-there s 16 (at + tagPlace) (w .tag)

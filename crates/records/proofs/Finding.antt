@@ -12,8 +12,8 @@ use borrow.Author.Tests.{eqb-true, eqb-false}
 use Rattle.codec.specs.Number.{beAt}
 use Rattle.replication.specs.Reading.{itemPlace, recAt}
 use Rattle.replication.specs.Queries.{places, placeOf, lengthAt}
-use Rattle.replication.proofs.RecordsInBytes.{whole-at}
-use Rattle.replication.proofs.RecordsTable.{place-end, place-found, place-on}
+use Rattle.replication.proofs.Tables.InBytes.{whole-at}
+use Rattle.replication.proofs.Tables.Walked.{place-end, place-found, place-on}
 use Rattle.records.specs.declared.Found.the-variants as F
 use Rattle.replication.specs.MethodRecords.{WholeAt}
 use Rattle.records.specs.Method.{foundPlace}

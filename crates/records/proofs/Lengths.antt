@@ -10,15 +10,11 @@ use lib.ListN.{length, getD}
 use borrow.Author.Tests.{eqb-true}
 use Rattle.replication.specs.Reading.{recLength, behind, recAt}
 use Rattle.replication.specs.MethodRecords.{shapedAt, WholeAt}
-use Rattle.replication.proofs.RecordBytes.{KnownKind, kind-length}
-use Rattle.replication.proofs.RecordsInBytes.{whole-at, shaped-nil}
-use Rattle.replication.proofs.OpeningTables.{ordered-parts}
+use Rattle.replication.proofs.Tables.InBytes.{whole-at, shaped-nil}
+use Rattle.replication.proofs.Opening.Records.{ordered-parts}
 use Rattle.replication.specs.Queries.{lengthAt}
 use Rattle.records.specs.Method.{commonLength}
 use Rattle.records.proofs.Fields.{length-most, length-there, length-stands, length-size}
-
-pub common-length : (kind : ℕ) → KnownKind kind → recLength kind ≡ commonLength
-common-length kind k = kind-length kind k
 
 -- ---- the whole table
 

@@ -3,15 +3,17 @@
 //
 // Every public function is total and takes the whole bytes and a place in them. An item id is three words of 64 bits and a
 // replica id two, the highest first.
+use codec::Item;
+use codec::Replica;
 ghost use mathlib.Core.Path.{_≡_};
-ghost use Prim.Native.Nat.{_+_, _*_, _^_, _≤_, _<_};
+ghost use Prim.Native.Nat.{_+_, _*_, _≤_, _<_};
 ghost use lib.Dec.{eqb, leb};
 ghost use lib.ListN.{length, getD};
 ghost use Rattle.codec.specs.Number.{beAt};
 ghost use Rattle.codec.specs.Part.{placed};
 ghost use Rattle.codec.specs.Total.{readAt};
 ghost use Rattle.codec.specs.Words.{words2, words3};
-ghost use Rattle.replication.specs.Reading.{recLength, behind, recAt, whole, tagKept, validRec};
+ghost use Rattle.replication.specs.Reading.{recLength, behind, recAt, tagKept, validRec};
 ghost use Rattle.replication.specs.Reading.{itemPlace, changeReplicaPlace, changeTickPlace, createReplicaPlace, createTickPlace, tagPlace};
 ghost use Rattle.replication.specs.Queries.{places, placeOf, lengthAt};
 ghost use Rattle.replication.specs.Operate.{wins};
@@ -36,19 +38,6 @@ const END: usize = 89;
 
 const LARGEST_TICK: u64 = 9223372036854775807;
 
-// The words of an item id.
-pub struct ItemWords {
-    pub high: u64,
-    pub middle: u64,
-    pub low: u64,
-}
-
-// The words of a replica id.
-pub struct ReplicaWords {
-    pub high: u64,
-    pub low: u64,
-}
-
 // Where an item's record stands.
 pub enum Found {
     // the place of the record
@@ -66,28 +55,14 @@ fn one(s: &[u8], at: usize) -> u64
     s[at] as u64
 }
 
-fn four(s: &[u8], at: usize) -> u64
-    requires { ⌜ at + 4 ≤ length (now s) ⌝ }
-    ensures { λ r. ⌜ (r ≡ beAt (now (s .entry)) 4 at) × (r < 2 ^ 32) ⌝ }
-{
-    one(s, at) * 16777216 + one(s, at + 1) * 65536 + one(s, at + 2) * 256 + one(s, at + 3)
-}
-
-fn eight(s: &[u8], at: usize) -> u64
-    requires { ⌜ at + 8 ≤ length (now s) ⌝ }
-    ensures { λ r. ⌜ (r ≡ beAt (now (s .entry)) 8 at) × (r < 2 ^ 64) ⌝ }
-{
-    four(s, at) * 4294967296 + four(s, at + 4)
-}
-
-fn item_there(s: &[u8], at: usize) -> ItemWords
+fn item_there(s: &[u8], at: usize) -> Item
     requires { ⌜ at + 24 ≤ length (now s) ⌝ }
     ensures { λ r. ⌜ words3 (r .high) (r .middle) (r .low) ≡ beAt (now (s .entry)) 24 at ⌝ }
 {
-    let high = eight(s, at);
-    let middle = eight(s, at + 8);
-    let low = eight(s, at + 16);
-    ItemWords { high, middle, low }
+    let high = leaves::eight(&s[at..at + 8]);
+    let middle = leaves::eight(&s[at + 8..at + 8 + 8]);
+    let low = leaves::eight(&s[at + 16..at + 16 + 8]);
+    Item { high, middle, low }
 }
 
 // ---- one record
@@ -120,14 +95,6 @@ pub fn length_at(s: &[u8], at: usize) -> usize
     n
 }
 
-// Does a whole record of a known kind stand at a place.
-pub fn whole(s: &[u8], at: usize) -> bool
-    ensures { λ r. ⌜ r ≡ whole (now (s .entry)) at ⌝ }
-{
-    let n = length_at(s, at);
-    0 < n
-}
-
 // The place behind the record at a place; the place itself where no record of a known kind begins.
 pub fn behind(s: &[u8], at: usize) -> usize
     ensures { λ r. ⌜ r ≡ behind (now (s .entry)) at ⌝ }
@@ -151,16 +118,16 @@ pub fn copy_record(s: &[u8], at: usize, out: &mut [u8], to: usize)
 // ---- the fields of the record at a place; a field of which a byte is missing is 0
 
 // The replica id that begins so many bytes behind a place.
-fn replica_at(s: &[u8], at: usize, from: usize) -> ReplicaWords
+fn replica_at(s: &[u8], at: usize, from: usize) -> Replica
     requires { ⌜ from ≤ tagPlace ⌝ }
     ensures { λ r. ⌜ words2 (r .high) (r .low) ≡ readAt (now (s .entry)) 16 (at + from) ⌝ }
 {
     if codec::beyond(s.len(), at, from + 16) {
-        return ReplicaWords { high: 0, low: 0 };
+        return Replica { high: 0, low: 0 };
     }
-    let high = eight(s, at + from);
-    let low = eight(s, at + from + 8);
-    ReplicaWords { high, low }
+    let high = leaves::eight(&s[at + from..at + from + 8]);
+    let low = leaves::eight(&s[at + from + 8..at + from + 8 + 8]);
+    Replica { high, low }
 }
 
 // The tick that begins so many bytes behind a place.
@@ -171,15 +138,15 @@ fn tick_at(s: &[u8], at: usize, from: usize) -> u64
     if codec::beyond(s.len(), at, from + 8) {
         return 0;
     }
-    eight(s, at + from)
+    leaves::eight(&s[at + from..at + from + 8])
 }
 
 // The item.
-pub fn item_of(s: &[u8], at: usize) -> ItemWords
+pub fn item_of(s: &[u8], at: usize) -> Item
     ensures { λ r. ⌜ words3 (r .high) (r .middle) (r .low) ≡ readAt (now (s .entry)) 24 (at + itemPlace) ⌝ }
 {
     if codec::beyond(s.len(), at, ITEM + 24) {
-        return ItemWords {
+        return Item {
             high: 0,
             middle: 0,
             low: 0,
@@ -189,7 +156,7 @@ pub fn item_of(s: &[u8], at: usize) -> ItemWords
 }
 
 // The replica and the tick of the change version.
-pub fn change_replica(s: &[u8], at: usize) -> ReplicaWords
+pub fn change_replica(s: &[u8], at: usize) -> Replica
     ensures { λ r. ⌜ words2 (r .high) (r .low) ≡ readAt (now (s .entry)) 16 (at + changeReplicaPlace) ⌝ }
 {
     replica_at(s, at, CHANGE_REPLICA)
@@ -202,7 +169,7 @@ pub fn change_tick(s: &[u8], at: usize) -> u64
 }
 
 // The replica and the tick of the create version.
-pub fn create_replica(s: &[u8], at: usize) -> ReplicaWords
+pub fn create_replica(s: &[u8], at: usize) -> Replica
     ensures { λ r. ⌜ words2 (r .high) (r .low) ≡ readAt (now (s .entry)) 16 (at + createReplicaPlace) ⌝ }
 {
     replica_at(s, at, CREATE_REPLICA)
@@ -277,8 +244,8 @@ fn tag_kept(s: &[u8], at: usize) -> bool
 {
     let kind = one(s, at);
     if kind == 2 {
-        let t0 = eight(s, at + TAG);
-        let t1 = eight(s, at + TAG + 8);
+        let t0 = leaves::eight(&s[at + TAG..at + TAG + 8]);
+        let t1 = leaves::eight(&s[at + TAG + 8..at + TAG + 8 + 8]);
         return codec::same2(t0, t1, 0, 0);
     }
     true
@@ -289,8 +256,8 @@ fn valid(s: &[u8], at: usize) -> bool
     requires { ⌜ WholeAt (now s) at ⌝ }
     ensures { λ r. ⌜ r ≡ validRec (recAt (now (s .entry)) at) ⌝ }
 {
-    let create = eight(s, at + CREATE_TICK);
-    let change = eight(s, at + CHANGE_TICK);
+    let create = leaves::eight(&s[at + CREATE_TICK..at + CREATE_TICK + 8]);
+    let change = leaves::eight(&s[at + CHANGE_TICK..at + CHANGE_TICK + 8]);
     if create < 1 {
         return false;
     }
@@ -332,10 +299,10 @@ fn in_order(s: &[u8], n: u32, at: usize) -> bool
             return false;
         }
         let i = item_there(s, p + ITEM);
-        if rises(any, l0, l1, l2, i.high, i.middle, i.low) {} else {
+        if !rises(any, l0, l1, l2, i.high, i.middle, i.low) {
             return false;
         }
-        if valid(s, p) {} else {
+        if !valid(s, p) {
             return false;
         }
         any = true;

@@ -28,7 +28,7 @@ use Rattle.replication.specs.declared.Part.the-variants as P
 use Rattle.replication.specs.declared.Coverage.the-variants as G
 use Rattle.replication.specs.Queries.{ofStore, ofBatch, winnerAt, winnerPart, learnedPart, knowledgePart, partNumber, partSide, partAtPlace, partLength}
 use Rattle.replication.specs.Queries.{coverageNumber, coverageContained, coverageAll, coverageThousandths, coverageAnswer}
-use Rattle.replication.proofs.ContentsValid.{store-number, batch-number}
+use Rattle.replication.proofs.Contents.Valid.{store-number, batch-number}
 
 store-positive : (L : Limits) (s : List ℕ) → Positive (ownFault (openStore L s))
 store-positive L s = fault-positive (openStore L s) (λ n e. omega (arith, store-number L s n e))

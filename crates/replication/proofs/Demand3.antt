@@ -27,30 +27,29 @@ use Rattle.codec.specs.Number.{Bytes, put}
 use Rattle.codec.specs.Reply.{gives, refuses}
 use Rattle.codec.proofs.Numbers.{put-length, put-be}
 use Rattle.codec.proofs.Replies.{fault-later, fault-none}
-use Rattle.replication.specs.OpenStore.{openStore}
-use Rattle.replication.specs.OpenBatch.{lacksChange, openBatch}
+use Rattle.replication.specs.OpenBatch.{lacksChange}
 use Rattle.ticks.specs.Table.{inSpan}
 use Rattle.replication.specs.Calls.{newReply, applyReply, ownAhead}
 use Rattle.replication.specs.Lists.{World, start, outcome, batchNumber}
 use Rattle.replication.specs.Batches.{asked, IsBatch, Carries, BatchAgrees, Batches}
 use Rattle.replication.specs.Machine.{Ticks, Remembered, State, initial, greatest, applies}
 use Rattle.replication.specs.Promise.{ends, machine, IsStore, Agrees, Twofold, Promise}
-use Rattle.replication.proofs.Best.{holds-contained, greatest-top}
-use Rattle.replication.proofs.MachineGreatest.{greatest-equal}
-use Rattle.replication.proofs.MachineSteps.{numbered-mem, applies-commute, applies-twice}
-use Rattle.replication.proofs.Tables.{find-item, find-all, tables-equal, both-holds}
+use Rattle.replication.proofs.Machine.Best.{holds-contained, greatest-top}
+use Rattle.replication.proofs.Machine.Greatest.{greatest-equal}
+use Rattle.replication.proofs.Machine.Steps.{numbered-mem, applies-commute, applies-twice}
+use Rattle.replication.proofs.Tables.Rising.{find-item, find-all, tables-equal, both-holds}
 use Rattle.ticks.proofs.Lists.{in-span}
-use Rattle.replication.proofs.TablesSelected.{kept, kept-in, kept-some}
-use Rattle.replication.proofs.ContentsValid.{store-exact, batch-exact, lacks-exact}
-use Rattle.replication.proofs.StoreBytes.{store-bytes}
-use Rattle.replication.proofs.BatchBytes.{batch-bytes}
+use Rattle.replication.proofs.Tables.Selected.{kept, kept-in, kept-some}
+use Rattle.replication.proofs.Contents.Valid.{store-exact, batch-exact, lacks-exact}
+use Rattle.replication.proofs.Bytes.Store.{store-bytes}
+use Rattle.replication.proofs.Bytes.Batch.{batch-bytes}
 use Rattle.ticks.proofs.LawfulResults.{below-top}
 use Rattle.replication.specs.Valid.{LawfulRec, LawfulStore}
 use Rattle.ticks.proofs.Unique.{normal-unique}
-use Rattle.replication.proofs.AgreeInvariant.{StoreFollows, BatchFollows, stored, Follows}
-use Rattle.replication.proofs.AgreeEdit.{put-same, store-moved}
-use Rattle.replication.proofs.AgreeAsked.{AllMadeFor, MadeAt, made-number, run-made}
-use Rattle.replication.proofs.AgreeRun.{start-follows, Numbered, paired-number, batch-open-at, apply-step, run-follows}
+use Rattle.replication.proofs.Agree.Invariant.{StoreFollows, BatchFollows, stored, Follows}
+use Rattle.replication.proofs.Agree.Edit.{put-same, store-moved}
+use Rattle.replication.proofs.Agree.Asked.{AllMadeFor, MadeAt, made-number, run-made}
+use Rattle.replication.proofs.Agree.Run.{start-follows, Numbered, paired-number, apply-step, run-follows}
 use Rattle.codec.specs.Parsed.{accepted, line}
 use Rattle.replication.specs.Record.{Rec}
 use Rattle.replication.specs.Call.{Call, Given}
@@ -193,7 +192,9 @@ module _ (R : Rules) (permitted : Permitted (R .limits)) (w : World) (m : State)
       store-one (R .limits) (w .stores p) (f .stores p small .st) st permitted
       (record { bytes = f .stores p small .bytes; valid = f .stores p small .valid }) x
 
-  pub equal-tables : (p q : ℕ) (a b : Store) → p < 256 ^ 16 → q < 256 ^ 16 → IsStore (R .limits) (w .stores p) a → IsStore (R .limits) (w .stores q) b → ((i r : ℕ) → i ≤ highest → r < 256 ^ 16 → known (a .knowledge) i r ≡ known (b .knowledge) i r) → a .records ≡ b .records
+  pub equal-tables : (p q : ℕ) (a b : Store) → p < 256 ^ 16 → q < 256 ^ 16 → IsStore (R .limits) (w .stores p) a
+      → IsStore (R .limits) (w .stores q) b →
+      ((i r : ℕ) → i ≤ highest → r < 256 ^ 16 → known (a .knowledge) i r ≡ known (b .knowledge) i r) → a .records ≡ b .records
   equal-tables p q a b sp sq xa xb same =
       let ea : f .stores p sp .st ≡ a = follows-one p sp a xa in
       let eb : f .stores q sq .st ≡ b = follows-one q sq b xb in
@@ -217,7 +218,8 @@ module _ (R : Rules) (permitted : Permitted (R .limits)) (w : World) (m : State)
           go false e = f .good .strangers p i r (ltb-false r (256 ^ 16) e) ∙ sym (f .good .strangers q i r (ltb-false r (256 ^ 16) e))
 
   -- no batch knows more of a replica than the replica itself
-  own-behind : (p : ℕ) (small : p < 256 ^ 16) (n : ℕ) (s : List ℕ) (x : Numbered (R .limits) (m .versions) n s (m .batches)) (i q : ℕ) → i ≤ highest → q ≡ p → known (x .follows .b .learned) i q ≤ known (f .stores p small .st .knowledge) i q
+  own-behind : (p : ℕ) (small : p < 256 ^ 16) (n : ℕ) (s : List ℕ) (x : Numbered (R .limits) (m .versions) n s (m .batches)) (i q : ℕ)
+      → i ≤ highest → q ≡ p → known (x .follows .b .learned) i q ≤ known (f .stores p small .st .knowledge) i q
   own-behind p small n s x i q h e = go (leb (x .follows .b .first) i) refl (leb i (x .follows .b .last)) refl
     where
       go : (a : Bool) → leb (x .follows .b .first) i ≡ a → (b : Bool) → leb i (x .follows .b .last) ≡ b → known (x .follows .b .learned) i q ≤ known (f .stores p small .st .knowledge) i q
@@ -233,7 +235,8 @@ module _ (R : Rules) (permitted : Permitted (R .limits)) (w : World) (m : State)
       go true a false b = omega (arith, x .follows .valid .outside i q h (inr (leb-false i (x .follows .b .last) b)))
       go false a t b = omega (arith, x .follows .valid .outside i q h (inl (leb-false (x .follows .b .first) i a)))
 
-  never-above : (p n i : ℕ) (s : List ℕ) (st : Store) (b : Batch) → p < 256 ^ 16 → i ≤ highest → batchNumber n (w .batches) ≡ some s → IsStore (R .limits) (w .stores p) st → IsBatch (R .limits) s b → known (b .learned) i (st .own) ≤ known (st .knowledge) i (st .own)
+  never-above : (p n i : ℕ) (s : List ℕ) (st : Store) (b : Batch) → p < 256 ^ 16 → i ≤ highest → batchNumber n (w .batches) ≡ some s
+      → IsStore (R .limits) (w .stores p) st → IsBatch (R .limits) s b → known (b .learned) i (st .own) ≤ known (st .knowledge) i (st .own)
   never-above p n i s st b small h e xs xb =
       let x = number n s e in
       let f1 = f .stores p small in
@@ -244,10 +247,16 @@ module _ (R : Rules) (permitted : Permitted (R .limits)) (w : World) (m : State)
       (own-behind p small n s x i (f1 .st .own) h (f1 .own)))
 
   -- so the test of 18's second half fails
-  pub ahead-fails : (p n : ℕ) (s : List ℕ) (st : Store) (b : Batch) → p < 256 ^ 16 → batchNumber n (w .batches) ≡ some s → IsStore (R .limits) (w .stores p) st → IsBatch (R .limits) s b → ownAhead st b ≡ false
+  pub ahead-fails : (p n : ℕ) (s : List ℕ) (st : Store) (b : Batch) → p < 256 ^ 16 → batchNumber n (w .batches) ≡ some s
+      → IsStore (R .limits) (w .stores p) st → IsBatch (R .limits) s b → ownAhead st b ≡ false
   unfolding ownAhead
   ahead-fails p n s st b small e xs xb =
-      ap not (covers-for-exact (st .own ∷ []) (st .knowledge) (b .learned) 0 highest .1 (record { known = λ i q l h a. ⊎-elim (λ (d : q ≡ st .own). subst (λ (y : ℕ). known (b .learned) i y ≤ known (st .knowledge) i y) (sym d) (never-above p n i s st b small h e xs xb)) (λ z. absurd z) a }))
+      ap not (covers-for-exact (st .own ∷ []) (st .knowledge) (b .learned) 0 highest .1
+      (record {
+        known = λ i q l h a. ⊎-elim
+            (λ (d : q ≡ st .own). subst (λ (y : ℕ). known (b .learned) i y ≤ known (st .knowledge) i y) (sym d)
+            (never-above p n i s st b small h e xs xb)) (λ z. absurd z) a;
+      }))
 
 -- ---- two applies
 
@@ -258,11 +267,6 @@ module _ (R : Rules) (permitted : Permitted (R .limits)) where
   store-after w m p bs small f = subst (λ (s : List ℕ). StoreFollows (R .limits) s (m .versions) (m .ticks p) p) (put-same p p bs (w .stores) refl) (f .stores p small)
 
   module _ (w : World) (m : State) (f : Follows (R .limits) w m) (p : ℕ) (small : p < 256 ^ 16) where
-    -- the same batch, seen from the world after an apply
-    number-after : (n : ℕ) (s : List ℕ) (b : Remembered) (bs : List ℕ) (x : Numbered (R .limits) (m .versions) n s (m .batches)) → Numbered (R .limits) (applies p (some b) m .versions) n s (applies p (some b) m .batches)
-    unfolding applies
-    number-after n s b bs x = x
-
     kept-batches : (bs : List ℕ) → stored p bs w .batches ≡ w .batches
     unfolding stored
     kept-batches bs = refl
@@ -272,7 +276,12 @@ module _ (R : Rules) (permitted : Permitted (R .limits)) where
     kept-store bs = put-same p p bs (w .stores) refl
 
     -- after two applies the bytes are of a store that follows the machine after both
-    after-two : (n1 n2 room1 room2 : ℕ) (a b middle x : List ℕ) (u : Numbered (R .limits) (m .versions) n1 a (m .batches)) (v : Numbered (R .limits) (m .versions) n2 b (m .batches)) → batchNumber n1 (w .batches) ≡ some a → batchNumber n2 (w .batches) ≡ some b → outcome (applyReply (R .limits) (w .stores p) a) room1 ≡ some middle → outcome (applyReply (R .limits) middle b) room2 ≡ some x → StoreFollows (R .limits) x (applies p (some (v .b)) (applies p (some (u .b)) m) .versions) (applies p (some (v .b)) (applies p (some (u .b)) m) .ticks p) p
+    after-two : (n1 n2 room1 room2 : ℕ) (a b middle x : List ℕ) (u : Numbered (R .limits) (m .versions) n1 a (m .batches))
+        (v : Numbered (R .limits) (m .versions) n2 b (m .batches)) → batchNumber n1 (w .batches) ≡ some a
+        → batchNumber n2 (w .batches) ≡ some b → outcome (applyReply (R .limits) (w .stores p) a) room1 ≡ some middle
+        → outcome (applyReply (R .limits) middle b) room2 ≡ some x
+        → StoreFollows (R .limits) x (applies p (some (v .b)) (applies p (some (u .b)) m) .versions)
+        (applies p (some (v .b)) (applies p (some (u .b)) m) .ticks p) p
     unfolding applies
     after-two n1 n2 room1 room2 a b middle x u v ea eb first second =
         let g = apply-step R permitted w m f p n1 room1 a middle small ea u first in
@@ -281,7 +290,8 @@ module _ (R : Rules) (permitted : Permitted (R .limits)) where
         (ap (λ (l : List (List ℕ)). batchNumber n2 l) (kept-batches middle) ∙ eb) v
         (ap (λ (s : List ℕ). outcome (applyReply (R .limits) s b) room2) (kept-store middle) ∙ second))
 
-    pub either-order : (n1 n2 : ℕ) (a b x y : List ℕ) → batchNumber n1 (w .batches) ≡ some a → batchNumber n2 (w .batches) ≡ some b → Twofold (R .limits) (w .stores p) a b x → Twofold (R .limits) (w .stores p) b a y → x ≡ y
+    pub either-order : (n1 n2 : ℕ) (a b x y : List ℕ) → batchNumber n1 (w .batches) ≡ some a → batchNumber n2 (w .batches) ≡ some b
+        → Twofold (R .limits) (w .stores p) a b x → Twofold (R .limits) (w .stores p) b a y → x ≡ y
     unfolding applies
     either-order n1 n2 a b x y ea eb t1 t2 =
         let u = paired-number (R .limits) (m .versions) n1 a (w .batches) (m .batches) (f .batches) ea in
@@ -292,7 +302,8 @@ module _ (R : Rules) (permitted : Permitted (R .limits)) where
         (after-two n1 n2 (t1 .firstRoom) (t1 .secondRoom) a b (t1 .middle) x u v ea eb (t1 .first) (t1 .second)))
         (after-two n2 n1 (t2 .firstRoom) (t2 .secondRoom) b a (t2 .middle) y v u eb ea (t2 .first) (t2 .second))
 
-    pub twice-once : (n room1 room2 : ℕ) (a x y : List ℕ) → batchNumber n (w .batches) ≡ some a → outcome (applyReply (R .limits) (w .stores p) a) room1 ≡ some x → outcome (applyReply (R .limits) x a) room2 ≡ some y → x ≡ y
+    pub twice-once : (n room1 room2 : ℕ) (a x y : List ℕ) → batchNumber n (w .batches) ≡ some a
+        → outcome (applyReply (R .limits) (w .stores p) a) room1 ≡ some x → outcome (applyReply (R .limits) x a) room2 ≡ some y → x ≡ y
     unfolding applies
     twice-once n room1 room2 a x y ea first second =
         let u = paired-number (R .limits) (m .versions) n a (w .batches) (m .batches) (f .batches) ea in

@@ -19,8 +19,8 @@ use Rattle.replication.specs.Lists.{World, start, outcome, batchNumber, 
 use Rattle.replication.specs.Machine.{Remembered, State, initial, rememberedAt, acts, history}
 use Rattle.replication.specs.Promise.{ends, machine}
 use Rattle.replication.specs.Runner.{Number, Writes, WritesNothing, Leaves, Told, one, Runner}
-use Rattle.replication.proofs.AgreeEdit.{put-same, put-other}
-use Rattle.replication.proofs.AgreeRun.{run-append, history-append}
+use Rattle.replication.proofs.Agree.Edit.{put-same, put-other}
+use Rattle.replication.proofs.Agree.Run.{run-append, history-append}
 use Rattle.replication.proofs.Demand3.{begin}
 
 -- ---- numbers of batches
@@ -44,13 +44,6 @@ unfolding batchNumber
 batch-after [] b ys = refl
 batch-after (x ∷ xs) b ys = batch-after xs b ys
 
-pub batch-past : (n : ℕ) (l : List (List ℕ)) → length l ≤ n → batchNumber n l ≡ none
-unfolding batchNumber
-batch-past zero [] h = refl
-batch-past (suc n) [] h = refl
-batch-past zero (x ∷ xs) h = absurd (omega arith)
-batch-past (suc n) (x ∷ xs) h = batch-past n xs (omega arith)
-
 batch-number : (n : ℕ) (l : List (List ℕ)) (t : List ℕ) → batchNumber n l ≡ some t → Number n l t
 unfolding batchNumber
 batch-number zero [] t e = absurd (nothing-some t e)
@@ -70,13 +63,6 @@ pub remembered-after : (xs : List Remembered) (b : Remembered) (ys : List Rememb
 unfolding rememberedAt
 remembered-after [] b ys = refl
 remembered-after (x ∷ xs) b ys = remembered-after xs b ys
-
-pub remembered-past : (n : ℕ) (l : List Remembered) → length l ≤ n → rememberedAt n l ≡ none
-unfolding rememberedAt
-remembered-past zero [] h = refl
-remembered-past (suc n) [] h = refl
-remembered-past zero (x ∷ xs) h = absurd (omega arith)
-remembered-past (suc n) (x ∷ xs) h = remembered-past n xs (omega arith)
 
 remembered-number : (n : ℕ) (l : List Remembered) (b : Remembered) → rememberedAt n l ≡ some b → Number n l b
 unfolding rememberedAt
@@ -125,15 +111,19 @@ outcome-exact r room bs = (
 
 module _ (R : Rules) (w : World) where
   -- the four calls, each with its reply
-  pub edit-writes : (who : ℕ) (item : List ℕ) (b : Brought) (room : ℕ) (bs : List ℕ) → (writes R w (edit who item b room) ≡ some bs) ↔ ((editReply (R .limits) (w .stores who) item b ≡ gives bs) × (length bs ≤ room))
+  pub edit-writes : (who : ℕ) (item : List ℕ) (b : Brought) (room : ℕ) (bs : List ℕ)
+      → (writes R w (edit who item b room) ≡ some bs) ↔ ((editReply (R .limits) (w .stores who) item b ≡ gives bs) × (length bs ≤ room))
   unfolding writes
   edit-writes who item b room bs = outcome-exact (editReply (R .limits) (w .stores who) item b) room bs
 
-  pub delete-writes : (who : ℕ) (item : List ℕ) (room : ℕ) (bs : List ℕ) → (writes R w (delete who item room) ≡ some bs) ↔ ((deleteReply (R .limits) (w .stores who) item ≡ gives bs) × (length bs ≤ room))
+  pub delete-writes : (who : ℕ) (item : List ℕ) (room : ℕ) (bs : List ℕ)
+      → (writes R w (delete who item room) ≡ some bs) ↔ ((deleteReply (R .limits) (w .stores who) item ≡ gives bs) × (length bs ≤ room))
   unfolding writes
   delete-writes who item room bs = outcome-exact (deleteReply (R .limits) (w .stores who) item) room bs
 
-  pub make-writes : (who : ℕ) (knowledge first last : List ℕ) (room : ℕ) (bs : List ℕ) → (writes R w (make who knowledge first last room) ≡ some bs) ↔ ((makeReply R (w .stores who) knowledge first last ≡ gives bs) × (length bs ≤ room))
+  pub make-writes : (who : ℕ) (knowledge first last : List ℕ) (room : ℕ) (bs : List ℕ)
+      → (writes R w (make who knowledge first last room) ≡ some bs)
+      ↔ ((makeReply R (w .stores who) knowledge first last ≡ gives bs) × (length bs ≤ room))
   unfolding writes
   make-writes who knowledge first last room bs = outcome-exact (makeReply R (w .stores who) knowledge first last) room bs
 
@@ -142,12 +132,14 @@ module _ (R : Rules) (w : World) where
   unfolding applyTo
   some-apply who room bs t e h = outcome-exact (applyReply (R .limits) (w .stores who) t) room bs .1 (e, h)
 
-  apply-some : (who room : ℕ) (bs : List ℕ) (o : Option (List ℕ)) → applyTo (R .limits) (w .stores who) o room ≡ some bs → (t : List ℕ) × ((o ≡ some t) × ((applyReply (R .limits) (w .stores who) t ≡ gives bs) × (length bs ≤ room)))
+  apply-some : (who room : ℕ) (bs : List ℕ) (o : Option (List ℕ)) → applyTo (R .limits) (w .stores who) o room ≡ some bs
+      → (t : List ℕ) × ((o ≡ some t) × ((applyReply (R .limits) (w .stores who) t ≡ gives bs) × (length bs ≤ room)))
   unfolding applyTo
   apply-some who room bs none e = absurd (nothing-some bs e)
   apply-some who room bs (some t) e = (t, (refl, outcome-some (applyReply (R .limits) (w .stores who) t) room bs e))
 
-  pub apply-writes : (who which room : ℕ) (bs : List ℕ) → (writes R w (apply who which room) ≡ some bs) ↔ ((t : List ℕ) × ((batchNumber which (w .batches) ≡ some t) × ((applyReply (R .limits) (w .stores who) t ≡ gives bs) × (length bs ≤ room))))
+  pub apply-writes : (who which room : ℕ) (bs : List ℕ) → (writes R w (apply who which room) ≡ some bs) ↔
+      ((t : List ℕ) × ((batchNumber which (w .batches) ≡ some t) × ((applyReply (R .limits) (w .stores who) t ≡ gives bs) × (length bs ≤ room))))
   unfolding writes
   apply-writes who which room bs = (
     apply-some who room bs (batchNumber which (w .batches)),

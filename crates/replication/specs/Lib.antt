@@ -8,13 +8,11 @@ pub mod ValidBatch
 pub mod Reading
 pub mod OpenStore
 pub mod OpenBatch
-pub mod Room
 pub mod MethodOpening
 pub mod Operate
 pub mod Calls
 pub mod MethodReplies
 pub mod Queries
-pub mod Jump
 pub mod MethodTable
 pub mod MethodRecords
 pub mod Machine
@@ -22,6 +20,4 @@ pub mod Lists
 pub mod Promise
 pub mod Batches
 pub mod Runner
-pub mod Round
-pub mod RoundCalls
 pub mod Demand1

@@ -1,9 +1,9 @@
 -- What is left of a call's table of refusals once its inputs are accepted: the code decides in these steps. There is nothing to believe here:
 -- the laws say that each is the call's reply.
-use Rattle.codec.specs.Prelude.{ℕ, List, [], _∷_}
-use Rattle.codec.specs.Reply.{Reply, gives, Line, firstFault, refuses}
+use Rattle.codec.specs.Prelude.{ℕ, [], _∷_}
+use Rattle.codec.specs.Reply.{Reply, gives, firstFault, refuses}
 use Rattle.codec.specs.Parsed.{line}
-use Rattle.layout.specs.Knowledge.{Limits, encode}
+use Rattle.layout.specs.Knowledge.{Limits}
 use Rattle.ticks.specs.Calls.{resultLines}
 use Rattle.replication.specs.Record.{Content}
 use Rattle.replication.specs.Formats.{Store, encodeStore}

@@ -1,6 +1,6 @@
 -- The value of a valid batch, from its bytes. There is nothing to believe here: the law `batch-exact` says that the bytes of a
 -- batch are read as its value exactly where the batch meets document 01's list (specs/Valid.antt).
-use Rattle.codec.specs.Prelude.{ℕ, suc, _+_, Bool, true, false, not, List, Option, none, some, eqb, leb, length, take, drop}
+use Rattle.codec.specs.Prelude.{ℕ, _+_, Bool, true, false, not, List, Option, none, some, eqb, leb, length, take, drop}
 use Rattle.codec.specs.Number.{beAt}
 use Rattle.layout.specs.Knowledge.{Limits, anyId, Knowledge}
 use Rattle.layout.specs.Parse.{parse}

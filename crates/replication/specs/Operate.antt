@@ -1,5 +1,5 @@
 -- The operations on values of stores and batches. Document 01, "New", "Edit or delete", "Make", "Apply".
-use Rattle.codec.specs.Prelude.{ℕ, zero, suc, _+_, Bool, true, false, List, [], _∷_, Option, none, some, eqb, ltb}
+use Rattle.codec.specs.Prelude.{ℕ, _+_, Bool, true, false, List, [], _∷_, Option, none, some, eqb, ltb}
 use Rattle.layout.specs.Knowledge.{Knowledge}
 use Rattle.ticks.specs.Operations.{normalise, merge, project, raise, largest}
 use Rattle.replication.specs.Record.{Content, Rec}

@@ -9,7 +9,7 @@ use mathlib.Core.Logic.{_⊎_, inl, inr}
 use mathlib.Core.Bool.{Bool, true, false}
 use mathlib.Core.List.{List, [], _∷_}
 use native.Mathlib.Omega.{arith}
-use lib.Dec.{ltb, leb}
+use lib.Dec.{ltb}
 use lib.ListN.{length, getD, set, length-set}
 use lib.Seq.{getD-set-same, getD-set-other}
 use borrow.Author.Tests.{ltb-true, ltb-false, lt-ltb, le-ltb, le-leb, lt-leb}
@@ -23,9 +23,10 @@ use Rattle.ticks.proofs.Lists.{less, same, more, order}
 use Rattle.ticks.proofs.Counts.{bounds-length}
 use Rattle.tables.specs.MethodWords.{boundAt}
 use Rattle.loading.specs.Method.{Stops}
-use Rattle.sampling.specs.declared.Bound.{Bound}
+use Rattle.codec.specs.declared.Item.{Item}
 use Rattle.sampling.specs.declared.Turn.{Turn}
-use Rattle.sampling.specs.MethodRows.{boundOf, itemOf, boundIn, turnOf, turn, putBound, RowList, rowsOf, rowMore, grown, stoppedFrom, stopped}
+use Rattle.codec.specs.Ids.{itemOf}
+use Rattle.sampling.specs.MethodRows.{boundOf, boundIn, turnOf, turn, putBound, RowList, rowsOf, rowMore, grown, stoppedFrom, stopped}
 use Rattle.sampling.proofs.Columns.{Kept, Put}
 
 -- B gives the bound of a row before a step, C after it; X and Y are lists of bounds
@@ -145,16 +146,16 @@ module _ (X : ℕ → ℕ) (a i : ℕ) (Y : ℕ → ℕ) (b j v : ℕ) (r : Rise
 
 -- as code takes it
 module _ (s : List ℕ) (a at i : ℕ) (t : List ℕ) (b bt j : ℕ) where
-  pub turn-first : b ≤ j → (x : Bound) → x ≡ boundIn s at i → turnOf x (i + 1) j ≡ turn s a at i t b bt j
+  pub turn-first : b ≤ j → (x : Item) → x ≡ boundIn s at i → turnOf x (i + 1) j ≡ turn s a at i t b bt j
   unfolding turn
   turn-first h x e = rw (le-leb b j h, e, turn)
 
   module _ (l : j < b) where
-    pub turn-second : a ≤ i → (y : Bound) → y ≡ boundIn t bt j → turnOf y i (j + 1) ≡ turn s a at i t b bt j
+    pub turn-second : a ≤ i → (y : Item) → y ≡ boundIn t bt j → turnOf y i (j + 1) ≡ turn s a at i t b bt j
     unfolding turn
     turn-second h y e = rw (lt-leb b j l, le-leb a i h, e, turn)
 
-    module _ (h : i < a) (x y : Bound) (e : x ≡ boundIn s at i) (f : y ≡ boundIn t bt j) (q : Bool) (is : q ≡ ltb (itemOf y) (itemOf x)) where
+    module _ (h : i < a) (x y : Item) (e : x ≡ boundIn s at i) (f : y ≡ boundIn t bt j) (q : Bool) (is : q ≡ ltb (itemOf y) (itemOf x)) where
       compared : ltb (itemOf (boundIn t bt j)) (itemOf (boundIn s at i)) ≡ q
       compared = ap₂ (λ u v. ltb (itemOf u) (itemOf v)) (sym f) (sym e) ∙ sym is
 
@@ -238,16 +239,16 @@ put-put l k x y z h = record {
         → getD (set (set (set l (3 * k) x) (3 * k + 1) y) (3 * k + 2) z) j 0 ≡ getD l j 0
     away j = put-away l (3 * k) x y z j
 
-pub bound-put : (l : List ℕ) (k : ℕ) (b : Bound) → 3 * k + 2 < length l → Put (boundAt l) (boundAt (putBound l k b)) k (itemOf b)
+pub bound-put : (l : List ℕ) (k : ℕ) (b : Item) → 3 * k + 2 < length l → Put (boundAt l) (boundAt (putBound l k b)) k (itemOf b)
 unfolding putBound
 bound-put l k b h = put-put l k (b .high) (b .middle) (b .low) h
 
-pub put-is : (l : List ℕ) (k : ℕ) (b : Bound)
+pub put-is : (l : List ℕ) (k : ℕ) (b : Item)
     → set (set (set l (3 * k) (b .high)) (3 * k + 1) (b .middle)) (3 * k + 2) (b .low) ≡ putBound l k b
 unfolding putBound
 put-is l k b = refl
 
-pub put-size : (l : List ℕ) (k : ℕ) (b : Bound) → length (putBound l k b) ≡ length l
+pub put-size : (l : List ℕ) (k : ℕ) (b : Item) → length (putBound l k b) ≡ length l
 unfolding putBound
 put-size l k b =
     length-set (set (set l (3 * k) (b .high)) (3 * k + 1) (b .middle)) (3 * k + 2) (b .low)
@@ -261,7 +262,7 @@ bound-words l k x y z e f g = words3-same x y z _ _ _ e f g
 -- One row more, or none
 
 -- as code adds it
-module _ (l : List ℕ) (top : ℕ) (b : Bound) where
+module _ (l : List ℕ) (top : ℕ) (b : Item) where
   pub grown-not : itemOf b ≤ boundAt l top → rowsOf l top ≡ grown (rowsOf l top) b
   unfolding grown
   grown-not h = rw (le-ltb (boundAt l top) (itemOf b) h, grown)
@@ -479,10 +480,6 @@ stopping-begin A B from first last X a Y b w h = record {
   seconds = behind-begin B from Y b;
 }
 
--- the rows below the first one are as they were before it was put
-kept-put : (A B C : ℕ → ℕ) (from first : ℕ) → Put A B from first → Kept B C from → Kept A C from
-kept-put A B C from first w h = record { is = λ k l. h .is k l ∙ w .others k (λ e. absurd (omega arith)) }
-
 module _ (B C : ℕ → ℕ) (from top first last : ℕ) (X : ℕ → ℕ) (a i : ℕ) (Y : ℕ → ℕ) (b j : ℕ)
     (h : Stopping B C from top first last X a i Y b j) where
   stopping-next : (D : ℕ → ℕ) (top' i' j' v : ℕ) → Turns X a i i' Y b j j' v → Grows C D top top' v → v ≤ last
@@ -497,10 +494,6 @@ module _ (B C : ℕ → ℕ) (from top first last : ℕ) (X : ℕ → ℕ) (a i 
     firsts = behind-grows C D from top top' first last v (h .rows) g X a i i' (h .firsts) (t .first);
     seconds = behind-grows C D from top top' first last v (h .rows) g Y b j j' (h .seconds) (t .second);
   }
-
--- a bound that is not above the last item
-not-above : (last v : ℕ) (q : Bool) → q ≡ ltb last v → q ≡ false → v ≤ last
-not-above last v q is f = ltb-false last v (sym is ∙ f)
 
 -- the bounds that are left are above the last item
 record Beyond (X : ℕ → ℕ) (a i last : ℕ) : Type 0 where
@@ -605,7 +598,7 @@ module _ (s : List ℕ) (a at : ℕ) (t : List ℕ) (b bt last : ℕ) where
           ∙ stop-more (a + b - (i + j + 1)) i j (rowsOf bounds' top) y e (ltb-false last (itemOf (y .bound)) (sym is ∙ h))
           ∙ ap₂ (λ n w. stoppedFrom s a at t b bt last n (y .first) (y .second) w) z (sym g)
 
-pub stop-whole : (s : List ℕ) (a at : ℕ) (t : List ℕ) (b bt : ℕ) (first last : Bound) (l u : List ℕ) (from : ℕ) → u ≡ putBound l from first
+pub stop-whole : (s : List ℕ) (a at : ℕ) (t : List ℕ) (b bt : ℕ) (first last : Item) (l u : List ℕ) (from : ℕ) → u ≡ putBound l from first
     → stoppedFrom s a at t b bt (itemOf last) (a + b) 0 0 (rowsOf u from) ≡ stopped s a at t b bt first last l from
 unfolding stopped
 stop-whole s a at t b bt first last l u from e =
@@ -664,7 +657,7 @@ module _ (s : List ℕ) (a at : ℕ) (t : List ℕ) (b bt first last : ℕ) (l :
           (stopping-next B (boundAt (x .bounds)) from (x .top) first last (boundFrom s at) a i (boundFrom t bt) b j h (boundAt (w .bounds)) (w .top)
           (y .first) (y .second) (itemOf (y .bound)) u (g .grows) o))
 
-pub stopped-stops : (s : List ℕ) (a at : ℕ) (t : List ℕ) (b bt : ℕ) (first last : Bound) (l : List ℕ) (from : ℕ)
+pub stopped-stops : (s : List ℕ) (a at : ℕ) (t : List ℕ) (b bt : ℕ) (first last : Item) (l : List ℕ) (from : ℕ)
     → Rising 0 (boundsAt s a at) → Rising 0 (boundsAt t b bt) → itemOf first ≤ itemOf last → 3 * (from + a + b + 1) ≤ length l
     → StopFacts s a at t b bt (itemOf first) (itemOf last) l from (stopped s a at t b bt first last l from)
 unfolding stopped

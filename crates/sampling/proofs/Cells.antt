@@ -2,7 +2,7 @@
 -- map different columns, since no two columns have the same id; so each cell is raised at most once, by the element of its
 -- column's replica, and where there is none the known tick is 0, which raises nothing. Other rows have other places.
 use Prim.Native.Nat.{ℕ, zero, suc, max, _+_, _-_, _*_, _≤_, _<_}
-use mathlib.Core.Path.{_≡_, refl, sym, ap, ap₂, _∙_, subst}
+use mathlib.Core.Path.{_≡_, refl, sym, ap, ap₂, _∙_}
 use mathlib.Core.Logic.{inl, inr}
 use mathlib.Core.List.{List, [], _∷_}
 use native.Mathlib.Omega.{arith}
@@ -184,10 +184,6 @@ module _ (keys t : List ℕ) (k key tick c : ℕ) (e : c ≡ getD keys key 0) wh
   pub raised-is : (y : ℕ) → y ≡ max (getD t (stride * k + c) 0) tick → set t (stride * k + c) y ≡ raisedIn keys t k key tick
   unfolding raisedIn raisedTo
   raised-is y f = rw (f, e)
-
-pub raised-in-size : (keys t : List ℕ) (k key tick : ℕ) → length (raisedIn keys t k key tick) ≡ length t
-unfolding raisedIn
-raised-in-size keys t k key tick = raised-size t (stride * k + getD keys key 0) tick
 
 -- The loop over the elements at a place
 

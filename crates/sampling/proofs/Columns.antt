@@ -7,7 +7,7 @@ use mathlib.Core.Logic.{inl, inr}
 use mathlib.Core.Bool.{Bool, true, false}
 use mathlib.Core.List.{List, [], _∷_}
 use native.Mathlib.Omega.{arith}
-use lib.Dec.{eqb, ltb}
+use lib.Dec.{eqb}
 use lib.ListN.{length, getD, set, length-set}
 use lib.Seq.{getD-set-same, getD-set-other}
 use borrow.Author.Tests.{eqb-true, eqb-false, eq-eqb, ne-eqb, lt-ltb, le-ltb}
@@ -22,7 +22,7 @@ use Rattle.ticks.proofs.Lists.{less, same, more, order}
 use Rattle.ticks.proofs.Equality.{exact?, eqb-exact}
 use Rattle.ticks.proofs.Unique.{distinct-get}
 use Rattle.tables.specs.MethodWords.{idAt}
-use Rattle.loading.specs.Method.{Unlike, Columns, Added}
+use Rattle.loading.specs.Method.{Unlike, Added}
 use Rattle.sampling.specs.MethodColumns.{findFrom, columnOf, putId, Join, joinOf, joined, ColumnList, columnsOf, keyed, mappedFrom, mapped}
 
 -- P gives the id of a column before a step, Q after it

@@ -17,7 +17,7 @@ use Rattle.layout.proofs.Places.{Reading, Places, places, ids-length}
 use Rattle.lookup.specs.declared.Cursor.{Cursor}
 use Rattle.lookup.specs.Method.{startAt, Opens, Open}
 use Rattle.lookup.proofs.Leaf.{opens-reading, read-lawful, read-ids, read-ranges, ids-room}
-use Rattle.sampling.proofs.Bounds.{boundsAt, bounds-size}
+use Rattle.sampling.proofs.Bounds.{boundsAt}
 
 pub bounds-none : (s : List ℕ) (at : ℕ) → boundsAt s 0 at ≡ []
 unfolding rangesAt bounds
@@ -61,9 +61,6 @@ module _ (R : Rules) (s : List ℕ) (r : ℕ) (c : Cursor) (o : Opens R s r c) w
 
   pub opened-rising : Rising 0 (boundsAt s (c .left) (c .next))
   opened-rising = subst (Rising 0) opened-bounds (read-lawful R s r (o .v) (o .e) (o .g) reading .rising)
-
-  pub opened-bounds-count : length (boundsAt s (c .left) (c .next)) ≡ c .left
-  opened-bounds-count = bounds-size s (c .left) (c .next)
 
   pub opened-room : c .next + 28 * c .left ≤ length s
   opened-room = omega (arith, left-is, next-is, stand .whole)

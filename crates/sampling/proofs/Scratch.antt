@@ -2,13 +2,10 @@
 use Prim.Native.Nat.{ℕ, zero, suc, _*_, _≤_, _<_}
 use mathlib.Core.Path.{_≡_, refl}
 use native.Mathlib.Omega.{arith}
-use lib.ListN.{length, getD, replicate}
+use lib.ListN.{getD, replicate}
+use Rattle.codec.proofs.Writing.{zeros-length}
 use Rattle.tables.specs.MethodWords.{stride, mostRows, cell}
 use Rattle.sampling.specs.MethodTables.{TableRoom}
-
-pub zeros-length : (n : ℕ) → length (replicate {A = ℕ} n 0) ≡ n
-zeros-length zero = refl
-zeros-length (suc n) = omega (arith, zeros-length n)
 
 zero-at : (n c : ℕ) → getD (replicate {A = ℕ} n 0) c 0 ≡ 0
 zero-at zero c = refl

@@ -2,16 +2,15 @@
 -- follows the last one there is one row more for it (`last-facts`). The item after the last one is found word by word: a word that is not
 -- full takes one more, and a full one becomes 0 and hands it on, as w more in one word is one more in the word above it.
 use Prim.Native.Nat.{ℕ, suc, _+_, _*_, _^_, _≤_, _<_}
-use mathlib.Core.Path.{_≡_, refl, sym, ap, ap₂, _∙_, subst}
+use mathlib.Core.Path.{_≡_, refl, sym, ap, _∙_, subst}
 use mathlib.Core.Logic.{inl, inr}
 use mathlib.Core.Bool.{Bool, true, false}
 use mathlib.Core.List.{List}
 use native.Mathlib.Nat.{suc-mul, mul-le-mul-right}
 use native.Mathlib.Omega.{arith}
-use lib.Dec.{eqb, ltb}
+use lib.Dec.{eqb}
 use lib.ListN.{length}
 use borrow.Author.Tests.{eqb-false, eq-eqb, ne-eqb, lt-ltb, le-ltb}
-use Rattle.codec.specs.Total.{readAt}
 use Rattle.codec.specs.Words.{words3}
 use Rattle.codec.proofs.Total.{read-id3}
 use Rattle.ticks.specs.Calls.{idOf}
@@ -20,10 +19,11 @@ use Rattle.ticks.proofs.Lists.{order, less, same, more}
 use Rattle.ticks.proofs.Equality.{exact?, eqb-exact}
 use Rattle.ticks.proofs.LawfulResults.{highest-words}
 use Rattle.loading.specs.Method.{Stops, Begins, at-once, after-one, Ends, at-top, with-one}
-use Rattle.sampling.specs.declared.Bound.{Bound}
-use Rattle.sampling.specs.MethodRows.{boundOf, itemOf, InWords, boundRead, topWord, firstItem, topItem, putBound}
-use Rattle.sampling.specs.MethodRows.{RowList, rowsOf, rowMore, firstRow, after, lastRow}
-use Rattle.sampling.proofs.Columns.{Kept, Put}
+use Rattle.codec.specs.declared.Item.{Item}
+use Rattle.codec.specs.Ids.{itemOf, InWords, itemRead}
+use Rattle.sampling.specs.MethodRows.{boundOf, topWord, firstItem, topItem, putBound}
+use Rattle.sampling.specs.MethodRows.{RowList, rowsOf, firstRow, after, lastRow}
+use Rattle.sampling.proofs.Columns.{Kept}
 use Rattle.sampling.proofs.Bounds.{bound-put, put-size}
 use Rattle.tables.specs.MethodWords.{boundAt}
 
@@ -33,15 +33,6 @@ top-words = highest-words
 pub zero-words : itemOf firstItem ≡ 0
 unfolding words3
 zero-words = refl
-
--- an id of 24 bytes
-pub bound-item : (id : List ℕ) → length id ≡ 24 → itemOf (boundRead id) ≡ idOf 24 id
-unfolding boundRead idOf
-bound-item id h = read-id3 id 0 (omega arith)
-
-pub bound-is-read : (id : List ℕ) (x y z : ℕ) → x ≡ readAt id 8 0 → y ≡ readAt id 8 8 → z ≡ readAt id 8 16 → boundOf x y z ≡ boundRead id
-unfolding boundRead
-bound-is-read id x y z e f g = rw (e, f, g) refl
 
 -- Three words
 
@@ -122,7 +113,7 @@ module _ (x y z : ℕ) where
     unfolding after
     after-one-high h = rw (le-ltb z topWord l, le-ltb y topWord h, after)
 
-after-item : (b : Bound) → InWords b → itemOf (after b) ≡ suc (itemOf b)
+after-item : (b : Item) → InWords b → itemOf (after b) ≡ suc (itemOf b)
 after-item b w =
     elim (order (b .low) topWord) [
       | less h ↦ ap itemOf (sym (after-one-low (b .high) (b .middle) (b .low) h)) ∙ after-low (b .high) (b .middle) (b .low)
@@ -147,25 +138,25 @@ after-item b w =
 
 -- The first row
 
-pub first-at-once : (l u : List ℕ) (b : Bound) (t : Bool) → u ≡ putBound l 1 firstItem → t ≡ eqb (itemOf b) (itemOf firstItem) → t ≡ true
+pub first-at-once : (l u : List ℕ) (b : Item) (t : Bool) → u ≡ putBound l 1 firstItem → t ≡ eqb (itemOf b) (itemOf firstItem) → t ≡ true
     → rowsOf u 1 ≡ firstRow l b
 unfolding firstRow
 first-at-once l u b t e f g = rw (e, sym f ∙ g, firstRow)
 
-pub first-after-one : (l u : List ℕ) (b : Bound) (t : Bool) → u ≡ putBound l 1 firstItem → t ≡ eqb (itemOf b) (itemOf firstItem) → t ≡ false
+pub first-after-one : (l u : List ℕ) (b : Item) (t : Bool) → u ≡ putBound l 1 firstItem → t ≡ eqb (itemOf b) (itemOf firstItem) → t ≡ false
     → rowsOf u 2 ≡ firstRow l b
 unfolding firstRow
 first-after-one l u b t e f g = rw (e, sym f ∙ g, firstRow)
 
 -- what it comes to where there is room
-pub record FirstFacts (l : List ℕ) (b : Bound) (x : RowList) : Type 0 where
+pub record FirstFacts (l : List ℕ) (b : Item) (x : RowList) : Type 0 where
   pub begins : Begins (x .top) (itemOf b)
   pub zero-bound : boundAt (x .bounds) 1 ≡ 0
   pub size : length (x .bounds) ≡ length l
   pub low : x .top ≤ 2
   pub some : 1 ≤ x .top
 
-pub first-facts : (l : List ℕ) (b : Bound) → 5 < length l → FirstFacts l b (firstRow l b)
+pub first-facts : (l : List ℕ) (b : Item) → 5 < length l → FirstFacts l b (firstRow l b)
 first-facts l b h =
     let u = putBound l 1 firstItem in
     let z : boundAt u 1 ≡ 0 = bound-put l 1 firstItem (omega arith) .is ∙ zero-words in
@@ -202,30 +193,30 @@ module _ (A B C : ℕ → ℕ) (from top first last : ℕ) (xs ys : List ℕ) wh
 -- The last row
 
 -- an id that is not the top one is below it
-pub below-top : (b : Bound) (t : Bool) → t ≡ eqb (itemOf b) (itemOf topItem) → t ≡ false → InWords b → itemOf b < highest
+pub below-top : (b : Item) (t : Bool) → t ≡ eqb (itemOf b) (itemOf topItem) → t ≡ false → InWords b → itemOf b < highest
 below-top b t is h w = elim (order (itemOf b) highest) [
   | less e ↦ e
   | same e ↦ absurd (eqb-false (itemOf b) (itemOf topItem) (sym is ∙ h) (e ∙ sym top-words))
   | more e ↦ absurd (omega (arith, words-most (b .high) (b .middle) (b .low) (w .high) (w .middle) (w .low)))
 ]
 
-module _ (l : List ℕ) (top : ℕ) (b : Bound) (t : Bool) (is : t ≡ eqb (itemOf b) (itemOf topItem)) where
+module _ (l : List ℕ) (top : ℕ) (b : Item) (t : Bool) (is : t ≡ eqb (itemOf b) (itemOf topItem)) where
   pub last-none : t ≡ true → rowsOf l top ≡ lastRow (rowsOf l top) b
   unfolding lastRow
   last-none h = rw (sym is ∙ h, lastRow)
 
-  pub last-more : t ≡ false → (u : List ℕ) (d : Bound) → d ≡ after b → u ≡ putBound l (top + 1) d → rowsOf u (top + 1) ≡ lastRow (rowsOf l top) b
+  pub last-more : t ≡ false → (u : List ℕ) (d : Item) → d ≡ after b → u ≡ putBound l (top + 1) d → rowsOf u (top + 1) ≡ lastRow (rowsOf l top) b
   unfolding lastRow
   last-more h u d e f = rw (f, e, sym is ∙ h, lastRow)
 
 -- what it comes to where there is room
-pub record LastFacts (l : List ℕ) (top : ℕ) (b : Bound) (x : RowList) : Type 0 where
+pub record LastFacts (l : List ℕ) (top : ℕ) (b : Item) (x : RowList) : Type 0 where
   pub ends : Ends (boundAt (x .bounds)) top (itemOf b) (x .top)
   pub kept : Kept (boundAt l) (boundAt (x .bounds)) (suc top)
   pub most : x .top ≤ suc top
   pub low : itemOf b ≤ highest
 
-pub last-facts : (l : List ℕ) (top : ℕ) (b : Bound) → InWords b → 3 * top + 5 < length l → LastFacts l top b (lastRow (rowsOf l top) b)
+pub last-facts : (l : List ℕ) (top : ℕ) (b : Item) → InWords b → 3 * top + 5 < length l → LastFacts l top b (lastRow (rowsOf l top) b)
 last-facts l top b w h = elim (exact? eqb eqb-exact (itemOf b) (itemOf topItem)) [
   | inl e ↦
       subst (LastFacts l top b) (last-none l top b true (sym (eq-eqb (itemOf b) (itemOf topItem) e)) refl)

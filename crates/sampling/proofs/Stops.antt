@@ -13,7 +13,7 @@ use Rattle.ticks.proofs.Equality.{clash}
 use Rattle.ticks.proofs.Lists.{order, less, same, more}
 use Rattle.tables.specs.MethodWords.{mostRows}
 use Rattle.lookup.specs.declared.Cursor.{Cursor}
-use Rattle.sampling.specs.declared.Bound.{Bound}
+use Rattle.codec.specs.declared.Item.{Item}
 use Rattle.sampling.specs.MethodRows.{firstItem, topItem, RowList, rowsOf, stopped, firstRow, lastRow}
 use Rattle.sampling.specs.MethodStops.{atMost, rowsFit, allStopped, spanOf, spanned, spanStopped}
 
@@ -114,7 +114,7 @@ module _ (s : List ℕ) (c : Cursor) (t : List ℕ) (b bt : ℕ) (bounds : List 
 
 -- The rows of a span
 
-module _ (s : List ℕ) (c : Cursor) (first last : Bound) (bounds : List ℕ) where
+module _ (s : List ℕ) (c : Cursor) (first last : Item) (bounds : List ℕ) where
   module _ (q : Bool) (is : q ≡ rowsFit s c s 0 (c .next) (c .left + 3) (length bounds)) where
     pub spanned-none : q ≡ false → spanOf bounds 1 0 0 ≡ spanStopped s c first last bounds
     unfolding spanStopped

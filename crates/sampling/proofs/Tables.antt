@@ -21,10 +21,11 @@ use Rattle.loading.specs.Method.{Unlike, Columns, Added, Stops}
 use Rattle.loading.proofs.Sampling.{sampled-normalise, sampled-merge, sampled-project, sampled-raise, columns-later}
 use Rattle.lookup.specs.declared.Cursor.{Cursor}
 use Rattle.lookup.specs.Method.{Open}
-use Rattle.sampling.specs.declared.Bound.{Bound}
+use Rattle.codec.specs.declared.Item.{Item}
 use Rattle.sampling.specs.declared.Filled.{Filled}
 use Rattle.sampling.specs.MethodColumns.{Join, joinOf, ColumnList, columnsOf, joined, mapped}
-use Rattle.sampling.specs.MethodRows.{itemOf, InWords, firstItem, topItem, RowList, rowsOf, stopped, firstRow, lastRow}
+use Rattle.codec.specs.Ids.{itemOf, InWords}
+use Rattle.sampling.specs.MethodRows.{firstItem, topItem, RowList, rowsOf, stopped, firstRow, lastRow}
 use Rattle.sampling.specs.MethodStops.{atMost, allStopped, SpanList, spanOf, spanned, spanStopped}
 use Rattle.sampling.specs.MethodCells.{filled, columnSet}
 use Rattle.sampling.specs.MethodTables.{fits, Fits, filledIn, Table, tableOf, filledOf, noTable, noKeys, oneFilled, oneTable, twoFilled}
@@ -33,7 +34,7 @@ use Rattle.sampling.proofs.Columns.{Kept, mapped-added, joined-facts, a
 use Rattle.sampling.proofs.Bounds.{boundsAt, StopFacts, stopped-stops}
 use Rattle.sampling.proofs.Filling.{Fills, fillable, filled-fills, filled-length, column-set}
 use Rattle.sampling.proofs.Stops.{most-not, most-next, last-is, all-most, most-all, stopped-is, spanned-is}
-use Rattle.sampling.proofs.Scratch.{zeros-length}
+use Rattle.codec.proofs.Writing.{zeros-length}
 use Rattle.sampling.proofs.Opening.{opened-ids, opened-count, opened-bounds, ids-asked, bounds-asked, nothing-asked, bounds-none}
 use Rattle.sampling.proofs.Span.{top-words, zero-words, first-facts, zero-stays, last-facts}
 
@@ -182,7 +183,7 @@ module _ (s : List ℕ) (r : ℕ) (c : Cursor) (ids bounds' t : List ℕ) where
     unfolding oneTable
     one-some e = rw (sym is ∙ e, oneTable)
 
-  module _ (first last : Bound) (b : Bool) (is : b ≡ fits s r c r (c .left + 3) (length ids) (length bounds') (length t)) where
+  module _ (first last : Item) (b : Bool) (is : b ≡ fits s r c r (c .left + 3) (length ids) (length bounds') (length t)) where
     pub span-none : b ≡ false → noTable ids bounds' t ≡ spanTable s r c first last ids bounds' t
     unfolding spanTable
     span-none e = rw (sym is ∙ e, spanTable)
@@ -236,7 +237,7 @@ module _ (s : List ℕ) (r : ℕ) (c : Cursor) (ids bounds' t ids' : List ℕ) (
           boundWords = omega (arith, h .boundWords);
         }))
 
-    pub span-put : (first last : Bound) (u : List ℕ) (from top rows : ℕ) → spanOf u from top rows ≡ spanStopped s c first last bounds'
+    pub span-put : (first last : Item) (u : List ℕ) (from top rows : ℕ) → spanOf u from top rows ≡ spanStopped s c first last bounds'
         → top ≤ c .left + 2 → length u ≡ length bounds' → Fits s r c r (c .left + 3) (length ids) (length bounds') (length t) → (t' : List ℕ)
         → t' ≡ filledIn s r c keys' u from top t
         → tableOf ids' u t' (filledOf m rows) ≡ spanFilled s r c first last ids bounds' t
@@ -345,7 +346,7 @@ module _ (s : List ℕ) (r : ℕ) (c : Cursor) (o : Open s r c) where
   abbrev Bounds : List ℕ
   Bounds = bounds (decode s .ranges)
 
-  one-stops : (first last : Bound) (l : List ℕ) (from : ℕ) → itemOf first ≤ itemOf last → 3 * (from + c .left + 1) ≤ length l
+  one-stops : (first last : Item) (l : List ℕ) (from : ℕ) → itemOf first ≤ itemOf last → 3 * (from + c .left + 1) ≤ length l
       → StopFacts s (c .left) (c .next) s 0 (c .next) (itemOf first) (itemOf last) l from
       (stopped s (c .left) (c .next) s 0 (c .next) first last l from)
   one-stops first last l from h k =
@@ -438,7 +439,7 @@ raised-samples s r c p0 p1 tick ids bounds' t ids' bounds'' t' q e o room =
     })
 
 -- what one knowledge knows inside a span
-pub span-samples : (s : List ℕ) (r : ℕ) (c : Cursor) (first last : Bound) (ids bounds' t ids' bounds'' t' : List ℕ) (q : Filled)
+pub span-samples : (s : List ℕ) (r : ℕ) (c : Cursor) (first last : Item) (ids bounds' t ids' bounds'' t' : List ℕ) (q : Filled)
     → tableOf ids' bounds'' t' q ≡ spanTable s r c first last ids bounds' t → Open s r c → TableRoom r (c .left + 3) ids bounds' t
     → InWords last → itemOf first ≤ itemOf last
     → Samples ids' bounds'' t' r (c .left + 3) (knownInside (itemOf first) (itemOf last) (decode s)) q

@@ -1,50 +1,35 @@
 -- Rows at the bounds of ranges, as code puts them one after the other, in lists of any length. There is nothing to believe here: the
 -- laws say that for ranges whose bounds rise there is a row at the first item and at every later bound up to the last item.
-use Rattle.codec.specs.Prelude.{ℕ, zero, suc, _+_, _*_, _^_, _<_, true, false, List, eqb, ltb, leb}
+use Rattle.codec.specs.Prelude.{ℕ, zero, suc, _+_, _*_, true, false, List, eqb, ltb, leb}
 use lib.ListN.{set}
 use Rattle.codec.specs.Number.{beAt}
-use Rattle.codec.specs.Total.{readAt}
-use Rattle.codec.specs.Words.{words3}
+use Rattle.codec.specs.Ids.{itemOf}
 use Rattle.tables.specs.MethodWords.{boundAt}
-use Rattle.sampling.specs.declared.Bound.{Bound}
+use Rattle.codec.specs.declared.Item.{Item}
 use Rattle.sampling.specs.declared.Turn.{Turn}
 
-abbrev pub boundOf : ℕ → ℕ → ℕ → Bound
+abbrev pub boundOf : ℕ → ℕ → ℕ → Item
 boundOf x y z = record { high = x; middle = y; low = z }
-
--- a bound as an item
-abbrev pub itemOf : Bound → ℕ
-itemOf b = words3 (b .high) (b .middle) (b .low)
-
--- words of 64 bits
-pub record InWords (b : Bound) : Type 0 where
-  pub high : b .high < 2 ^ 64
-  pub middle : b .middle < 2 ^ 64
-  pub low : b .low < 2 ^ 64
-
--- an item id as bytes; a word that is not all there is 0
-unfoldable pub boundRead : List ℕ → Bound
-boundRead id = boundOf (readAt id 8 0) (readAt id 8 8) (readAt id 8 16)
 
 -- each word of the top item id
 abbrev pub topWord : ℕ
 topWord = 18446744073709551615
 
 -- the first item of all, and the top one
-abbrev pub firstItem : Bound
+abbrev pub firstItem : Item
 firstItem = boundOf 0 0 0
 
-abbrev pub topItem : Bound
+abbrev pub topItem : Item
 topItem = boundOf topWord topWord topWord
 
 -- Bounds in bytes
 
 -- bound n of the ranges from a place on
-unfoldable pub boundIn : List ℕ → ℕ → ℕ → Bound
+unfoldable pub boundIn : List ℕ → ℕ → ℕ → Item
 boundIn s at n = boundOf (beAt s 8 (at + 28 * n)) (beAt s 8 (at + 28 * n + 8)) (beAt s 8 (at + 28 * n + 16))
 
 -- a bound, and how many of two lists are passed with it
-abbrev pub turnOf : Bound → ℕ → ℕ → Turn
+abbrev pub turnOf : Item → ℕ → ℕ → Turn
 turnOf b i j = record { bound = b; first = i; second = j }
 
 -- the next of a bounds and b bounds, of which i and j are passed: the smaller one, the first list's where both are the same
@@ -64,7 +49,7 @@ turn s a at i t b bt j =
 -- Rows
 
 -- row k has a bound
-unfoldable pub putBound : List ℕ → ℕ → Bound → List ℕ
+unfoldable pub putBound : List ℕ → ℕ → Item → List ℕ
 putBound bounds k b = set (set (set bounds (3 * k) (b .high)) (3 * k + 1) (b .middle)) (3 * k + 2) (b .low)
 
 -- the bounds of rows, and the last row
@@ -76,11 +61,11 @@ abbrev pub rowsOf : List ℕ → ℕ → RowList
 rowsOf bounds top = record { bounds = bounds; top = top }
 
 -- a row more
-abbrev pub rowMore : RowList → Bound → RowList
+abbrev pub rowMore : RowList → Item → RowList
 rowMore x b = rowsOf (putBound (x .bounds) (x .top + 1) b) (x .top + 1)
 
 -- where the bound is above the last row's
-unfoldable pub grown : RowList → Bound → RowList
+unfoldable pub grown : RowList → Item → RowList
 grown x b = elim (ltb (boundAt (x .bounds) (x .top)) (itemOf b)) [ true ↦ rowMore x b | false ↦ x ]
 
 -- rows at the bounds that are left, up to the last item; n is their count
@@ -94,19 +79,19 @@ stoppedFrom s a at t b bt last (suc n) i j x =
     ]
 
 -- row `from` at the first item, and one for each later bound of the a ranges of s and the b ranges of t, up to the last item
-unfoldable pub stopped : List ℕ → ℕ → ℕ → List ℕ → ℕ → ℕ → Bound → Bound → List ℕ → ℕ → RowList
+unfoldable pub stopped : List ℕ → ℕ → ℕ → List ℕ → ℕ → ℕ → Item → Item → List ℕ → ℕ → RowList
 stopped s a at t b bt first last bounds from =
     stoppedFrom s a at t b bt (itemOf last) (a + b) 0 0 (rowsOf (putBound bounds from first) from)
 
 -- The ends of a span
 
 -- row 1 at the first item of all; and the row in which a span begins
-unfoldable pub firstRow : List ℕ → Bound → RowList
+unfoldable pub firstRow : List ℕ → Item → RowList
 firstRow bounds first =
     rowsOf (putBound bounds 1 firstItem) (elim (eqb (itemOf first) (itemOf firstItem)) [ true ↦ 1 | false ↦ 2 ])
 
 -- the item after one: a word that is full becomes 0, and the word above it takes one more
-unfoldable pub after : Bound → Bound
+unfoldable pub after : Item → Item
 after b =
     elim (ltb (b .low) topWord) [
       | true ↦ boundOf (b .high) (b .middle) (b .low + 1)
@@ -114,5 +99,5 @@ after b =
     ]
 
 -- a row more behind the last item of a span; nothing follows the top one
-unfoldable pub lastRow : RowList → Bound → RowList
+unfoldable pub lastRow : RowList → Item → RowList
 lastRow x last = elim (eqb (itemOf last) (itemOf topItem)) [ true ↦ x | false ↦ rowMore x (after last) ]

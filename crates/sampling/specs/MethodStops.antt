@@ -3,7 +3,7 @@
 use Rattle.codec.specs.Prelude.{ℕ, suc, _+_, _*_, Bool, true, false, List, [], _∷_, leb, length}
 use Rattle.tables.specs.MethodWords.{mostRows}
 use Rattle.lookup.specs.declared.Cursor.{Cursor}
-use Rattle.sampling.specs.declared.Bound.{Bound}
+use Rattle.codec.specs.declared.Item.{Item}
 use Rattle.sampling.specs.MethodRows.{firstItem, topItem, RowList, rowsOf, stopped, firstRow, lastRow}
 
 -- are all first numbers at most the second ones
@@ -36,14 +36,14 @@ abbrev pub spanOf : List ℕ → ℕ → ℕ → ℕ → SpanList
 spanOf bounds from top rows = record { bounds = bounds; from = from; top = top; rows = rows }
 
 -- the rows of a span, with one at the first item of all and one behind the span
-unfoldable pub spanned : List ℕ → Cursor → Bound → Bound → List ℕ → SpanList
+unfoldable pub spanned : List ℕ → Cursor → Item → Item → List ℕ → SpanList
 spanned s c first last bounds =
     let f = firstRow bounds first in
     let y = stopped s (c .left) (c .next) s 0 (c .next) first last (f .bounds) (f .top) in
     let z = lastRow y last in
     spanOf (z .bounds) (f .top) (y .top) (z .top)
 
-unfoldable pub spanStopped : List ℕ → Cursor → Bound → Bound → List ℕ → SpanList
+unfoldable pub spanStopped : List ℕ → Cursor → Item → Item → List ℕ → SpanList
 spanStopped s c first last bounds =
     elim (rowsFit s c s 0 (c .next) (c .left + 3) (length bounds)) [
       | true ↦ spanned s c first last bounds

@@ -7,7 +7,7 @@ use Rattle.layout.specs.MethodPlaces.{idsPlace}
 use Rattle.tables.specs.MethodWords.{stride, mostRows, cell, idAt, boundAt}
 use Rattle.tables.specs.MethodPlan.{Sampled}
 use Rattle.lookup.specs.declared.Cursor.{Cursor}
-use Rattle.sampling.specs.declared.Bound.{Bound}
+use Rattle.codec.specs.declared.Item.{Item}
 use Rattle.sampling.specs.declared.Filled.{Filled}
 use Rattle.sampling.specs.MethodColumns.{joined, mapped}
 use Rattle.sampling.specs.MethodRows.{firstItem, topItem, stopped}
@@ -99,13 +99,13 @@ twoTable s r start other m begin ids bounds t =
     ]
 
 -- one knowledge inside a span
-unfoldable pub spanFilled : List ℕ → ℕ → Cursor → Bound → Bound → List ℕ → List ℕ → List ℕ → Table
+unfoldable pub spanFilled : List ℕ → ℕ → Cursor → Item → Item → List ℕ → List ℕ → List ℕ → Table
 spanFilled s r start first last ids bounds t =
     let x = mapped s r ids 0 noKeys in
     let y = spanned s start first last bounds in
     tableOf (x .ids) (y .bounds) (filled s r start (x .keys) (y .bounds) (y .from) (y .top) t) (filledOf (x .count) (y .rows))
 
-unfoldable pub spanTable : List ℕ → ℕ → Cursor → Bound → Bound → List ℕ → List ℕ → List ℕ → Table
+unfoldable pub spanTable : List ℕ → ℕ → Cursor → Item → Item → List ℕ → List ℕ → List ℕ → Table
 spanTable s r start first last ids bounds t =
     elim (fits s r start r (start .left + 3) (length ids) (length bounds) (length t)) [
       | true ↦ spanFilled s r start first last ids bounds t

@@ -2,16 +2,11 @@
 // follow the steps of the code; the laws say that from bytes that the check accepts, with room, a table samples the ticks of its
 // operation. No function stands here.
 
-// An item id, as three words, the highest first.
-pub struct Bound {
-    pub high: u64,
-    pub middle: u64,
-    pub low: u64,
-}
+use codec::Item;
 
 // The next bound of two lists, and how many of the first list and of the second are passed with it.
 pub struct Turn {
-    pub bound: Bound,
+    pub bound: Item,
     pub first: u32,
     pub second: u32,
 }

@@ -74,7 +74,20 @@ computed : seen (p1 ∷ s1 ∷ []) (ranOnce smallRules start rangesFull)
       stores = bytesP ∷ bytesS ∷ [];
       batches = bytesBatch0 ∷ bytesBatch1 ∷ bytesBatch2 ∷ bytesBatch3 ∷ bytesBatch4 ∷ [];
     }
-unfolding beFrom beAt put ownFault readOr answer firstFault idsAt elementsAt vectorsAt afterVectors rangesAt decode opening beforeVectors beforeElements beforeRanges closing putFields putIds putElements putVectors putRanges encode bounds replicaMap vectorCount vectorList rangeList ended checked told parse repeat number same fields limit empty among judged replicaId tick element firstVector vector index range idOf wrongLength wrongSpan resultLines highest placeBy tickAt indexFrom vectorFound vectorAt known contains emptyKnowledge normalise larger merge knownInside project knownRaised raise lackingAt orElse lackingFrom lacking isNowhere covers coversFor largestAt largestFrom largest alikeFrom ownAlike tooManyReplicas tooManyRanges get at eqList eqPair insert sorted inSpan within sample build canonical rowIds stepIds usedIds vectorFrom vectorStepsFrom vectorSteps eqElement grown vectorsOf rangesOf indexed knowledgeOf normalOf eqRange eqKnowledge isNormal batchFields encodeBatch then uncovered ownAhead exhausted tooManyRecords storeLines liveContent wrongBrought editLines edited editReply makeLines makes makeReply applyLines applyReply kindOf recFields putRec putRecs find newStore storeFields encodeStore start outcome batchNumber putAt keep batchWith batchAfter batchFrom decodeBatch lacksChange carried validBatch ifValidBatch openBatch storeWith storeFrom decodeStore versionsIn validStore ifValid openStore replace nextTick changedRec changed selected made wins winnerOf joinFrom join applied recLength behind contentAt recAt whole front recsAt tagKept validRec validRecs emptyValue itemBytes tagBytes tagged p1 s1 spelled storesOf appliedTo replied noted ranOnce seen turnsFrom rangesFull rangesFullFlags rangesFullAnswers bytesP bytesS bytesBatch0 bytesBatch1 bytesBatch2 bytesBatch3 bytesBatch4
+unfolding beFrom beAt put ownFault readOr answer firstFault idsAt elementsAt vectorsAt afterVectors rangesAt decode opening beforeVectors
+    beforeElements beforeRanges closing putFields putIds putElements putVectors putRanges encode bounds replicaMap vectorCount vectorList
+    rangeList ended checked told parse repeat number same fields limit empty among judged replicaId tick element firstVector vector index
+    range idOf wrongLength wrongSpan resultLines highest placeBy tickAt indexFrom vectorFound vectorAt known contains emptyKnowledge
+    normalise larger merge knownInside project knownRaised raise lackingAt orElse lackingFrom lacking isNowhere covers coversFor largestAt
+    largestFrom largest alikeFrom ownAlike tooManyReplicas tooManyRanges get at eqList eqPair insert sorted inSpan within sample build
+    canonical rowIds stepIds usedIds vectorFrom vectorStepsFrom vectorSteps eqElement grown vectorsOf rangesOf indexed knowledgeOf normalOf
+    eqRange eqKnowledge isNormal batchFields encodeBatch then uncovered ownAhead exhausted tooManyRecords storeLines liveContent
+    wrongBrought editLines edited editReply makeLines makes makeReply applyLines applyReply kindOf recFields putRec putRecs find newStore
+    storeFields encodeStore start outcome batchNumber putAt keep batchWith batchAfter batchFrom decodeBatch lacksChange carried validBatch
+    ifValidBatch openBatch storeWith storeFrom decodeStore versionsIn validStore ifValid openStore replace nextTick changedRec changed
+    selected made wins winnerOf joinFrom join applied recLength behind contentAt recAt whole front recsAt tagKept validRec validRecs
+    emptyValue itemBytes tagBytes tagged p1 s1 spelled storesOf appliedTo replied noted ranOnce seen turnsFrom rangesFull rangesFullFlags
+    rangesFullAnswers bytesP bytesS bytesBatch0 bytesBatch1 bytesBatch2 bytesBatch3 bytesBatch4
 computed = refl
 
 -- which calls the machine is told were refused

@@ -2,15 +2,16 @@
 //
 // Every public function is total: where the ranges are not all in the bytes, or where there is no room, no row is put. Row k has its
 // bound in words 3k, 3k + 1 and 3k + 2 of `bounds`, the highest word first.
+use codec::Item;
 use lookup::Cursor;
-use sampling::Bound;
 use sampling::Turn;
 ghost use mathlib.Core.Path.{_≡_};
 ghost use Prim.Native.Nat.{_+_, _*_, _^_, _≤_, _<_};
 ghost use lib.ListN.{length, getD};
 ghost use Rattle.codec.specs.Number.{beAt};
 ghost use Rattle.ticks.specs.Meaning.{highest};
-ghost use Rattle.sampling.specs.MethodRows.{boundOf, itemOf, boundIn, turn};
+ghost use Rattle.codec.specs.Ids.{itemOf};
+ghost use Rattle.sampling.specs.MethodRows.{boundOf, boundIn, turn};
 ghost use Rattle.sampling.specs.MethodRows.{putBound, rowsOf, grown, stopped, firstRow, after, lastRow};
 ghost use Rattle.sampling.specs.MethodStops.{rowsFit, allStopped, spanOf, spanned, spanStopped};
 
@@ -50,7 +51,7 @@ fn eight(s: &[u8], at: usize) -> u64
 // ---- rows
 
 // Bound n of the ranges from a place on.
-fn bound_at(s: &[u8], at: usize, n: u32) -> Bound
+fn bound_at(s: &[u8], at: usize, n: u32) -> Item
     requires { ⌜ at + 28 * n + 24 ≤ length (now s) ⌝ }
     ensures { λ b. ⌜ b ≡ boundIn (now (s .entry)) at n ⌝ }
 {
@@ -58,7 +59,7 @@ fn bound_at(s: &[u8], at: usize, n: u32) -> Bound
     let high = eight(s, place);
     let middle = eight(s, place + 8);
     let low = eight(s, place + 16);
-    Bound { high, middle, low }
+    Item { high, middle, low }
 }
 
 // The next of a bounds and b bounds, of which i and j are passed: the smaller one, the first list's where both are the same.
@@ -99,7 +100,7 @@ fn next_bound(s: &[u8], a: u32, at: usize, i: u32, t: &[u8], b: u32, bt: usize, 
 }
 
 // The bound of a row.
-fn put_bound(bounds: &mut [u64], k: u32, b: Bound)
+fn put_bound(bounds: &mut [u64], k: u32, b: Item)
     requires { ⌜ 3 * k + 2 < length (now bounds) ⌝ }
     ensures { λ _. ⌜ (now (bounds .exit) ≡ putBound (now (bounds .entry)) k b) × (length (now (bounds .exit)) ≡ length (now (bounds .entry))) ⌝ }
 {
@@ -110,7 +111,7 @@ fn put_bound(bounds: &mut [u64], k: u32, b: Bound)
 }
 
 // A row after the last one for a bound that is above that row's. Gives the last row.
-fn next_row(bounds: &mut [u64], top: u32, b: Bound) -> u32
+fn next_row(bounds: &mut [u64], top: u32, b: Item) -> u32
     requires { ⌜ (3 * top + 5 < length (now bounds)) × (top + 1 < 2 ^ 32) ⌝ }
     ensures { λ r. ⌜ (rowsOf (now (bounds .exit)) r ≡ grown (rowsOf (now (bounds .entry)) top) b)
         × (top ≤ r) × (r ≤ top + 1) × (length (now (bounds .exit)) ≡ length (now (bounds .entry))) ⌝ }
@@ -135,8 +136,8 @@ fn stops(
     t: &[u8],
     b: u32,
     bt: usize,
-    first: Bound,
-    last: Bound,
+    first: Item,
+    last: Item,
     bounds: &mut [u64],
     from: u32,
 ) -> u32
@@ -166,7 +167,7 @@ fn stops(
 // ---- the ends of a span
 
 // The first row of a span that begins at an item: row 1, which is put at the first item of all, or the row after it.
-fn first_row(bounds: &mut [u64], first: Bound) -> u32
+fn first_row(bounds: &mut [u64], first: Item) -> u32
     requires { ⌜ 5 < length (now bounds) ⌝ }
     ensures { λ r. ⌜ (rowsOf (now (bounds .exit)) r ≡ firstRow (now (bounds .entry)) first)
         × (1 ≤ r) × (r ≤ 2) × (length (now (bounds .exit)) ≡ length (now (bounds .entry))) ⌝ }
@@ -174,7 +175,7 @@ fn first_row(bounds: &mut [u64], first: Bound) -> u32
     put_bound(
         bounds,
         1,
-        Bound {
+        Item {
             high: 0,
             middle: 0,
             low: 0,
@@ -187,25 +188,25 @@ fn first_row(bounds: &mut [u64], first: Bound) -> u32
 }
 
 // The item after one that is not the top one: a word that is full becomes 0, and the word above it takes one more.
-fn after_item(l0: u64, l1: u64, l2: u64) -> Bound
+fn after_item(l0: u64, l1: u64, l2: u64) -> Item
     requires { ⌜ itemOf (boundOf l0 l1 l2) < highest ⌝ }
     ensures { λ b. ⌜ b ≡ after (boundOf l0 l1 l2) ⌝ }
 {
     if l2 < TOP {
-        return Bound {
+        return Item {
             high: l0,
             middle: l1,
             low: l2 + 1,
         };
     }
     if l1 < TOP {
-        return Bound {
+        return Item {
             high: l0,
             middle: l1 + 1,
             low: 0,
         };
     }
-    Bound {
+    Item {
         high: l0 + 1,
         middle: 0,
         low: 0,
@@ -260,12 +261,12 @@ pub fn all_stops(s: &[u8], c: Cursor, t: &[u8], b: u32, bt: usize, bounds: &mut 
 {
     let n = c.left as usize + b as usize + 1;
     if rows_fit(s, c, t, b, bt, n, bounds.len()) {
-        let first = Bound {
+        let first = Item {
             high: 0,
             middle: 0,
             low: 0,
         };
-        let last = Bound {
+        let last = Item {
             high: TOP,
             middle: TOP,
             low: TOP,
@@ -277,7 +278,7 @@ pub fn all_stops(s: &[u8], c: Cursor, t: &[u8], b: u32, bt: usize, bounds: &mut 
 
 // The rows of a span, where there is room: row 1 at the first item of all, those from the first item of the span to its last one, and
 // one behind it.
-fn put_span(s: &[u8], c: Cursor, first: Bound, last: Bound, bounds: &mut [u64]) -> Spanned
+fn put_span(s: &[u8], c: Cursor, first: Item, last: Item, bounds: &mut [u64]) -> Spanned
     requires { ⌜ (c .next + 28 * c .left ≤ length (now s)) × (c .left + 4 < 2 ^ 32) × (3 * (c .left + 4) ≤ length (now bounds)) ⌝ }
     ensures { λ q. ⌜ (spanOf (now (bounds .exit)) (q .from) (q .top) (q .rows) ≡ spanned (now (s .entry)) c first last (now (bounds .entry)))
         × (q .top ≤ c .left + 2) × (length (now (bounds .exit)) ≡ length (now (bounds .entry))) ⌝ }
@@ -289,7 +290,7 @@ fn put_span(s: &[u8], c: Cursor, first: Bound, last: Bound, bounds: &mut [u64]) 
 }
 
 // The rows of a span. Gives the first and the last row of the span, and the last row.
-pub fn span_stops(s: &[u8], c: Cursor, first: Bound, last: Bound, bounds: &mut [u64]) -> Spanned
+pub fn span_stops(s: &[u8], c: Cursor, first: Item, last: Item, bounds: &mut [u64]) -> Spanned
     ensures { λ q. ⌜ (spanOf (now (bounds .exit)) (q .from) (q .top) (q .rows) ≡ spanStopped (now (s .entry)) c first last (now (bounds .entry)))
         × (q .top ≤ c .left + 2) × (length (now (bounds .exit)) ≡ length (now (bounds .entry))) ⌝ }
 {

@@ -11,7 +11,7 @@ use Rattle.ticks.specs.Meaning.{placeBy}
 use Rattle.ticks.proofs.Lists.{Among, less, same as equal, more, order, among-left, among-right, among-cases}
 use Rattle.ticks.proofs.Equality.{eqb-exact, exact?}
 use Rattle.tables.specs.MethodPlan.{same, rowsFrom, grownBy, firstsFrom, firstsOf, usedIn, columnsOf}
-use Rattle.tables.proofs.Clauses.{rows-zero, rows-suc, place-by-later, grown-by-old, grown-by-new, firsts-nil, firsts-cons, firsts-of}
+use Rattle.tables.proofs.Clauses.{rows-suc, place-by-later, grown-by-old, grown-by-new, firsts-nil, firsts-cons, firsts-of}
 use Rattle.tables.proofs.Alike.{same-agree, same-self}
 use Rattle.tables.proofs.Columns.{unused-zero, columns-of-in}
 
@@ -22,11 +22,6 @@ rows-among k (suc n) j h l =
       | inl e ↦ rw rows-suc (inl e)
       | inr d ↦ rw rows-suc (inr (rows-among (k + 1) n j (omega (arith, d)) (omega arith)))
     ]
-
-pub among-rows : (k n j : ℕ) → Among j (rowsFrom k n) → j < k + n
-among-rows k zero j m = absurd (rw rows-zero at m)
-among-rows k (suc n) j m =
-    ⊎-elim (λ e. omega arith) (λ o. omega (arith, among-rows (k + 1) n j o)) (rw rows-suc at m)
 
 module _ (eq : ℕ → ℕ → Bool) where
   -- one of the rows is alike to row k
@@ -66,12 +61,6 @@ module _ (eq : ℕ → ℕ → Bool) where
           ⊎-elim (λ o. inr o) (λ o. ⊎-elim (λ e. inl e) (λ a. absurd a) o)
           (among-cases j seen (k ∷ []) (rw (grown-by-new eq seen k l) at m))
 
-  pub firsts-only : (seen ks : List ℕ) (j : ℕ) → Among j (firstsFrom eq seen ks) → Among j ks ⊎ Among j seen
-  firsts-only seen [] j m = inr (rw firsts-nil at m)
-  firsts-only seen (k ∷ ks) j m =
-      ⊎-elim (λ o. inl (inr o)) (λ o. ⊎-elim (λ e. inl (inl e)) (λ a. inr a) (grown-by-only seen k j o))
-      (firsts-only (grownBy eq seen k) ks j (rw firsts-cons at m))
-
   module _ (self : (k : ℕ) → eq k k ≡ true) where
     pub grown-by-met : (seen : List ℕ) (k : ℕ) → Met k (grownBy eq seen k)
     grown-by-met seen k =
@@ -108,11 +97,6 @@ module _ (T : ℕ → ℕ → ℕ) (r n : ℕ) where
       (record { row = 0; among = firsts-keep (same T r) (same-self T r) (0 ∷ []) (rowsFrom 1 n) 0 (inl refl); alike = same-self T r 0 })
   firsts-of-met (suc k) h =
       rw firsts-of (firsts-met (same T r) (same-self T r) (0 ∷ []) (rowsFrom 1 n) (suc k) (rows-among 1 n (suc k) (omega arith) (omega arith)))
-
-  pub firsts-of-below : (j : ℕ) → Among j (firstsOf T r n) → j ≤ n
-  firsts-of-below j m =
-      ⊎-elim (λ o. omega (arith, among-rows 1 n j o)) (λ o. ⊎-elim (λ e. omega arith) (λ a. absurd a) o)
-      (firsts-only (same T r) (0 ∷ []) (rowsFrom 1 n) j (rw firsts-of at m))
 
   -- a column that is not in the plan has tick 0 in every row
   pub out-zero : (P : ℕ → ℕ) (k c : ℕ) → k ≤ n → c < r → (Among c (columnsOf P T r (firstsOf T r n)) → ⊥) → T k c ≡ 0

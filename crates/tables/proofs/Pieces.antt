@@ -2,11 +2,10 @@
 -- after the other are one list of bytes, which stands where the first begins. This list is what `encode` puts together: each
 -- field of a number is the piece with its bytes, the bytes of an id are those of its words, and the counts are the sizes of
 -- the plan. Past the end of the buffer no piece has room.
-use Prim.Native.Nat.{ℕ, zero, suc, _+_, _*_, _≤_, _<_}
+use Prim.Native.Nat.{ℕ, _+_, _*_, _≤_, _<_}
 use mathlib.Core.Path.{_≡_, refl, sym, ap, _∙_}
 use mathlib.Core.Bool.{Bool, true, false}
 use mathlib.Core.List.{List, [], _∷_, _++_, append-assoc}
-use native.Mathlib.Nat.{add-zero}
 use native.Mathlib.Omega.{arith}
 use lib.Dec.{eqb}
 use lib.ListN.{length, getD, length-append}
@@ -29,20 +28,6 @@ use Rattle.tables.proofs.Clauses.{numbersAt-over}
 use Rattle.tables.proofs.PageSizes.{ids-length, vectors-in-length, ranges-from-length, page-length, numbers-of-length}
 
 -- ---- pieces, one after the other
-
-pub laid-append : (d : List ℕ) (at : ℕ) (ps qs : List (List ℕ)) → laid d at (ps ++ qs) ≡ laid (laid d at ps) (at + length (joined ps)) qs
-unfolding laid joined
-laid-append d at [] qs = rw (add-zero at)
-laid-append d at (p ∷ ps) qs =
-    let e : at + length p + length (joined ps) ≡ at + length (p ++ joined ps) = omega (arith, length-append p (joined ps)) in
-    laid-append (placed d at p) (at + length p) ps qs
-    ∙ ap (λ (k : ℕ). laid (laid (placed d at p) (at + length p) ps) k qs) e
-
--- a buffer keeps its length
-pub laid-length : (d : List ℕ) (at : ℕ) (ps : List (List ℕ)) → length (laid d at ps) ≡ length d
-unfolding laid
-laid-length d at [] = refl
-laid-length d at (p ∷ ps) = laid-length (placed d at p) (at + length p) ps ∙ placed-length d at p
 
 pub laid-room : (d : List ℕ) (at : ℕ) (ps : List (List ℕ)) → at + length (joined ps) ≤ length d → laid d at ps ≡ placed d at (joined ps)
 unfolding laid joined

@@ -14,7 +14,8 @@ use Rattle.ticks.specs.Demand2.{SameVersions}
 use Rattle.ticks.proofs.Lists.{all-among, less, same, more, order, side-in, side-below, side-above, span-side}
 use Rattle.ticks.proofs.Equality.{clash}
 use Rattle.ticks.proofs.Unique.{known-replica, SameTicks, normal-unique}
-use Rattle.ticks.proofs.Operations.{known-normalise, normal-normalise, normalise-normal, known-merge, normal-merge, known-project-inside, known-project-below, known-project-above, normal-project, known-empty}
+use Rattle.ticks.proofs.Operations.{known-normalise, normal-normalise, normalise-normal, known-merge, normal-merge}
+use Rattle.ticks.proofs.Operations.{known-project-inside, known-project-below, known-project-above, normal-project, known-empty}
 
 -- Containment
 

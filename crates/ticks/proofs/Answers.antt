@@ -27,7 +27,8 @@ use Rattle.ticks.specs.declared.Lead.{Lead}
 use Rattle.ticks.specs.declared.Lead.the-variants as D
 use Rattle.ticks.specs.declared.Cover.{Cover}
 use Rattle.ticks.specs.declared.Cover.the-variants as E
-use Rattle.ticks.specs.Calls.{containNumber, containValue, leadNumber, leadValue, coverNumber, coverValue, idOf, readAs, wrongLength, wrongIds, wrongSpan, containFound, coverFound, containAnswer, leadOf, leadAnswer, coverAnswer}
+use Rattle.ticks.specs.Calls.{containNumber, containValue, leadNumber, leadValue, coverNumber, coverValue, idOf, readAs, wrongLength}
+use Rattle.ticks.specs.Calls.{wrongIds, wrongSpan, containFound, coverFound, containAnswer, leadOf, leadAnswer, coverAnswer}
 use Rattle.ticks.specs.Demand2.{Decides}
 use Rattle.ticks.specs.Answers.{RefusedWith, ContainSays, Difference, LeadSays, AtLeast, ProperIds, ProperSpan, CoverSays, Answers}
 use Rattle.ticks.proofs.Lists.{less, same, more, order}

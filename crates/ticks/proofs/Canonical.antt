@@ -1,5 +1,5 @@
--- The three laws of the one construction. Its ticks are f, where f changes at candidate bounds only and is 0 at other
--- ids; what it gives is a canonical table, with no premise; canonical tables with equal ticks are equal.
+-- The two laws of the one construction. Its ticks are f, where f changes at candidate bounds only and is 0 at other
+-- ids; what it gives is a canonical table, with no premise.
 use Prim.Native.Nat.{ℕ, suc, _≤_, _<_, _^_}
 use mathlib.Core.Path.{_≡_, refl, sym, _∙_, ap, ap₂, fun-ext}
 use mathlib.Core.Logic.{_⊎_, inl, inr, ⊎-elim}
@@ -10,8 +10,8 @@ use Rattle.ticks.specs.Meaning.{highest}
 use Rattle.ticks.specs.Table.{Row, Table, get, at, eqRow, sorted, within, sample, build, canonical}
 use Rattle.ticks.proofs.Lists.{Among, less, same, more, order, among-all, sorted-in, sorted-only, sorted-rising, within-in, within-only, rising-above}
 use Rattle.ticks.proofs.Equality.{exact?, exact-yes, exact-no, eqRow-exact}
-use Rattle.ticks.proofs.Steps.{Changing, at-nil, at-lt, at-ge, changing-weaken, before-steps, steps-unique, Steady, steady-flat}
-use Rattle.ticks.proofs.Rows.{RisingRow, row-unique, get-sample, sample-row}
+use Rattle.ticks.proofs.Steps.{Changing, at-nil, at-lt, at-ge, changing-weaken, before-steps, Steady, steady-flat}
+use Rattle.ticks.proofs.Rows.{RisingRow, get-sample, sample-row}
 
 pub highest-suc : suc highest ≡ 256 ^ 24
 unfolding highest
@@ -101,10 +101,6 @@ pub cuts-rising : (bounds : List ℕ) → Rising 1 (cuts bounds)
 unfolding cuts
 cuts-rising bounds = sorted-rising 1 (within 1 highest bounds) (λ x m. within-only 1 highest x bounds m .above)
 
-pub cuts-only : (bounds : List ℕ) (x : ℕ) → Among x (cuts bounds) → Among x bounds
-unfolding cuts
-cuts-only bounds x m = within-only 1 highest x bounds (sorted-only x (within 1 highest bounds) m) .among
-
 pub cuts-top : (bounds : List ℕ) → All (λ b. b ≤ highest) (cuts bounds)
 unfolding cuts
 cuts-top bounds = among-all (λ b. b ≤ highest) (sorted (within 1 highest bounds)) (λ x m. within-only 1 highest x bounds (sorted-only x (within 1 highest bounds) m) .below)
@@ -165,32 +161,3 @@ module _ (bounds ids : List ℕ) (f : ℕ → ℕ → ℕ) where
     unfolding tableTick rowAt
     canonical-ticks i p h m =
         ap (λ v. get v p) (canonical-row i h) ∙ get-sample (sorted ids) (f i) p (⊎-elim (λ a. inl (sorted-in p ids a)) (λ z. inr z) m)
-
-rows-at : (v : Row) (s : List (ℕ × Row)) (i : ℕ) → RisingRow 0 v → RisingRows s → RisingRow 0 (at v s i)
-rows-at v [] i r rs = rw at-nil r
-rows-at v (e ∷ s) i r rs =
-    elim (order i (e .0)) [
-      | less k ↦ rw (at-lt v e s i k) r
-      | same k ↦ rw (at-ge v e s i (omega arith)) (rows-at (e .1) s i (rs .0) (rs .1))
-      | more k ↦ rw (at-ge v e s i (omega arith)) (rows-at (e .1) s i (rs .0) (rs .1))
-    ]
-
--- a row of a canonical table at any item is rising
-pub table-row : (t : Table) (i : ℕ) → CanonicalTable t → RisingRow 0 (at (t .first) (t .rest) i)
-table-row t i c = rows-at (t .first) (t .rest) i (c .firstRow) (c .rows)
-
--- canonical tables with equal ticks are equal
-pub table-unique : (s t : Table) → CanonicalTable s → CanonicalTable t
-    → ((i p : ℕ) → i ≤ highest → tableTick s i p ≡ tableTick t i p) → s ≡ t
-unfolding tableTick
-table-unique s t c d f =
-    let same-row : (i : ℕ) → i ≤ highest → at (s .first) (s .rest) i ≡ at (t .first) (t .rest) i =
-    λ i h. row-unique 0 (at (s .first) (s .rest) i) (at (t .first) (t .rest) i) (table-row s i c) (table-row t i d) (λ p. f i p h) in
-    let e : s .first ≡ t .first =
-    sym (before-steps highest 1 (s .first) (s .first) (s .rest) 0 (c .changing) (omega arith))
-    ∙ same-row 0 (omega arith) ∙ before-steps highest 1 (t .first) (t .first) (t .rest) 0 (d .changing) (omega arith) in
-    let d′ : Changing highest 1 (s .first) (t .rest) = rw e (d .changing) in
-    let q : s .rest ≡ t .rest =
-    steps-unique highest 1 (s .first) (s .rest) (t .rest) (c .changing) d′
-    (λ i h k. same-row i k ∙ ap (λ v. at v (t .rest) i) (sym e)) in
-    λ i. record { first = e i; rest = q i }

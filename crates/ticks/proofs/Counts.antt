@@ -21,7 +21,9 @@ use Rattle.ticks.proofs.Vectors.{vector-unique, tick-none}
 use Rattle.ticks.proofs.Written.{changing-rising}
 use Rattle.ticks.proofs.Unique.{key-known, vectorAt-in-order, vectorAt-keys, replica-known, known-replica}
 use Rattle.ticks.proofs.Rebuilt.{ownSteps, own-vectorAt, FromZero, formed-from-zero}
-use Rattle.ticks.proofs.Operations.{known-steady, known-normalise, normal-normalise, known-merge, normal-merge, known-project, project-steady, known-project-inside, known-project-below, known-project-above, normal-project, known-raise-own, known-raise-other, normal-raise}
+use Rattle.ticks.proofs.Operations.{known-steady, known-normalise, normal-normalise, known-merge, normal-merge, known-project}
+use Rattle.ticks.proofs.Operations.{project-steady, known-project-inside, known-project-below, known-project-above, normal-project}
+use Rattle.ticks.proofs.Operations.{known-raise-own, known-raise-other, normal-raise}
 
 -- Counting
 

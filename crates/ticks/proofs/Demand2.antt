@@ -19,7 +19,8 @@ use Rattle.ticks.specs.Demand2.{SameVersions, NormalBytes, Normalised, M
 use Rattle.ticks.proofs.Operations.{normal-normalise, normal-merge}
 use Rattle.ticks.proofs.Algebra.{versions-unique, contains-normalise, contains-merge}
 use Rattle.ticks.proofs.LawfulResults.{lawful-normalise, lawful-merge}
-use Rattle.ticks.proofs.Replies.{read-lawful, ResultSays, over-replicas, over-ranges, result-given, NormaliseSays, normalise-own, normalise-result, normalise-says, MergeSays, merge-first, merge-second, merge-result, merge-says}
+use Rattle.ticks.proofs.Replies.{read-lawful, ResultSays, over-replicas, over-ranges, result-given, NormaliseSays, normalise-own}
+use Rattle.ticks.proofs.Replies.{normalise-result, normalise-says, MergeSays, merge-first, merge-second, merge-result, merge-says}
 use Rattle.ticks.proofs.Answers.{contain-says}
 use Rattle.codec.specs.Parsed.{Parsed, accepted, refused}
 

@@ -1,15 +1,16 @@
 -- What the lines of a call's table say where they do not hold: ids have their lengths, the span is no empty one, a
 -- knowledge was read, and a result is within the limits. Each is read off its definition by the outcome of its tests.
-use Prim.Native.Nat.{ℕ, _≤_}
+use Prim.Native.Nat.{ℕ, _≤_, _<_}
 use mathlib.Core.Path.{_≡_, refl}
 use mathlib.Core.Bool.{Bool, true, false, _||_}
 use mathlib.Core.List.{List}
+use mathlib.Core.Logic.{inl, inr}
 use native.Mathlib.Omega.{arith}
 use lib.Dec.{eqb, ltb}
 use lib.ListN.{length}
 use borrow.Author.Tests.{eqb-true, ltb-false, not-false}
 use Rattle.codec.specs.Number.{beAt}
-use Rattle.codec.proofs.Replies.{None}
+use Rattle.codec.proofs.Replies.{None, First}
 use Rattle.layout.specs.Knowledge.{Limits, Knowledge}
 use Rattle.ticks.specs.Operations.{tooManyReplicas, tooManyRanges}
 use Rattle.ticks.specs.Calls.{idOf, wrongLength, wrongSpan, resultLines}
@@ -43,3 +44,9 @@ pub record Within (L : Limits) (k : Knowledge) : Type 0 where
 pub within-lines : (L : Limits) (k : Knowledge) → None (resultLines L k) → Within L k
 unfolding resultLines
 within-lines L k h = record { replicas = h .0; ranges = h .1 .0 }
+
+-- a knowledge's own lines are 11 and 12
+pub result-number : (L : Limits) (k : Knowledge) (n : ℕ) → First n (resultLines L k) → n < 14
+unfolding resultLines
+result-number L k n (inl h) = omega (arith, h .1)
+result-number L k n (inr h) = elim (h .1) [ inl i ↦ omega (arith, i .1) | inr i ↦ absurd (i .1) ]

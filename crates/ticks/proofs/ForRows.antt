@@ -26,7 +26,7 @@ use Rattle.layout.specs.declared.VectorIndex.{VectorIndex}
 use Rattle.layout.specs.Knowledge.{Rules, Element, Range, Knowledge, All, Rising, bounds, Lawful}
 use Rattle.ticks.specs.Meaning.{known, tickAt, vectorAt, vectorOf}
 use Rattle.ticks.specs.MethodLookup.{keyOf, indexAt, firstIndex}
-use Rattle.ticks.specs.MethodRows.{lesser, weigh, leastOf, topTick, topFrom, alikeRows}
+use Rattle.ticks.specs.MethodRows.{lesser, leastWith, leastOf, topTick, topFrom, alikeRows}
 use Rattle.ticks.specs.Operations.{Lack, nowhere, here, lacking, isNowhere, covers, largestAt, largestFrom, largest, ownAlike, alikeFrom}
 use Rattle.ticks.specs.declared.Cover.the-variants as E
 use Rattle.ticks.specs.Calls.{wrongSpan, coverFound, coverAnswer}
@@ -84,7 +84,7 @@ module _ (a b : Knowledge) where
             ap₂ here s t
 
   -- nothing lacks at an item
-  pub record Fine (i : ℕ) : Type 0 where
+  pub record NothingLacks (i : ℕ) : Type 0 where
     pub known : (p : ℕ) → known b i p ≤ known a i p
 
   -- from an item up to a stop both stay as they are
@@ -92,7 +92,7 @@ module _ (a b : Knowledge) where
     pub first : (j p : ℕ) → i ≤ j → j < stop → known a j p ≡ known a i p
     pub second : (j p : ℕ) → i ≤ j → j < stop → known b j p ≡ known b i p
 
-  module _ (i stop hi : ℕ) (f : Fine i) (s : Still i stop) where
+  module _ (i stop hi : ℕ) (f : NothingLacks i) (s : Still i stop) where
     before : (j p : ℕ) → i ≤ j → j < stop → known b j p ≤ known a j p
     before j p h k = omega (arith, f .known p, s .first j p h k, s .second j p h k)
 
@@ -197,14 +197,14 @@ lesser-is (some q) p =
     ]
 
 module _ (level id : ℕ → ℕ) where
-  pub weigh-fine : (best : Option ℕ) (x : Element) → x .tick ≤ level (x .key .0) → weigh level id best x ≡ best
-  unfolding weigh
-  weigh-fine best x h = rw (le-leb (x .tick) (level (x .key .0)) h, weigh)
+  pub least-with-not : (best : Option ℕ) (x : Element) → x .tick ≤ level (x .key .0) → leastWith level id best x ≡ best
+  unfolding leastWith
+  least-with-not best x h = rw (le-leb (x .tick) (level (x .key .0)) h, leastWith)
 
-  pub weigh-lacks : (best : Option ℕ) (x : Element) → level (x .key .0) < x .tick
-      → weigh level id best x ≡ lesser best (id (x .key .0))
-  unfolding weigh
-  weigh-lacks best x h = rw (lt-leb (x .tick) (level (x .key .0)) h, weigh)
+  pub least-with-lacking : (best : Option ℕ) (x : Element) → level (x .key .0) < x .tick
+      → leastWith level id best x ≡ lesser best (id (x .key .0))
+  unfolding leastWith
+  least-with-lacking best x h = rw (lt-leb (x .tick) (level (x .key .0)) h, leastWith)
 
   -- what the search through elements says
   abbrev Says : Option ℕ → List Element → Option ℕ → Type 0
@@ -219,26 +219,26 @@ module _ (level id : ℕ → ℕ) where
   least-says (some p) [] = (inl refl, ((λ q e. omega (arith, some-same p q e)), tt))
   least-says best (x ∷ xs) =
       elim (order (level (x .key .0)) (x .tick)) [
-        | less h ↦ lacks h (leastOf level id (weigh level id best x) xs) (least-says (weigh level id best x) xs)
-        | same h ↦ fine (omega arith) (leastOf level id (weigh level id best x) xs) (least-says (weigh level id best x) xs)
-        | more h ↦ fine (omega arith) (leastOf level id (weigh level id best x) xs) (least-says (weigh level id best x) xs)
+        | less h ↦ lacks h (leastOf level id (leastWith level id best x) xs) (least-says (leastWith level id best x) xs)
+        | same h ↦ fine (omega arith) (leastOf level id (leastWith level id best x) xs) (least-says (leastWith level id best x) xs)
+        | more h ↦ fine (omega arith) (leastOf level id (leastWith level id best x) xs) (least-says (leastWith level id best x) xs)
       ]
     where
-      fine : x .tick ≤ level (x .key .0) → (r : Option ℕ) → Says (weigh level id best x) xs r → Says best (x ∷ xs) r
-      fine h none f = (sym (weigh-fine best x h) ∙ f .0, (h, f .1))
+      fine : x .tick ≤ level (x .key .0) → (r : Option ℕ) → Says (leastWith level id best x) xs r → Says best (x ∷ xs) r
+      fine h none f = (sym (least-with-not best x h) ∙ f .0, (h, f .1))
       fine h (some p) f =
-          let e = weigh-fine best x h in (
+          let e = least-with-not best x h in (
             ⊎-elim (λ g. inl (sym e ∙ g)) (λ w. inr (w .0, (inr (w .1 .0), w .1 .1))) (f .0),
             ((λ q g. f .1 .0 q (e ∙ g)), ((λ k. absurd (omega arith)), f .1 .1)),
           )
 
-      lacks : level (x .key .0) < x .tick → (r : Option ℕ) → Says (weigh level id best x) xs r → Says best (x ∷ xs) r
+      lacks : level (x .key .0) < x .tick → (r : Option ℕ) → Says (leastWith level id best x) xs r → Says best (x ∷ xs) r
       lacks h none f =
           let w = lesser-is best (id (x .key .0)) in
-          some-none (w .least) (sym (w .is) ∙ sym (weigh-lacks best x h) ∙ f .0)
+          some-none (w .least) (sym (w .is) ∙ sym (least-with-lacking best x h) ∙ f .0)
       lacks h (some p) f =
           let w = lesser-is best (id (x .key .0)) in
-          let e = weigh-lacks best x h ∙ w .is in
+          let e = least-with-lacking best x h ∙ w .is in
           let below : p ≤ w .least = f .1 .0 (w .least) e in (
             ⊎-elim
                 (λ g.
@@ -268,7 +268,7 @@ module _ (R : Rules) (a b : Knowledge) (l : Lawful R b) (i : ℕ) (level id : �
   said : (r : Option ℕ) → leastOf level id none (vectorAt b i) ≡ r → Says level id none (vectorAt b i) r
   said r e = subst (Says level id none (vectorAt b i)) e (least-says level id none (vectorAt b i))
 
-  pub least-none : leastOf level id none (vectorAt b i) ≡ none → Fine a b i
+  pub least-none : leastOf level id none (vectorAt b i) ≡ none → NothingLacks a b i
   least-none e =
       let f = said none e in
       record {

@@ -26,7 +26,9 @@ use Rattle.ticks.proofs.FirstUse.{met-count}
 use Rattle.ticks.proofs.Written.{known-in, known-out}
 use Rattle.ticks.proofs.Rebuilt.{used-index, order-first}
 use Rattle.ticks.proofs.Unique.{all-get, get-in-order, found-all, key-known, vector-bound, replica-known}
-use Rattle.ticks.proofs.Operations.{known-normalise, normal-normalise, known-merge, normal-merge, known-project-inside, known-project-below, known-project-above, normal-project, known-raise-own, known-raise-other, normal-raise}
+use Rattle.ticks.proofs.Operations.{known-normalise, normal-normalise, known-merge, normal-merge, known-project-inside}
+use Rattle.ticks.proofs.Operations.{known-project-below, known-project-above, normal-project, known-raise-own, known-raise-other}
+use Rattle.ticks.proofs.Operations.{normal-raise}
 use Rattle.ticks.proofs.Counts.{normalise-map, merge-map, project-map, raise-map, replicas-fit, ranges-fit, normalise-never-11, project-never-11}
 
 -- The top item id and 24 bytes

@@ -24,7 +24,9 @@ pub record NormalForms : Type 0 where
   pub keys-fall : normalise keysFall ≡ knowledge (3 ∷ 5 ∷ []) ([] ∷ (el 0 7 ∷ el 1 4 ∷ []) ∷ []) (ran 0 1 ∷ [])
 
 pub normal-forms : NormalForms
-unfolding tickZero unusedReplica unusedVector equalVectors emptyTwice equalNeighbours firstAbove laterFirst replicasFall keysFall bounds highest placeBy tickAt indexFrom vectorFound vectorAt known get eqList eqPair insert sorted inSpan within sample build canonical rowIds stepIds usedIds vectorFrom vectorStepsFrom vectorSteps eqElement grown vectorsOf rangesOf indexed knowledgeOf normalOf normalise
+unfolding tickZero unusedReplica unusedVector equalVectors emptyTwice equalNeighbours firstAbove laterFirst replicasFall keysFall bounds
+    highest placeBy tickAt indexFrom vectorFound vectorAt known get eqList eqPair insert sorted inSpan within sample build canonical rowIds
+    stepIds usedIds vectorFrom vectorStepsFrom vectorSteps eqElement grown vectorsOf rangesOf indexed knowledgeOf normalOf normalise
 normal-forms = record {
   tick-zero = refl;
   unused-replica = refl;

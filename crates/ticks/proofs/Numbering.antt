@@ -18,9 +18,6 @@ use Rattle.ticks.proofs.Equality.{eqVector-exact, place-le, place-found
 use Rattle.ticks.proofs.Steps.{stepBounds, Changing, at-nil, at-lt, at-ge}
 use Rattle.ticks.proofs.FirstUse.{FirstUse}
 
-abbrev Vector : Type 0
-Vector = List Element
-
 -- no two vectors are equal
 pub record Apart (vs : List (List Element)) : Type 0 where
   pub apart : (y z : ℕ) → y < z → z < length vs → getD vs y [] ≡ getD vs z [] → ⊥

@@ -199,7 +199,9 @@ unfolding emptyKnowledge
 known-empty i p = known-out emptyKnowledge i p (λ m. m)
 
 normalise-empty : normalise emptyKnowledge ≡ emptyKnowledge
-unfolding emptyKnowledge highest placeBy tickAt indexFrom vectorFound vectorAt known get eqList eqPair insert sorted inSpan within sample build canonical rowIds stepIds usedIds vectorFrom vectorStepsFrom vectorSteps eqElement grown vectorsOf rangesOf indexed knowledgeOf normalOf normalise bounds
+unfolding emptyKnowledge highest placeBy tickAt indexFrom vectorFound vectorAt known get eqList eqPair insert sorted inSpan within sample
+    build canonical rowIds stepIds usedIds vectorFrom vectorStepsFrom vectorSteps eqElement grown vectorsOf rangesOf indexed knowledgeOf
+    normalOf normalise bounds
 normalise-empty = refl
 
 pub normal-empty : Normal emptyKnowledge

@@ -14,7 +14,8 @@ use Rattle.ticks.specs.Written.{rangeWith, eqVector, vectorNumber, grown
 use Rattle.ticks.proofs.Lists.{Among, less, same, more, order}
 use Rattle.ticks.proofs.Equality.{eqVector-exact, place-found, place-first}
 use Rattle.ticks.proofs.Steps.{Changing, at-nil, at-lt, at-ge}
-use Rattle.ticks.proofs.Numbering.{Apart, number-le, grown-old, grown-new, vectors-nil, vectors-cons, ranges-nil, ranges-cons, index-nil, index-lt, index-ge, indices-length, Differ, found-none, found-some}
+use Rattle.ticks.proofs.Numbering.{Apart, number-le, grown-old, grown-new, vectors-nil, vectors-cons, ranges-nil, ranges-cons}
+use Rattle.ticks.proofs.Numbering.{index-nil, index-lt, index-ge, indices-length, Differ, found-none, found-some}
 use Rattle.ticks.proofs.FirstUse.{FirstUse, met-most, first-use}
 use Rattle.ticks.proofs.Written.{place-among}
 

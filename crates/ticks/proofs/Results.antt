@@ -19,7 +19,9 @@ use Rattle.ticks.proofs.Equality.{clash}
 use Rattle.ticks.proofs.Operations.{normalise-normal, normal-project, known-project}
 use Rattle.ticks.proofs.Counts.{replicas-fit, ranges-fit}
 use Rattle.ticks.proofs.LawfulResults.{lawful-project}
-use Rattle.ticks.proofs.Replies.{read-lawful, ResultSays, over-replicas, over-ranges, result-given, NormaliseSays, normalise-own, normalise-result, normalise-says, ProjectSays, project-own, project-17, project-result, project-says}
+use Rattle.ticks.proofs.Replies.{read-lawful, ResultSays, over-replicas, over-ranges, result-given, NormaliseSays, normalise-own}
+use Rattle.ticks.proofs.Replies.{normalise-result, normalise-says, ProjectSays, project-own, project-17, project-result}
+use Rattle.ticks.proofs.Replies.{project-says}
 use Rattle.ticks.proofs.Demand2.{gave, accepted-same, not-refused, Given, given-result, given-normal, demand2}
 use Rattle.codec.specs.Parsed.{accepted}
 

@@ -17,7 +17,8 @@ use Rattle.ticks.proofs.Lists.{Among, less, same, more, order}
 use Rattle.ticks.proofs.Equality.{eqb-exact, exact?, place-same, place-other}
 use Rattle.ticks.proofs.Steps.{stepBounds, Changing}
 use Rattle.ticks.proofs.Vectors.{ElementsInOrder}
-use Rattle.ticks.proofs.Numbering.{Apart, vectors-cons, vectors-length, vectors-keep, vectors-number, vectors-apart, vectors-all, ranges-cons, ranges-bounds, ranges-first, ranges-at, indices-length, ranges-differ, found-none}
+use Rattle.ticks.proofs.Numbering.{Apart, vectors-cons, vectors-length, vectors-keep, vectors-number, vectors-apart, vectors-all}
+use Rattle.ticks.proofs.Numbering.{ranges-cons, ranges-bounds, ranges-first, ranges-at, indices-length, ranges-differ, found-none}
 use Rattle.ticks.proofs.FirstUse.{FirstUse, first-below, first-used, first-order}
 
 -- Places in a replica map

@@ -14,13 +14,13 @@ lesser none p = some p
 lesser (some q) p = elim (ltb p q) [ true ↦ some p | false ↦ some q ]
 
 -- the least id so far with the id of one element, where its tick is above the level of its key
-unfoldable pub weigh : (ℕ → ℕ) → (ℕ → ℕ) → Option ℕ → Element → Option ℕ
-weigh level id best x = elim (leb (x .tick) (level (x .key .0))) [ true ↦ best | false ↦ lesser best (id (x .key .0)) ]
+unfoldable pub leastWith : (ℕ → ℕ) → (ℕ → ℕ) → Option ℕ → Element → Option ℕ
+leastWith level id best x = elim (leb (x .tick) (level (x .key .0))) [ true ↦ best | false ↦ lesser best (id (x .key .0)) ]
 
 -- the same over elements
 unfoldable pub leastOf : (ℕ → ℕ) → (ℕ → ℕ) → Option ℕ → List Element → Option ℕ
 leastOf level id best [] = best
-leastOf level id best (x ∷ xs) = leastOf level id (weigh level id best x) xs
+leastOf level id best (x ∷ xs) = leastOf level id (leastWith level id best x) xs
 
 -- The largest tick
 

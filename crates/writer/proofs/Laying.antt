@@ -29,11 +29,6 @@ module _ (d : List ℕ) (at : ℕ) (ps : List (List ℕ)) where
   pub left-past : length d < at → Wrote d at ps d at
   left-past h = record { is = λ ts. laid-past d at (ps ++ ts) h ∙ sym (laid-past d at ts h) }
 
-  -- at the end all is written
-  pub wrote-all : (u : List ℕ) (p : ℕ) → Wrote d at ps u p → u ≡ laid d at ps
-  unfolding laid
-  wrote-all u p w = sym (ap (laid d at) (sym (append-nil ps)) ∙ w .is [])
-
   -- the first part of what is left is written
   pub left-on : (u : List ℕ) (p : ℕ) (qs xs rs : List (List ℕ)) → Left d at ps u p qs → qs ≡ xs ++ rs
       → (w : List ℕ) (q : ℕ) → Wrote u p xs w q → Left d at ps w q rs

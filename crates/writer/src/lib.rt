@@ -10,8 +10,7 @@ ghost use mathlib.Core.List.{[], _∷_};
 ghost use Prim.Native.Nat.{_+_, _*_, _^_, _≤_, _<_};
 ghost use lib.ListN.{length, getD};
 ghost use Rattle.codec.specs.Part.{placed, bytes};
-ghost use Rattle.ticks.specs.Meaning.{emptyKnowledge};
-ghost use Rattle.layout.specs.Knowledge.{encode, putFields, opening, beforeVectors, beforeRanges, closing};
+ghost use Rattle.layout.specs.Knowledge.{putFields, opening, beforeVectors, beforeRanges, closing};
 ghost use Rattle.tables.specs.MethodWords.{cell, numbersAt};
 ghost use Rattle.tables.specs.MethodPlan.{lengthOf, elementsFrom};
 ghost use Rattle.tables.specs.MethodPieces.{laid, idPieces, elementPieces, vectorPieces, vectorsPieces, rangePieces, rangesPieces, pagePieces};
@@ -344,31 +343,4 @@ pub fn write(
     let ranges = write_vector_list(out, vectors, t, cols, m, firsts, z.vectors);
     let end = write_range_list(out, ranges, bounds, numbers, n, z.ranges);
     write_closing(out, end);
-}
-
-// ---- the empty knowledge
-
-// The bytes of the empty knowledge, 113 of them, where there is room.
-pub fn write_empty(out: &mut [u8], at: usize)
-    ensures { λ _. ⌜ now (out .exit) ≡ placed (now (out .entry)) at (encode emptyKnowledge) ⌝ }
-{
-    let mut bytes = [0u8; 113];
-    bytes[3] = 5;
-    bytes[11] = 1;
-    bytes[19] = 5;
-    bytes[22] = 16;
-    bytes[30] = 24;
-    bytes[33] = 16;
-    bytes[36] = 24;
-    bytes[39] = 1;
-    bytes[43] = 21;
-    bytes[47] = 1;
-    bytes[51] = 1;
-    bytes[59] = 23;
-    bytes[63] = 1;
-    bytes[67] = 22;
-    bytes[71] = 1;
-    bytes[107] = 25;
-    bytes[108] = 1;
-    codec::copy_part(&bytes, 0, 113, out, at);
 }

@@ -135,7 +135,7 @@ pub fn batches_broken_twice() -> Vec<Broken> {
 }
 
 fn store_breaches() -> Vec<Breach<Store>> {
-    let values: [(&str, fn(&mut Store)); 3] = [
+    let values: [(&str, OnValue<Store>); 3] = [
         ("the own tick unlike in one range", |store| unlike(store, 1)),
         ("the own tick missing in one range", |store| unlike(store, -9000)),
         ("another's id for the own", |store| store.own = replica_id(2)),
@@ -161,7 +161,7 @@ fn store_breaches() -> Vec<Breach<Store>> {
 }
 
 fn batch_breaches() -> Vec<Breach<Batch>> {
-    let values: [(&str, fn(&mut Batch)); 9] = [
+    let values: [(&str, OnValue<Batch>); 9] = [
         ("learned outside, all of it", |batch| learn(batch, item_id(0), LAST_ITEM)),
         ("learned one id before", |batch| learn(batch, before(&batch.first), batch.last)),
         ("learned one id behind", |batch| learn(batch, batch.first, behind(&batch.last))),
@@ -237,6 +237,9 @@ fn unlike(store: &mut Store, more: i64) {
     });
     store.records.retain(|record| record.change.0 != own && record.create.0 != own);
 }
+
+/// A change of a value.
+type OnValue<T> = fn(&mut T);
 
 type OnBytes = fn(&mut Vec<u8>);
 type OnKnowledge = fn(&mut Knowledge);

@@ -273,7 +273,10 @@ fn large(random: &mut SplitMix64, replicas: usize, bounds: std::ops::Range<usize
     let tick = |random: &mut SplitMix64| random.below(3) as u64 * random.below(50) as u64;
     let mut vector = |vector: usize| -> Vec<(u32, u64)> {
         let keys = if vector == 0 { 0 } else { replicas.len() as u32 };
-        (0..keys).map(|key| (key, tick(random))).filter(|(key, _)| key % 5 != 4 || vector % often == 0).collect()
+        (0..keys)
+            .map(|key| (key, tick(random)))
+            .filter(|(key, _)| key % 5 != 4 || vector.is_multiple_of(often))
+            .collect()
     };
     let vectors: Vec<Vec<_>> = (0..=RANGES).map(&mut vector).collect();
     let ranges = bounds.into_iter().map(|bound| (item_id(bound), random.below(RANGES + 1) as u32)).collect();

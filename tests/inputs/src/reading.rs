@@ -4,6 +4,7 @@ use crate::batches;
 use crate::breaches::{self, sound_batch, sound_store};
 use crate::calls::faulty;
 use crate::edits::{boundary_values, disturb, set_a_field};
+use crate::families;
 use crate::knowledge::{Knowledge, Written, item_id, replica_id};
 use crate::meaning::{ItemId, item_before, next_item};
 use crate::pairs;
@@ -112,8 +113,11 @@ fn every_shape(visit: &mut Visit) -> Result<(), String> {
     Ok(())
 }
 
+/// Takes a store, a batch and an item that both have.
+type VisitTie<'a> = dyn FnMut(&[u8], &[u8], &ItemId) -> Result<(), String> + 'a;
+
 /// Hands out stores and batches with a record of one item on both sides, with ticks and replicas in every order.
-pub fn ties(visit: &mut dyn FnMut(&[u8], &[u8], &ItemId) -> Result<(), String>) -> Result<(), String> {
+pub fn ties(visit: &mut VisitTie) -> Result<(), String> {
     const TICKS: [u64; 5] = [1, 2, 256, 1 << 32, i64::MAX as u64];
     let mut first_byte = [[7; 16]; 2];
     first_byte[1][0] = 8;
@@ -224,10 +228,7 @@ fn damaged(visit: &mut Visit) -> Result<(), String> {
 }
 
 /// Hands out written bytes with each damage in turn.
-pub fn each_damage(
-    written: &Written,
-    visit: &mut dyn FnMut(&'static str, &[u8]) -> Result<(), String>,
-) -> Result<(), String> {
+pub fn each_damage(written: &Written, visit: &mut families::Visit) -> Result<(), String> {
     let mut bytes = written.bytes.clone();
     for n in 0..=bytes.len() {
         visit("prefixes", &bytes[..n])?;

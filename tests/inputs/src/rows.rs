@@ -10,17 +10,16 @@ use crate::comparing::{self, Comparing};
 use crate::reading::{self, Reading};
 use crate::writing::{self, Writing};
 
+/// Takes a call of a row with the name of its family. An error ends the run.
+pub type Visit<'a, R> = dyn FnMut(&'static str, <R as Row>::Call<'_>) -> Result<(), String> + 'a;
+
 /// A row of calls: some are the same in every run, and as many random ones follow as are asked for.
 pub trait Row: 'static {
     type Call<'a>: Copy + Debug + Hash;
 
-    fn fixed(visit: &mut dyn FnMut(&'static str, Self::Call<'_>) -> Result<(), String>) -> Result<(), String>;
+    fn fixed(visit: &mut Visit<Self>) -> Result<(), String>;
 
-    fn random(
-        seed: u64,
-        count: usize,
-        visit: &mut dyn FnMut(&'static str, Self::Call<'_>) -> Result<(), String>,
-    ) -> Result<(), String>;
+    fn random(seed: u64, count: usize, visit: &mut Visit<Self>) -> Result<(), String>;
 
     /// How many calls are the same in every run.
     fn fixed_calls() -> usize;

@@ -3,6 +3,7 @@
 use inputs::{Call, CallInput, Lookups, Plan};
 
 use crate::one;
+use crate::row::{self, Compare, Compared, Show, Shown};
 use crate::tally::{Ends, Outcome, Tally};
 
 /// An engine's calls. Each gives 0 and sets the value, or gives the number of the refusal and leaves the value alone.
@@ -21,17 +22,34 @@ const ENDS: [Ends; 3] = [
 /// Compares the engine with the reference on all calls of the plan. The error says where they first differ, or what never
 /// occurred.
 pub fn run(plan: &Plan, engine: &impl Engine) -> Result<Tally, String> {
-    let mut tally = Tally::default();
-    plan.try_for_each_call::<Lookups>(|input| {
-        let (call, outcome) = compare(&input, engine).map_err(|difference| describe(plan, &input, &difference))?;
-        tally.add(call, outcome);
-        Ok(())
-    })?;
-    tally.complete(&ENDS)
+    row::run::<Lookups, _>(plan, engine)
+}
+
+impl<E: Engine> Compare<E> for Lookups {
+    const ENDS: &'static [Ends] = &ENDS;
+
+    fn compare(input: &CallInput<Call>, engine: &E, _: &mut [u8]) -> Compared {
+        compare(input, engine)
+    }
+}
+
+impl Show for Lookups {
+    fn show<'a>(call: &'a Call<'_>) -> Shown<'a> {
+        let (call, arguments, also) = match *call {
+            Call::Contain { knowledge, item, replica, tick } => {
+                ("contain", vec![knowledge, item, replica], format!(", tick {tick}"))
+            }
+            Call::Lead { first, second, item, replica } => ("lead", vec![first, second, item, replica], String::new()),
+            Call::Cover { first, second, first_item, last_item } => {
+                ("cover", vec![first, second, first_item, last_item], String::new())
+            }
+        };
+        Shown { call, arguments, also }
+    }
 }
 
 /// Compares the two on one call, and gives its name and how both say that it ends.
-fn compare(input: &CallInput<Call>, engine: &impl Engine) -> Result<(&'static str, Outcome), String> {
+fn compare(input: &CallInput<Call>, engine: &impl Engine) -> Compared {
     let yes = |answer: bool| if answer { "yes" } else { "no" };
     match input.call {
         Call::Contain { knowledge, item, replica, tick } => {
@@ -70,27 +88,6 @@ fn compare(input: &CallInput<Call>, engine: &impl Engine) -> Result<(&'static st
             Ok(("cover", Outcome::of(answer.map(yes), first)))
         }
     }
-}
-
-fn describe(plan: &Plan, input: &CallInput<Call>, difference: &str) -> String {
-    let (call, arguments, tick) = match input.call {
-        Call::Contain { knowledge, item, replica, tick } => ("contain", vec![knowledge, item, replica], Some(tick)),
-        Call::Lead { first, second, item, replica } => ("lead", vec![first, second, item, replica], None),
-        Call::Cover { first, second, first_item, last_item } => {
-            ("cover", vec![first, second, first_item, last_item], None)
-        }
-    };
-    let mut text = format!(
-        "{call}: {difference}\n  seed {}, call {} of {} ({})",
-        plan.seed, input.place, plan.inputs, input.family
-    );
-    for argument in arguments {
-        text += &format!("\n  {}", one::hex(argument));
-    }
-    if let Some(tick) = tick {
-        text += &format!("\n  tick {tick}");
-    }
-    text
 }
 
 #[cfg(test)]

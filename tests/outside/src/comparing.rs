@@ -5,11 +5,11 @@ pub mod triples;
 
 use std::cell::RefCell;
 
-use inputs::{ALL, CallInput, Comparing, Comparings, Knowledge, LARGEST_COMPARISON, Plan, Room};
+use inputs::{ALL, Comparing, Comparings, Knowledge, LARGEST_COMPARISON, Plan, Room};
 
 use crate::buffer;
 use crate::calls;
-use crate::one;
+use crate::row::{self, Show, Shown};
 use crate::tally::Outcome;
 use crate::writing::in_room;
 pub use seen::Seen;
@@ -35,7 +35,7 @@ pub fn run(plan: &Plan, engine: &(impl Engine + calls::Engine)) -> Result<Seen, 
         let Comparing { first, second, .. } = input.call;
         let answer = compare(input.place, input.call, engine, &mut longest)
             .and_then(|answer| as_cover_says([first, second], answer, engine).map(|()| answer))
-            .map_err(|difference| describe(plan, &input, &difference))?;
+            .map_err(|difference| row::describe::<Comparings>(plan, &input, &difference))?;
         seen.add([first, second], answer)
     })?;
     seen.complete()
@@ -86,12 +86,15 @@ fn as_cover_says([first, second]: [&[u8]; 2], answer: Answer, engine: &impl call
     Ok(())
 }
 
+/// Two knowledges, and their order or the number of the refusal.
+type Pair<'a> = (&'a [u8], &'a [u8], Result<u32, u32>);
+
 /// Compares engine and reference in buffers of every length from 0 to that of the longest result, on a pair of each order, and on
 /// pairs with a fault in either knowledge and in both. Gives how many there were.
 pub fn every_room(engine: &impl Engine) -> Result<usize, String> {
     let [none, a, b] = [Knowledge::smallest(), Knowledge::a(), Knowledge::b()].map(|knowledge| knowledge.bytes());
     let (cut, longer) = (&a[..a.len() - 1], &[&a[..], &[0]].concat()[..]);
-    let pairs: [(&[u8], &[u8], Result<u32, u32>); 7] = [
+    let pairs: [Pair; 7] = [
         (&a, &a, Ok(0)),
         (&none, &a, Ok(1)),
         (&a, &none, Ok(2)),
@@ -117,17 +120,10 @@ pub fn every_room(engine: &impl Engine) -> Result<usize, String> {
     Ok(count)
 }
 
-fn describe(plan: &Plan, input: &CallInput<Comparing>, difference: &str) -> String {
-    let Comparing { first, second, room } = input.call;
-    format!(
-        "compare: {difference}\n  seed {}, pair {} of {} ({}), buffer {room:?}\n  {}\n  {}",
-        plan.seed,
-        input.place,
-        plan.inputs,
-        input.family,
-        one::hex(first),
-        one::hex(second)
-    )
+impl Show for Comparings {
+    fn show<'a>(&Comparing { first, second, room }: &'a Comparing<'_>) -> Shown<'a> {
+        Shown { call: "compare", arguments: vec![first, second], also: format!(", buffer {room:?}") }
+    }
 }
 
 /// How a compare of two knowledges ended.

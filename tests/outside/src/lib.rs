@@ -17,6 +17,7 @@ pub mod moves;
 mod one;
 pub mod overview;
 pub mod reading;
+mod row;
 pub mod stand_in;
 mod tally;
 pub mod writing;

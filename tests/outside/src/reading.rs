@@ -8,6 +8,7 @@ use inputs::{CallInput, Plan, Reading, Readings};
 use reference::{Coverage, Winner};
 
 use crate::one::{self, Value};
+use crate::row::{self, Compare, Compared, Show, Shown};
 use crate::tally::{Ends, Outcome, Tally};
 
 /// A record that was found: side 1 for the store, 2 for the batch, with its place and length; all 0 for none.
@@ -53,13 +54,30 @@ const ENDS: [Ends; 5] = [
 /// Compares the engine with the reference on all calls of the plan that read. The error says where they first differ, or what
 /// never occurred.
 pub fn run(plan: &Plan, engine: &impl Engine) -> Result<Tally, String> {
-    let mut tally = Tally::default();
-    plan.try_for_each_call::<Readings>(|input| {
-        let (call, outcome) = compare(&input, engine).map_err(|difference| describe(plan, &input, &difference))?;
-        tally.add(call, outcome);
-        Ok(())
-    })?;
-    tally.complete(&ENDS)
+    row::run::<Readings, _>(plan, engine)
+}
+
+impl<E: Engine> Compare<E> for Readings {
+    const ENDS: &'static [Ends] = &ENDS;
+
+    fn compare(input: &CallInput<Reading>, engine: &E, _: &mut [u8]) -> Compared {
+        compare(input, engine)
+    }
+}
+
+impl Show for Readings {
+    fn show<'a>(call: &'a Reading<'_>) -> Shown<'a> {
+        let (call, arguments) = match *call {
+            Reading::Winner { store, batch, item } => ("winner", vec![store, batch, item]),
+            Reading::Learned { batch } => ("learned", vec![batch]),
+            Reading::Coverage { store, knowledge } => ("coverage", vec![store, knowledge]),
+            Reading::Knowledge { store } => ("knowledge", vec![store]),
+            Reading::Walk { table, at } => {
+                return Shown { call: "walk", arguments: vec![table], also: format!(", at {at}") };
+            }
+        };
+        Shown { call, arguments, also: String::new() }
+    }
 }
 
 /// Compares the coverage of stores with 0 to 256 records by knowledges that contain 0 to all of these, with the reference and with the
@@ -120,7 +138,7 @@ fn record_of<'a>(found: Found, store: &'a [u8], batch: &'a [u8]) -> Option<&'a [
 }
 
 /// Compares the two on one call, and gives its name and how both say that it ends.
-fn compare(input: &CallInput<Reading>, engine: &impl Engine) -> Result<(&'static str, Outcome), String> {
+fn compare(input: &CallInput<Reading>, engine: &impl Engine) -> Compared {
     match input.call {
         Reading::Winner { store, batch, item } => {
             let answer = reference::winner(store, batch, item).map(found);
@@ -185,27 +203,6 @@ fn compare_part(
 
 fn same_bytes(same: &Cell<bool>) -> Result<(), String> {
     if same.get() { Ok(()) } else { Err("the bytes of the parts differ".to_owned()) }
-}
-
-fn describe(plan: &Plan, input: &CallInput<Reading>, difference: &str) -> String {
-    let (call, arguments, at) = match input.call {
-        Reading::Winner { store, batch, item } => ("winner", vec![store, batch, item], None),
-        Reading::Learned { batch } => ("learned", vec![batch], None),
-        Reading::Coverage { store, knowledge } => ("coverage", vec![store, knowledge], None),
-        Reading::Knowledge { store } => ("knowledge", vec![store], None),
-        Reading::Walk { table, at } => ("walk", vec![table], Some(at)),
-    };
-    let mut text = format!(
-        "{call}: {difference}\n  seed {}, call {} of {} ({})",
-        plan.seed, input.place, plan.inputs, input.family
-    );
-    for argument in arguments {
-        text += &format!("\n  {}", one::hex(argument));
-    }
-    if let Some(at) = at {
-        text += &format!("\n  at {at}");
-    }
-    text
 }
 
 #[cfg(test)]

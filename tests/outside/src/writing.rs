@@ -3,7 +3,7 @@
 use inputs::{CallInput, LONGEST, Plan, Room, Writing, Writings};
 
 use crate::buffer;
-use crate::one;
+use crate::row::{self, Compare, Compared, Show, Shown};
 use crate::tally::{Ends, Outcome, Tally};
 
 /// An engine's calls that write a knowledge. Each gives 0, writes the result to the front of the buffer and sets the length, or
@@ -25,51 +25,72 @@ const ENDS: [Ends; 3] = [
 /// Compares the engine with the reference on all calls of the plan that write. The error says where they first differ, or what
 /// never occurred.
 pub fn run(plan: &Plan, engine: &impl Engine) -> Result<Tally, String> {
-    let mut tally = Tally::default();
-    let mut longest = vec![0; LONGEST];
-    plan.try_for_each_call::<Writings>(|input| {
-        let (call, outcome) =
-            compare(&input, engine, &mut longest).map_err(|difference| describe(plan, &input, &difference))?;
-        tally.add(call, outcome);
-        Ok(())
-    })?;
-    tally.complete(&ENDS)
+    row::run::<Writings, _>(plan, engine)
 }
 
-/// Compares the two on one call, and gives its name and how both say that it ends. No result is longer than the buffer for that
-/// of the reference.
-fn compare(
-    input: &CallInput<Writing>,
-    engine: &impl Engine,
-    longest: &mut [u8],
-) -> Result<(&'static str, Outcome), String> {
-    match input.call {
-        Writing::Normalise { knowledge, room } => {
-            let result = reference::normalise(knowledge, longest).map(|length| &longest[..length]);
-            let (answer, room) = in_room(result, room);
-            buffer::compare(input.place, [knowledge], room, answer, |[knowledge], out, written| {
-                engine.normalise(knowledge, out, written)
-            })?;
-            Ok(("normalise", Outcome::of(answer.map(|_| WRITTEN), knowledge)))
-        }
-        Writing::Merge { first, second, room } => {
-            let result = reference::merge(first, second, longest).map(|length| &longest[..length]);
-            let (answer, room) = in_room(result, room);
-            buffer::compare(input.place, [first, second], room, answer, |knowledges, out, written| {
-                engine.merge(knowledges, out, written)
-            })?;
-            Ok(("merge", Outcome::of(answer.map(|_| WRITTEN), first)))
-        }
-        Writing::Project { knowledge, first_item, last_item, room } => {
-            let result = reference::project(knowledge, first_item, last_item, longest).map(|length| &longest[..length]);
-            let (answer, room) = in_room(result, room);
-            let arguments = [knowledge, first_item, last_item];
-            buffer::compare(input.place, arguments, room, answer, |[knowledge, from, to], out, written| {
-                engine.project(knowledge, [from, to], out, written)
-            })?;
-            Ok(("project", Outcome::of(answer.map(|_| WRITTEN), knowledge)))
-        }
+impl<E: Engine> Compare<E> for Writings {
+    const ENDS: &'static [Ends] = &ENDS;
+    const LONGEST: usize = LONGEST;
+
+    fn compare(input: &CallInput<Writing>, engine: &E, longest: &mut [u8]) -> Compared {
+        let (call, first, compared) = match input.call {
+            Writing::Normalise { knowledge, room } => {
+                let compared = written(
+                    (input.place, room, longest),
+                    [knowledge],
+                    |[knowledge], out| reference::normalise(knowledge, out),
+                    |[knowledge], out, written| engine.normalise(knowledge, out, written),
+                );
+                ("normalise", knowledge, compared)
+            }
+            Writing::Merge { first, second, room } => {
+                let compared = written(
+                    (input.place, room, longest),
+                    [first, second],
+                    |[first, second], out| reference::merge(first, second, out),
+                    |knowledges, out, written| engine.merge(knowledges, out, written),
+                );
+                ("merge", first, compared)
+            }
+            Writing::Project { knowledge, first_item, last_item, room } => {
+                let compared = written(
+                    (input.place, room, longest),
+                    [knowledge, first_item, last_item],
+                    |[knowledge, from, to], out| reference::project(knowledge, from, to, out),
+                    |[knowledge, from, to], out, written| engine.project(knowledge, [from, to], out, written),
+                );
+                ("project", knowledge, compared)
+            }
+        };
+        Ok((call, Outcome::of(compared?, first)))
     }
+}
+
+impl Show for Writings {
+    fn show<'a>(call: &'a Writing<'_>) -> Shown<'a> {
+        let (call, arguments, room) = match *call {
+            Writing::Normalise { knowledge, room } => ("normalise", vec![knowledge], room),
+            Writing::Merge { first, second, room } => ("merge", vec![first, second], room),
+            Writing::Project { knowledge, first_item, last_item, room } => {
+                ("project", vec![knowledge, first_item, last_item], room)
+            }
+        };
+        Shown { call, arguments, also: format!(", buffer {room:?}") }
+    }
+}
+
+/// Compares the two on one call that writes its result into a buffer, and gives how both say that it ends. It has its place in the
+/// run, its room, and a buffer for the reference.
+pub fn written<const N: usize>(
+    (place, room, longest): (usize, Room, &mut [u8]),
+    arguments: [&[u8]; N],
+    reference: impl Fn([&[u8]; N], &mut [u8]) -> Result<usize, u32>,
+    engine: impl Fn([&[u8]; N], &mut [u8], &mut u64) -> u32,
+) -> Result<Result<&'static str, u32>, String> {
+    let result = reference(arguments, longest).map(|length| &longest[..length]);
+    let (answer, room) = in_room(result, room);
+    buffer::compare(place, arguments, room, answer, engine)?;
+    Ok(answer.map(|_| WRITTEN))
 }
 
 /// The answer of a call that would have a result in a long buffer, in the buffer that it is given, and the length of that.
@@ -77,24 +98,6 @@ pub fn in_room(result: Result<&[u8], u32>, room: Room) -> (Result<&[u8], u32>, u
     let room = room.length(result.ok().map(<[u8]>::len));
     let fits = |bytes: &&[u8]| bytes.len() <= room;
     (result.and_then(|bytes| Some(bytes).filter(fits).ok_or(reference::refusal::BUFFER)), room)
-}
-
-fn describe(plan: &Plan, input: &CallInput<Writing>, difference: &str) -> String {
-    let (call, arguments, room) = match input.call {
-        Writing::Normalise { knowledge, room } => ("normalise", vec![knowledge], room),
-        Writing::Merge { first, second, room } => ("merge", vec![first, second], room),
-        Writing::Project { knowledge, first_item, last_item, room } => {
-            ("project", vec![knowledge, first_item, last_item], room)
-        }
-    };
-    let mut text = format!(
-        "{call}: {difference}\n  seed {}, call {} of {} ({}), buffer {room:?}",
-        plan.seed, input.place, plan.inputs, input.family
-    );
-    for argument in arguments {
-        text += &format!("\n  {}", one::hex(argument));
-    }
-    text
 }
 
 #[cfg(test)]

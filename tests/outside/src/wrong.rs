@@ -19,6 +19,9 @@ pub type Figure = fn([u64; 3]) -> u64;
 /// Whether the first of two knowledges covers the second, from both and the right answer.
 pub type Cover = fn([&Knowledge; 2], bool) -> bool;
 
+/// The number that is given instead of the right one, by call, arguments and length of the buffer.
+pub type Number = fn(&str, &[&[u8]], usize, u32) -> u32;
+
 /// An engine that is right where no other way is given.
 #[derive(Default)]
 pub struct Wrong {
@@ -30,8 +33,7 @@ pub struct Wrong {
     pub apply: Option<Apply>,
     pub figure: Option<Figure>,
     pub cover: Option<Cover>,
-    /// The number that it gives instead of the right one, by call, arguments and length of the buffer.
-    pub number: Option<fn(&str, &[&[u8]], usize, u32) -> u32>,
+    pub number: Option<Number>,
     /// A refusal on which it writes a byte, and one on which it sets the length.
     pub byte_on: Option<u32>,
     pub length_on: Option<u32>,

@@ -11,7 +11,8 @@ use Rattle.codec.proofs.copy_part.Statement.{statement}
 use Rattle.codec.proofs.copy_part.Tie as tie
 
 abbrev Inv-loop : tie.InvT-loop
-Inv-loop src from n dst₀ at i₀ dst i = (i ≤ n) × ((from + n ≤ length src) × ((at + n ≤ length dst₀) × ((dst ≡ copying dst₀ at (part src from n) i) × (length dst ≡ length dst₀))))
+Inv-loop src from n dst₀ at i₀ dst i = (i ≤ n) ×
+    ((from + n ≤ length src) × ((at + n ≤ length dst₀) × ((dst ≡ copying dst₀ at (part src from n) i) × (length dst ≡ length dst₀))))
 
 abbrev μ-loop : tie.MeasureT-loop
 μ-loop src from n dst₀ at i₀ dst i = n - i
@@ -29,7 +30,13 @@ returns-2 : tie.Need-returns-2 Inv-loop μ-loop
 returns-2 c = no-place _ _ _ _ _ (c .before .before .before .beyond .ensures .1 (c .before .before .if1 .left)) (c .before .beyond2 .ensures .0 (c .if2 .taken))
 
 loop-holds : tie.Need-loop-holds Inv-loop μ-loop
-loop-holds c = (omega arith, (c .before .before .before .beyond .ensures .1 (c .before .before .if1 .left), (c .before .beyond2 .ensures .1 (c .if2 .left), (copying-none _ _ _, omega arith))))
+loop-holds c = (
+  omega arith,
+  (
+    c .before .before .before .beyond .ensures .1 (c .before .before .if1 .left),
+    (c .before .beyond2 .ensures .1 (c .if2 .left), (copying-none _ _ _, omega arith)),
+  ),
+)
 
 add-dst : tie.Need-add-dst Inv-loop μ-loop
 add-dst c = omega arith
@@ -50,7 +57,14 @@ loop-less : tie.Need-loop-less Inv-loop μ-loop
 loop-less c = omega arith
 
 loop-again : tie.Need-loop-again Inv-loop μ-loop
-loop-again c = let v = c .before .before .loop .inv in (omega arith, (v .1 .0, (v .1 .1 .0, (copying-more _ _ _ _ _ (v .1 .0) (v .1 .1 .0) _ _ (omega arith) (v .1 .1 .1 .0), simp length-set (omega arith)))))
+loop-again c =
+    let v = c .before .before .loop .inv in (
+      omega arith,
+      (
+        v .1 .0,
+        (v .1 .1 .0, (copying-more _ _ _ _ _ (v .1 .0) (v .1 .1 .0) _ _ (omega arith) (v .1 .1 .1 .0), simp length-set (omega arith))),
+      ),
+    )
 
 same-length : tie.Need-same-length Inv-loop μ-loop
 same-length c = omega arith

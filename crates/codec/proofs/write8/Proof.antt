@@ -22,13 +22,22 @@ add-put4 : tie.Need-add-put4
 add-put4 c = omega (arith, c .before .before .before .before .before .before .beyond .ensures .1 (c .before .before .before .before .before .if1 .left))
 
 put4-requires-2 : tie.Need-put4-requires-2
-put4-requires-2 c κs = let l = ap length (c .before .before .before .put4 .ensures) ∙ length-sets (c .before .before .before .before .before .before .before .before .args .out .now) (c .before .before .before .before .before .before .before .before .args .at) (bytes 4 (c .before .before .before .before .before .before .before .before .args .x / 4294967296)) in omega (arith, l, c .before .before .before .before .before .before .beyond .ensures .1 (c .before .before .before .before .before .if1 .left))
+put4-requires-2 c κs =
+    let b4 = c .before .before .before .before in
+    let b8 = b4 .before .before .before .before in
+    let l = ap length (c .before .before .before .put4 .ensures) ∙ length-sets (b8 .args .out .now) (b8 .args .at)
+    (bytes 4 (b8 .args .x / 4294967296)) in omega (arith, l, b4 .before .before .beyond .ensures .1 (b4 .before .if1 .left))
 
 same-length : tie.Need-same-length
 same-length c = omega arith
 
 returns-2 : tie.Need-returns-2
-returns-2 c = eight-stored (c .before .before .before .before .before .before .before .before .before .before .before .args .out .now) (c .before .before .before .before .before .before .put4 .last .0) (c .before .before .put42 .last .0) (c .before .before .before .before .before .before .before .before .before .before .before .args .at) (c .before .before .before .before .before .before .before .before .before .before .before .args .x) (c .before .before .before .before .before .before .put4 .ensures) (c .before .before .put42 .ensures) (c .before .before .before .before .before .before .before .before .before .beyond .ensures .1 (c .before .before .before .before .before .before .before .before .if1 .left))
+returns-2 c =
+    let b4 = c .before .before .before .before in
+    let b8 = b4 .before .before .before .before in
+    eight-stored (b8 .before .before .before .args .out .now) (b4 .before .before .put4 .last .0) (c .before .before .put42 .last .0)
+    (b8 .before .before .before .args .at) (b8 .before .before .before .args .x) (b4 .before .before .put4 .ensures)
+    (c .before .before .put42 .ensures) (b8 .before .beyond .ensures .1 (b8 .if1 .left))
 
 pub write8-spec : {M : Type 1} → statement M
 write8-spec =

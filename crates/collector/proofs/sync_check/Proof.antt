@@ -30,8 +30,10 @@ enum-known-n c = search needs
 returns : tie.Need-returns
 returns c =
     let v = c .before .r .given .0 in
-    let is = sym (c .before .before .before .check .ensures) ∙ c .before .r .given .1 in
-    (number-accepted _ (v .0) (v .1 .0) (v .1 .1 .0) (v .1 .1 .1 .0) is, sizes-accepted _ (v .0) (v .1 .0) (v .1 .1 .0) (v .1 .1 .1 .0) is _)
+    let is = sym (c .before .before .before .check .ensures) ∙ c .before .r .given .1 in (
+      number-accepted _ (v .0) (v .1 .0) (v .1 .1 .0) (v .1 .1 .1 .0) is,
+      sizes-accepted _ (v .0) (v .1 .0) (v .1 .1 .0) (v .1 .1 .1 .0) is _,
+    )
 
 returns-2 : tie.Need-returns-2
 returns-2 c =

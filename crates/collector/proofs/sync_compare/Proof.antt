@@ -1,6 +1,6 @@
 -- `collector::sync_compare` meets its contract: number, length and buffer are those of the call's reply, and the order is as `compare`
 -- leaves it.
-use Rattle.collector.proofs.Endings.{told}
+use Rattle.collector.proofs.Endings.{answer-called}
 use borrow.Author.Needs.{needs}
 use Rattle.collector.proofs.sync_compare.Statement.{statement}
 use Rattle.collector.proofs.sync_compare.Tie as tie
@@ -8,8 +8,8 @@ use Rattle.collector.proofs.sync_compare.Tie as tie
 compare-requires : tie.Need-compare-requires
 compare-requires c κs = search needs
 
-ended-requires : tie.Need-ended-requires
-ended-requires c κs = search needs
+answer-to-c-requires : tie.Need-answer-to-c-requires
+answer-to-c-requires c κs = search needs
 
 same-length : tie.Need-same-length
 same-length c = search needs
@@ -17,8 +17,7 @@ same-length c = search needs
 returns : tie.Need-returns
 returns c =
     let said = c .before .before .before .before .compare .ensures in
-    let t = told _ _ _ _ _ _ _ (c .ended .ensures .0) (c .ended .ensures .1) (said .0) (said .1 .0) in
-    (t .0, (said .1 .1, (t .1 .0, t .1 .1)))
+    (answer-called _ _ _ _ _ _ _ (c .answer-to-c .ensures .0) (c .answer-to-c .ensures .1) (said .0) (said .1 .0), said .1 .1)
 
 pub sync-compare-spec : {M : Type 1} → statement M
-sync-compare-spec = tie.close (tie.spec compare-requires ended-requires same-length returns)
+sync-compare-spec = tie.close (tie.spec compare-requires answer-to-c-requires same-length returns)

@@ -1,5 +1,5 @@
 -- `collector::sync_knowledge` meets its contract: the values told are those of the part that the definition gives.
-use Rattle.collector.proofs.Places.{told-place}
+use Rattle.collector.proofs.Places.{part-called}
 use borrow.Author.Needs.{needs}
 use Rattle.collector.proofs.sync_knowledge.Statement.{statement}
 use Rattle.collector.proofs.sync_knowledge.Tie as tie
@@ -7,13 +7,11 @@ use Rattle.collector.proofs.sync_knowledge.Tie as tie
 knowledge-part-requires : tie.Need-knowledge-part-requires
 knowledge-part-requires c κs = search needs
 
-told-requires : tie.Need-told-requires
-told-requires c κs = search needs
+part-to-c-requires : tie.Need-part-to-c-requires
+part-to-c-requires c κs = search needs
 
 returns : tie.Need-returns
-returns c =
-    let h = c .told .ensures in
-    told-place _ _ (c .before .before .before .before .knowledge-part .ensures) _ _ _ _ _ (h .0) (h .1 .1 .0) (h .1 .1 .1)
+returns c = part-called _ _ (c .before .before .before .before .knowledge-part .ensures) _ _ _ _ _ _ _ (c .part-to-c .ensures)
 
 pub sync-knowledge-spec : {M : Type 1} → statement M
-sync-knowledge-spec = tie.close (tie.spec knowledge-part-requires told-requires returns)
+sync-knowledge-spec = tie.close (tie.spec knowledge-part-requires part-to-c-requires returns)

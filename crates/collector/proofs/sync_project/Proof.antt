@@ -1,28 +1,22 @@
 -- `collector::sync_project` meets its contract: number, length and buffer are those of the call's reply.
-use Rattle.collector.proofs.Endings.{told}
+use Rattle.collector.proofs.Endings.{answer-called}
 use borrow.Author.Needs.{needs}
 use Rattle.collector.proofs.sync_project.Statement.{statement}
 use Rattle.collector.proofs.sync_project.Tie as tie
-use Rattle.collector.proofs.sync_project.Reads as reads
-use Rattle.collector.proofs.sync_project.Lts as lts
-use Rattle.collector.proofs.ended.Reads as ended-reads
-use Rattle.operations.proofs.project.Reads as project-reads
 
--- src/lib.rt:154:9
 project-requires : tie.Need-project-requires
 project-requires c κs = search needs
 
--- src/lib.rt:155:5
-ended-requires : tie.Need-ended-requires
-ended-requires c κs = search needs
+answer-to-c-requires : tie.Need-answer-to-c-requires
+answer-to-c-requires c κs = search needs
 
--- src/lib.rt:146:1
 same-length : tie.Need-same-length
 same-length c = search needs
 
--- src/lib.rt:146:1
 returns : tie.Need-returns
-returns c = told _ _ _ _ _ _ _ (c .ended .ensures .0) (c .ended .ensures .1) (c .before .before .before .before .project .ensures .0) (c .before .before .before .before .project .ensures .1)
+returns c =
+    let b4 = c .before .before .before .before in
+    answer-called _ _ _ _ _ _ _ (c .answer-to-c .ensures .0) (c .answer-to-c .ensures .1) (b4 .project .ensures .0) (b4 .project .ensures .1)
 
 pub sync-project-spec : {M : Type 1} → statement M
-sync-project-spec = tie.close (tie.spec project-requires ended-requires same-length returns)
+sync-project-spec = tie.close (tie.spec project-requires answer-to-c-requires same-length returns)

@@ -58,18 +58,22 @@ loop-less : tie.Need-loop-less Inv-loop μ-loop
 loop-less c = omega arith
 
 loop-again : tie.Need-loop-again Inv-loop μ-loop
-loop-again c = let j = c .before .before .before .before .join-id .ensures in (
-  map-next _ _ _ _ _ _ _ _ (c .before .before .before .before .before .before .before .before .before .before .before .loop .inv .0) (c .before .before .before .before .before .before .before .before .before .if1 .taken) _ _ (c .before .before .before .before .before .before .eight .ensures .0) (c .before .before .before .before .before .eight2 .ensures .0) _ _ _ (j .0),
-  omega arith,
-  omega (arith, j .2),
-  omega (arith, j .3),
-  omega (arith, j .4),
-  simp length-set (omega arith),
-  omega arith,
-  omega arith,
-  omega arith,
-  omega arith,
-)
+loop-again c =
+    let b4 = c .before .before .before .before in
+    let b8 = b4 .before .before .before .before in
+    let j = b4 .join-id .ensures in (
+      map-next _ _ _ _ _ _ _ _ (b8 .before .before .before .loop .inv .0) (b8 .before .if1 .taken) _ _
+          (b4 .before .before .eight .ensures .0) (b4 .before .eight2 .ensures .0) _ _ _ (j .0),
+      omega arith,
+      omega (arith, j .2),
+      omega (arith, j .3),
+      omega (arith, j .4),
+      simp length-set (omega arith),
+      omega arith,
+      omega arith,
+      omega arith,
+      omega arith,
+    )
 
 same-length : tie.Need-same-length Inv-loop μ-loop
 same-length c = omega arith

@@ -7,12 +7,6 @@ use Rattle.sampling.proofs.Tables.{fits-tells, fits-fewer, none-put, raised-non
 use borrow.Author.Needs.{needs}
 use Rattle.filling.proofs.fill_raised.Statement.{statement}
 use Rattle.filling.proofs.fill_raised.Tie as tie
-use Rattle.filling.proofs.fill_raised.Reads as reads
-use Rattle.filling.proofs.fill_raised.Lts as lts
-use Rattle.filling.proofs.filled_one.Reads as filled-one-reads
-use Rattle.raising.proofs.fits.Reads as fits-reads
-use Rattle.filling.proofs.join_id.Reads as join-id-reads
-use Rattle.filling.proofs.raise_column.Reads as raise-column-reads
 
 add-m : tie.Need-add-m
 add-m c = omega arith
@@ -27,21 +21,40 @@ fits-requires : tie.Need-fits-requires
 fits-requires c κs = tt
 
 filled-one-requires : tie.Need-filled-one-requires
-filled-one-requires c κs = let a = c .before .before .before .before .before .before .before .before .before .before .args in
-    let f = fits-tells (a .s .now) (a .r) (a .start) (a .r + 1) (a .start .left + 1) (length (a .ids .now)) (length (a .bounds .now)) (length (a .t .now)) _ (c .before .before .before .before .fits2 .ensures) (c .before .before .before .if1 .taken) in
+filled-one-requires c κs =
+    let b4 = c .before .before .before .before in
+    let b8 = b4 .before .before .before .before in
+    let a = b8 .before .before .args in
+    let f = fits-tells (a .s .now) (a .r) (a .start) (a .r + 1) (a .start .left + 1) (length (a .ids .now)) (length (a .bounds .now))
+    (length (a .t .now)) _ (b4 .fits2 .ensures) (c .before .before .before .if1 .taken) in
     fits-fewer _ _ _ _ _ _ _ _ f (a .r) (omega arith)
 
 join-id-requires : tie.Need-join-id-requires
-join-id-requires c κs = let a = c .before .before .before .before .before .before .before .before .before .before .before .before .before .before .before .before .before .before .args in
-    let f = fits-tells (a .s .now) (a .r) (a .start) (a .r + 1) (a .start .left + 1) (length (a .ids .now)) (length (a .bounds .now)) (length (a .t .now)) _ (c .before .before .before .before .before .before .before .before .before .before .before .before .fits2 .ensures) (c .before .before .before .before .before .before .before .before .before .before .before .if1 .taken) in
-    let x = c .before .before .before .before .before .before .before .filled-one .ensures in
+join-id-requires c κs =
+    let b4 = c .before .before .before .before in
+    let b8 = b4 .before .before .before .before in
+    let b12 = b8 .before .before .before .before in
+    let b16 = b12 .before .before .before .before in
+    let a = b16 .before .before .args in
+    let f = fits-tells (a .s .now) (a .r) (a .start) (a .r + 1) (a .start .left + 1) (length (a .ids .now)) (length (a .bounds .now))
+    (length (a .t .now)) _ (b12 .fits2 .ensures) (b8 .before .before .before .if1 .taken) in
+    let x = b4 .before .before .before .filled-one .ensures in
     (omega arith, omega (arith, f .idWords, x .1, x .3), omega (arith, f .small, x .1))
 
 raise-column-requires : tie.Need-raise-column-requires
-raise-column-requires c κs = let a = c .before .before .before .before .before .before .before .before .before .before .before .before .before .before .before .before .before .before .before .before .before .before .args in
-    let f = fits-tells (a .s .now) (a .r) (a .start) (a .r + 1) (a .start .left + 1) (length (a .ids .now)) (length (a .bounds .now)) (length (a .t .now)) _ (c .before .before .before .before .before .before .before .before .before .before .before .before .before .before .before .before .fits2 .ensures) (c .before .before .before .before .before .before .before .before .before .before .before .before .before .before .before .if1 .taken) in
-    let x = c .before .before .before .before .before .before .before .before .before .before .before .filled-one .ensures in
-    (omega (arith, f .small, x .1, c .before .before .before .join-id .ensures .1), omega (arith, f .cells, x .2, x .4), omega (arith, f .rows, x .2))
+raise-column-requires c κs =
+    let b8 = c .before .before .before .before .before .before .before .before in
+    let b12 = b8 .before .before .before .before in
+    let b16 = b12 .before .before .before .before in
+    let b20 = b16 .before .before .before .before in
+    let a = b20 .before .before .args in
+    let f = fits-tells (a .s .now) (a .r) (a .start) (a .r + 1) (a .start .left + 1) (length (a .ids .now)) (length (a .bounds .now))
+    (length (a .t .now)) _ (b16 .fits2 .ensures) (b12 .before .before .before .if1 .taken) in
+    let x = b8 .before .before .before .filled-one .ensures in (
+      omega (arith, f .small, x .1, c .before .before .before .join-id .ensures .1),
+      omega (arith, f .cells, x .2, x .4),
+      omega (arith, f .rows, x .2),
+    )
 
 same-length : tie.Need-same-length
 same-length c = search needs
@@ -53,8 +66,13 @@ same-length-3 : tie.Need-same-length-3
 same-length-3 c = search needs
 
 returns : tie.Need-returns
-returns c = raised-put _ _ _ _ _ _ _ _ _ _ _ _ _ _ (c .before .before .before .before .before .before .before .before .before .before .before .before .before .before .filled-one .ensures .0) _ _ _ (c .before .before .before .before .before .before .join-id .ensures .0) _ (c .before .before .raise-column .ensures)
-    ∙ raised-some _ _ _ _ _ _ _ _ _ _ (c .before .before .before .before .before .before .before .before .before .before .before .before .before .before .before .before .before .before .before .fits2 .ensures) (c .before .before .before .before .before .before .before .before .before .before .before .before .before .before .before .before .before .before .if1 .taken)
+returns c =
+    let b4 = c .before .before .before .before in
+    let b12 = b4 .before .before .before .before .before .before .before .before in
+    let b16 = b12 .before .before .before .before in
+    raised-put _ _ _ _ _ _ _ _ _ _ _ _ _ _ (b12 .before .before .filled-one .ensures .0) _ _ _
+    (b4 .before .before .join-id .ensures .0) _ (c .before .before .raise-column .ensures)
+    ∙ raised-some _ _ _ _ _ _ _ _ _ _ (b16 .before .before .before .fits2 .ensures) (b16 .before .before .if1 .taken)
 
 returns-2 : tie.Need-returns-2
 returns-2 c = none-put _ _ _ ∙ raised-none _ _ _ _ _ _ _ _ _ _ (c .before .fits2 .ensures) (c .if1 .left)

@@ -7,12 +7,6 @@ use Rattle.sampling.proofs.Tables.{fits-tells, none-put, span-none, span-some, 
 use borrow.Author.Needs.{needs}
 use Rattle.filling.proofs.fill_span.Statement.{statement}
 use Rattle.filling.proofs.fill_span.Tie as tie
-use Rattle.filling.proofs.fill_span.Reads as reads
-use Rattle.filling.proofs.fill_span.Lts as lts
-use Rattle.filling.proofs.add_ids.Reads as add-ids-reads
-use Rattle.raising.proofs.fill.Reads as fill-reads
-use Rattle.raising.proofs.fits.Reads as fits-reads
-use Rattle.stopping.proofs.span_stops.Reads as span-stops-reads
 
 cast-n : tie.Need-cast-n
 cast-n c = omega arith
@@ -27,8 +21,11 @@ slice-aggregate-add-ids : tie.Need-slice-aggregate-add-ids
 slice-aggregate-add-ids c = refl
 
 add-ids-requires : tie.Need-add-ids-requires
-add-ids-requires c κs = let a = c .before .before .before .before .before .before .before .before .before .args in
-    let f = fits-tells (a .s .now) (a .r) (a .start) (a .r) (a .start .left + 3) (length (a .ids .now)) (length (a .bounds .now)) (length (a .t .now)) _ (c .before .before .before .fits2 .ensures) (c .before .before .if1 .taken) in
+add-ids-requires c κs =
+    let b8 = c .before .before .before .before .before .before .before .before in
+    let a = b8 .before .args in
+    let f = fits-tells (a .s .now) (a .r) (a .start) (a .r) (a .start .left + 3) (length (a .ids .now)) (length (a .bounds .now))
+    (length (a .t .now)) _ (c .before .before .before .fits2 .ensures) (c .before .before .if1 .taken) in
     (f .map, omega (arith, f .small), omega (arith, f .idWords), omega (arith, f .small))
 
 span-stops-requires : tie.Need-span-stops-requires
@@ -50,10 +47,17 @@ same-length-3 : tie.Need-same-length-3
 same-length-3 c = search needs
 
 returns : tie.Need-returns
-returns c = let a = c .before .before .before .before .before .before .before .before .before .before .before .before .before .before .before .before .before .before .before .before .before .before .before .args in
-    let f = fits-tells (a .s .now) (a .r) (a .start) (a .r) (a .start .left + 3) (length (a .ids .now)) (length (a .bounds .now)) (length (a .t .now)) _ (c .before .before .before .before .before .before .before .before .before .before .before .before .before .before .before .before .before .fits2 .ensures) (c .before .before .before .before .before .before .before .before .before .before .before .before .before .before .before .before .if1 .taken) in
-    span-put _ _ _ _ _ _ _ _ _ (c .before .before .before .before .before .before .before .before .before .before .before .before .before .add-ids .ensures .0) _ _ _ _ _ _ (c .before .before .before .before .before .before .before .before .span-stops .ensures .0) (c .before .before .before .before .before .before .before .before .span-stops .ensures .1) (c .before .before .before .before .before .before .before .before .span-stops .ensures .2) f _ (c .before .before .fill .ensures)
-    ∙ span-some _ _ _ _ _ _ _ _ _ (c .before .before .before .before .before .before .before .before .before .before .before .before .before .before .before .before .before .fits2 .ensures) (c .before .before .before .before .before .before .before .before .before .before .before .before .before .before .before .before .if1 .taken)
+returns c =
+    let b8 = c .before .before .before .before .before .before .before .before in
+    let b12 = b8 .before .before .before .before in
+    let b16 = b12 .before .before .before .before in
+    let b20 = b16 .before .before .before .before in
+    let a = b20 .before .before .before .args in
+    let f = fits-tells (a .s .now) (a .r) (a .start) (a .r) (a .start .left + 3) (length (a .ids .now)) (length (a .bounds .now))
+    (length (a .t .now)) _ (b16 .before .fits2 .ensures) (b16 .if1 .taken) in
+    span-put _ _ _ _ _ _ _ _ _ (b12 .before .add-ids .ensures .0) _ _ _ _ _ _ (b8 .span-stops .ensures .0) (b8 .span-stops .ensures .1)
+    (b8 .span-stops .ensures .2) f _ (c .before .before .fill .ensures)
+    ∙ span-some _ _ _ _ _ _ _ _ _ (b16 .before .fits2 .ensures) (b16 .if1 .taken)
 
 returns-2 : tie.Need-returns-2
 returns-2 c = none-put _ _ _ ∙ span-none _ _ _ _ _ _ _ _ _ (c .before .fits2 .ensures) (c .if1 .left)

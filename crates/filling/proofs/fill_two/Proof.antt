@@ -7,10 +7,6 @@ use Rattle.sampling.proofs.Tables.{fits-tells, none-put, two-none, two-no-secon
 use borrow.Author.Needs.{needs}
 use Rattle.filling.proofs.fill_two.Statement.{statement}
 use Rattle.filling.proofs.fill_two.Tie as tie
-use Rattle.filling.proofs.fill_two.Reads as reads
-use Rattle.filling.proofs.fill_two.Lts as lts
-use Rattle.filling.proofs.filled_two.Reads as filled-two-reads
-use Rattle.raising.proofs.fits.Reads as fits-reads
 
 add-k : tie.Need-add-k
 add-k c = omega arith
@@ -34,10 +30,15 @@ fits-requires-2 : tie.Need-fits-requires-2
 fits-requires-2 c κs = tt
 
 filled-two-requires : tie.Need-filled-two-requires
-filled-two-requires c κs = let a = c .before .before .before .before .before .before .before .before .before .before .before .before .before .before .args in (
-  fits-tells (a .s .now) (a .r) (a .start) (a .r + a .m) (a .start .left + a .begin .left + 1) (length (a .ids .now)) (length (a .bounds .now)) (length (a .t .now)) _ (c .before .before .before .before .before .before .fits2 .ensures) (c .before .before .before .before .before .if1 .taken),
-  fits-tells (a .other .now) (a .m) (a .begin) (a .r + a .m) (a .start .left + a .begin .left + 1) (length (a .ids .now)) (length (a .bounds .now)) (length (a .t .now)) _ (c .before .before .before .before .fits3 .ensures) (c .before .before .before .if2 .taken),
-)
+filled-two-requires c κs =
+    let b4 = c .before .before .before .before in
+    let b12 = b4 .before .before .before .before .before .before .before .before in
+    let a = b12 .before .before .args in (
+      fits-tells (a .s .now) (a .r) (a .start) (a .r + a .m) (a .start .left + a .begin .left + 1) (length (a .ids .now))
+          (length (a .bounds .now)) (length (a .t .now)) _ (b4 .before .before .fits2 .ensures) (b4 .before .if1 .taken),
+      fits-tells (a .other .now) (a .m) (a .begin) (a .r + a .m) (a .start .left + a .begin .left + 1) (length (a .ids .now))
+          (length (a .bounds .now)) (length (a .t .now)) _ (b4 .fits3 .ensures) (c .before .before .before .if2 .taken),
+    )
 
 same-length : tie.Need-same-length
 same-length c = search needs
@@ -49,10 +50,17 @@ same-length-3 : tie.Need-same-length-3
 same-length-3 c = search needs
 
 returns : tie.Need-returns
-returns c = c .before .before .before .before .before .before .filled-two .ensures ∙ two-some _ _ _ _ _ _ _ _ _ _ (c .before .before .before .before .before .before .before .before .before .before .before .before .before .fits2 .ensures) (c .before .before .before .before .before .before .before .before .before .before .before .before .if1 .taken) _ (c .before .before .before .before .before .before .before .before .before .before .before .fits3 .ensures) (c .before .before .before .before .before .before .before .before .before .before .if2 .taken)
+returns c =
+    let b4 = c .before .before .before .before in
+    let b8 = b4 .before .before .before .before in
+    let b12 = b8 .before .before .before .before in
+    b4 .before .before .filled-two .ensures ∙ two-some _ _ _ _ _ _ _ _ _ _ (b12 .before .fits2 .ensures) (b12 .if1 .taken) _
+    (b8 .before .before .before .fits3 .ensures) (b8 .before .before .if2 .taken)
 
 returns-2 : tie.Need-returns-2
-returns-2 c = none-put _ _ _ ∙ two-no-second _ _ _ _ _ _ _ _ _ _ (c .before .before .before .fits2 .ensures) (c .before .before .if1 .taken) _ (c .before .fits3 .ensures) (c .if2 .left)
+returns-2 c =
+    none-put _ _ _ ∙ two-no-second _ _ _ _ _ _ _ _ _ _ (c .before .before .before .fits2 .ensures) (c .before .before .if1 .taken) _
+    (c .before .fits3 .ensures) (c .if2 .left)
 
 returns-3 : tie.Need-returns-3
 returns-3 c = none-put _ _ _ ∙ two-none _ _ _ _ _ _ _ _ _ _ (c .before .fits2 .ensures) (c .if1 .left)

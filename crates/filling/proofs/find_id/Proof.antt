@@ -44,7 +44,10 @@ same2-requires : tie.Need-same2-requires Inv-loop μ-loop
 same2-requires c κs = tt
 
 returns : tie.Need-returns Inv-loop μ-loop
-returns c = find-here _ _ _ _ _ (c .before .before .before .before .before .before .before .loop .inv .0) (c .before .before .before .before .before .if1 .taken) _ _ refl refl _ (c .before .same2 .ensures) (c .if2 .taken)
+returns c =
+    let b4 = c .before .before .before .before in
+    find-here _ _ _ _ _ (b4 .before .before .before .loop .inv .0) (b4 .before .if1 .taken) _ _ refl refl _ (c .before .same2 .ensures)
+    (c .if2 .taken)
 
 add-next : tie.Need-add-next Inv-loop μ-loop
 add-next c = omega arith
@@ -53,7 +56,14 @@ loop-less : tie.Need-loop-less Inv-loop μ-loop
 loop-less c = omega arith
 
 loop-again : tie.Need-loop-again Inv-loop μ-loop
-loop-again c = (find-next _ _ _ _ _ (c .before .before .before .before .before .before .before .before .loop .inv .0) (c .before .before .before .before .before .before .if1 .taken) _ _ refl refl _ (c .before .before .same2 .ensures) (c .before .if2 .left), omega arith, omega arith)
+loop-again c =
+    let b4 = c .before .before .before .before in
+    let b8 = b4 .before .before .before .before in (
+      find-next _ _ _ _ _ (b8 .loop .inv .0) (b4 .before .before .if1 .taken) _ _ refl refl _ (c .before .before .same2 .ensures)
+          (c .before .if2 .left),
+      omega arith,
+      omega arith,
+    )
 
 returns-2 : tie.Need-returns-2 Inv-loop μ-loop
 returns-2 c = find-ends _ _ _ _ _ (c .before .before .loop .inv .0) (omega arith)

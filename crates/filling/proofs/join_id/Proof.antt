@@ -40,7 +40,8 @@ same-length-2 : tie.Need-same-length-2
 same-length-2 c = simp length-set
 
 returns-2 : tie.Need-returns-2
-returns-2 c = (join-new _ _ _ _ _ _ (c .before .before .find-id .ensures) (c .if1 .left), omega arith, omega arith, omega arith, simp length-set)
+returns-2 c =
+    (join-new _ _ _ _ _ _ (c .before .before .find-id .ensures) (c .if1 .left), omega arith, omega arith, omega arith, simp length-set)
 
 pub join-id-spec : {M : Type 1} → statement M
 join-id-spec =

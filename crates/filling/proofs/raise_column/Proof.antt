@@ -45,7 +45,13 @@ loop-less : tie.Need-loop-less Inv-loop μ-loop
 loop-less c = omega arith
 
 loop-again : tie.Need-loop-again Inv-loop μ-loop
-loop-again c = (set-next _ _ _ _ _ _ (c .before .before .loop .inv .0) (c .before .loop-test .taken), simp length-set (omega arith), omega arith, omega arith, omega arith)
+loop-again c = (
+  set-next _ _ _ _ _ _ (c .before .before .loop .inv .0) (c .before .loop-test .taken),
+  simp length-set (omega arith),
+  omega arith,
+  omega arith,
+  omega arith,
+)
 
 same-length : tie.Need-same-length Inv-loop μ-loop
 same-length c = omega arith

@@ -8,9 +8,6 @@ use Rattle.layout.proofs.Prefix.{prefix-base}
 use borrow.Author.Needs.{needs}
 use Rattle.inspect.proofs.check_front.Statement.{statement}
 use Rattle.inspect.proofs.check_front.Tie as tie
-use Rattle.inspect.proofs.check_front.Reads as reads
-use Rattle.inspect.proofs.check_front.Lts as lts
-use Rattle.reader.proofs.check.Reads as check-reads
 
 slice-aggregate-check : tie.Need-slice-aggregate-check
 slice-aggregate-check c =

@@ -3,9 +3,6 @@ use Rattle.joined.proofs.Steps.{called-of, apply-called}
 use borrow.Author.Needs.{needs}
 use Rattle.joined.proofs.apply_step.Statement.{statement}
 use Rattle.joined.proofs.apply_step.Tie as tie
-use Rattle.joined.proofs.apply_step.Reads as reads
-use Rattle.joined.proofs.apply_step.Lts as lts
-use Rattle.collector.proofs.sync_apply.Reads as sync-apply-reads
 
 sync-apply-requires : tie.Need-sync-apply-requires
 sync-apply-requires c κs = search needs

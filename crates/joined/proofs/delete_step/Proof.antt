@@ -3,9 +3,6 @@ use Rattle.joined.proofs.Steps.{called-of, delete-called}
 use borrow.Author.Needs.{needs}
 use Rattle.joined.proofs.delete_step.Statement.{statement}
 use Rattle.joined.proofs.delete_step.Tie as tie
-use Rattle.joined.proofs.delete_step.Reads as reads
-use Rattle.joined.proofs.delete_step.Lts as lts
-use Rattle.collector.proofs.sync_delete.Reads as sync-delete-reads
 
 sync-delete-requires : tie.Need-sync-delete-requires
 sync-delete-requires c κs = search needs

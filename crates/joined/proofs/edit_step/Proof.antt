@@ -3,9 +3,6 @@ use Rattle.joined.proofs.Steps.{called-of, edit-called}
 use borrow.Author.Needs.{needs}
 use Rattle.joined.proofs.edit_step.Statement.{statement}
 use Rattle.joined.proofs.edit_step.Tie as tie
-use Rattle.joined.proofs.edit_step.Reads as reads
-use Rattle.joined.proofs.edit_step.Lts as lts
-use Rattle.collector.proofs.sync_edit.Reads as sync-edit-reads
 
 sync-edit-requires : tie.Need-sync-edit-requires
 sync-edit-requires c κs = search needs

@@ -3,9 +3,6 @@ use Rattle.joined.proofs.Steps.{called-of, make-called}
 use borrow.Author.Needs.{needs}
 use Rattle.joined.proofs.make_step.Statement.{statement}
 use Rattle.joined.proofs.make_step.Tie as tie
-use Rattle.joined.proofs.make_step.Reads as reads
-use Rattle.joined.proofs.make_step.Lts as lts
-use Rattle.collector.proofs.sync_make.Reads as sync-make-reads
 
 sync-make-requires : tie.Need-sync-make-requires
 sync-make-requires c κs = search needs

@@ -3,9 +3,6 @@ use Rattle.joined.proofs.Steps.{called-of, new-called}
 use borrow.Author.Needs.{needs}
 use Rattle.joined.proofs.new_step.Statement.{statement}
 use Rattle.joined.proofs.new_step.Tie as tie
-use Rattle.joined.proofs.new_step.Reads as reads
-use Rattle.joined.proofs.new_step.Lts as lts
-use Rattle.collector.proofs.sync_new.Reads as sync-new-reads
 
 sync-new-requires : tie.Need-sync-new-requires
 sync-new-requires c κs = search needs

@@ -10,16 +10,16 @@ use Rattle.lookup.proofs.contain_within.Tie as tie
 open-within-requires : tie.Need-open-within-requires
 open-within-requires c κs = search needs
 
-enum-known-r : tie.Need-enum-known-r
-enum-known-r c = search needs
+enum-known-v : tie.Need-enum-known-v
+enum-known-v c = search needs
 
 contain-in-requires : tie.Need-contain-in-requires
 contain-in-requires c κs =
     let a = c .before .before .before .before .before .before .before .args in
     let b : Bytes (a .knowledge .now) =
     record { below = λ i. omega (arith, c .before .before .before .before .before .before .shared-slice-known .given i) } in
-    opens-open (a .replicas) (a .ranges) _ _ _
-    (opens-within (a .replicas) (a .ranges) _ _ (c .before .before .before .open-within .ensures) b _ _ (c .before .r .given .1))
+    opens-open (a .limits .replicas) (a .limits .ranges) _ _ _
+    (opens-within (a .limits .replicas) (a .limits .ranges) _ _ (c .before .before .before .open-within .ensures) b _ (c .before .v .given .1))
 
 enum-known-n : tie.Need-enum-known-n
 enum-known-n c = search needs
@@ -29,16 +29,16 @@ returns c =
     let a = c .before .before .before .before .before .before .before .before .args in
     let b : Bytes (a .knowledge .now) =
     record { below = λ i. omega (arith, c .before .before .before .before .before .before .before .shared-slice-known .given i) } in
-    c .contain-in .ensures (rulesWithin (a .replicas) (a .ranges))
-    (opens-within (a .replicas) (a .ranges) _ _ (c .before .before .before .before .open-within .ensures) b _ _ (c .before .before .r .given .1))
+    c .contain-in .ensures (rulesWithin (a .limits .replicas) (a .limits .ranges))
+    (opens-within (a .limits .replicas) (a .limits .ranges) _ _ (c .before .before .before .before .open-within .ensures) b _ (c .before .before .v .given .1))
 
 returns-2 : tie.Need-returns-2
 returns-2 c =
     let a = c .before .before .before .before .before .before .before .args in
-    contain-refused (rulesWithin (a .replicas) (a .ranges)) _ _ _ _ _
-    (refuses-within (a .replicas) (a .ranges) _ _ (c .before .before .before .open-within .ensures) _ (c .before .n .given .1))
+    contain-refused (rulesWithin (a .limits .replicas) (a .limits .ranges)) _ _ _ _ _
+    (refuses-within (a .limits .replicas) (a .limits .ranges) _ _ (c .before .before .before .open-within .ensures) _ (c .before .n .given .1))
 
 pub contain-within-spec : {M : Type 1} → statement M
 contain-within-spec =
     tie.close
-    (tie.spec open-within-requires enum-known-r contain-in-requires enum-known-n returns returns-2)
+    (tie.spec open-within-requires enum-known-v contain-in-requires enum-known-n returns returns-2)

@@ -4,21 +4,22 @@ use Prim.Native.Nat.{_+_, _-_, _*_, _≤_}
 use mathlib.Core.Path.{_≡_}
 use native.Mathlib.Omega.{arith}
 use lib.ListN.{length}
-use Rattle.codec.specs.Words.{words2}
+use Rattle.codec.specs.Ids.{replicaOf}
 use Rattle.layout.specs.Decode.{idsAt}
 use Rattle.layout.specs.MethodPlaces.{idsPlace}
 use Rattle.ticks.specs.Meaning.{place}
+use Rattle.leaves.proofs.Compare.{same-part}
 use Rattle.lookup.proofs.Loops.{ids-all, ids-found, ids-next, ids-none, key-short, key-there}
 use Rattle.lookup.proofs.key_of.Statement.{statement}
 use Rattle.lookup.proofs.key_of.Tie as tie
 
 abbrev Inv-loop : tie.InvT-loop
-Inv-loop s r p0 p1 key₀ at₀ key at =
-    (place (words2 p0 p1) (idsAt s r idsPlace) ≡ key .0 + place (words2 p0 p1) (idsAt s (r - key .0) at)) × (key .0 ≤ r)
+Inv-loop s r p key₀ at₀ key at =
+    (place (replicaOf p) (idsAt s r idsPlace) ≡ key .0 + place (replicaOf p) (idsAt s (r - key .0) at)) × (key .0 ≤ r)
     × (at ≡ idsPlace + 16 * key .0) × (idsPlace + 16 * r ≤ length s)
 
 abbrev μ-loop : tie.MeasureT-loop
-μ-loop s r p0 p1 key₀ at₀ key at = r - key .0
+μ-loop s r p key₀ at₀ key at = r - key .0
 
 mul-if1 : tie.Need-mul-if1 Inv-loop μ-loop
 mul-if1 c = omega arith
@@ -32,14 +33,26 @@ returns c = key-short _ _ _ (omega arith)
 loop-holds : tie.Need-loop-holds Inv-loop μ-loop
 loop-holds c = (ids-all _ _ _ _, omega arith, omega arith, omega arith)
 
-id-at-requires : tie.Need-id-at-requires Inv-loop μ-loop
-id-at-requires c κs = omega arith
+add-is-replica : tie.Need-add-is-replica Inv-loop μ-loop
+add-is-replica c = omega arith
+
+sub-is-replica : tie.Need-sub-is-replica Inv-loop μ-loop
+sub-is-replica c = omega arith
+
+part-is-replica-start : tie.Need-part-is-replica-start Inv-loop μ-loop
+part-is-replica-start c = omega arith
+
+part-is-replica-end : tie.Need-part-is-replica-end Inv-loop μ-loop
+part-is-replica-end c = omega arith
+
+is-replica-requires : tie.Need-is-replica-requires Inv-loop μ-loop
+is-replica-requires c κs = tt
 
 returns-2 : tie.Need-returns-2 Inv-loop μ-loop
 returns-2 c =
-    let l = c .before .before .before .before .loop in
-    key-there _ _ _ (l .key) (omega arith) (ids-found _ _ _ _ _ _ (l .inv .0) _ (c .before .id-at .ensures)
-    (c .before .before .if2 .taken) (c .if3 .taken))
+    let l = c .before .before .before .before .before .loop in
+    key-there _ _ _ (l .key) (omega arith) (ids-found _ _ _ _ _ _ (l .inv .0) _ (same-part _ _ _ _ (c .before .is-replica .ensures) (omega arith))
+    (c .before .before .before .if2 .taken) (c .if3 .taken))
 
 add-at : tie.Need-add-at Inv-loop μ-loop
 add-at c = omega arith
@@ -52,8 +65,9 @@ loop-less c = omega arith
 
 loop-again : tie.Need-loop-again Inv-loop μ-loop
 loop-again c =
-    let l = c .before .before .before .before .before .loop in (
-      ids-next _ _ _ _ _ _ (l .inv .0) _ (c .before .before .id-at .ensures) (c .before .before .before .if2 .taken)
+    let b5 = c .before .before .before .before .before in
+    let l = b5 .before .loop in (
+      ids-next _ _ _ _ _ _ (l .inv .0) _ (same-part _ _ _ _ (c .before .before .is-replica .ensures) (omega arith)) (c .before .before .before .before .if2 .taken)
           (c .before .if3 .left),
       omega arith,
       omega arith,
@@ -75,7 +89,11 @@ key-of-spec =
     add-if1
     returns
     loop-holds
-    id-at-requires
+    add-is-replica
+    sub-is-replica
+    part-is-replica-start
+    part-is-replica-end
+    is-replica-requires
     returns-2
     add-at
     add-n

@@ -10,17 +10,17 @@ use Rattle.lookup.proofs.lead_second.Tie as tie
 open-within-requires : tie.Need-open-within-requires
 open-within-requires c κs = search needs
 
-enum-known-m : tie.Need-enum-known-m
-enum-known-m c = search needs
+enum-known-w : tie.Need-enum-known-w
+enum-known-w c = search needs
 
 lead-in-requires : tie.Need-lead-in-requires
 lead-in-requires c κs =
     let a = c .before .before .before .before .before .before .before .before .args in
     let b : Bytes (a .t .now) =
     record { below = λ i. omega (arith, c .before .before .before .before .before .before .shared-slice-known2 .given i) } in (
-      opens-open (a .replicas) (a .ranges) _ _ _ (c .before .before .before .before .before .before .before .before .pre),
-      opens-open (a .replicas) (a .ranges) _ _ _
-          (opens-within (a .replicas) (a .ranges) _ _ (c .before .before .before .open-within .ensures) b _ _ (c .before .m .given .1)),
+      opens-open (a .limits .replicas) (a .limits .ranges) _ _ _ (c .before .before .before .before .before .before .before .before .pre),
+      opens-open (a .limits .replicas) (a .limits .ranges) _ _ _
+          (opens-within (a .limits .replicas) (a .limits .ranges) _ _ (c .before .before .before .open-within .ensures) b _ (c .before .w .given .1)),
     )
 
 enum-known-n : tie.Need-enum-known-n
@@ -31,16 +31,16 @@ returns c =
     let a = c .before .before .before .before .before .before .before .before .before .args in
     let b : Bytes (a .t .now) =
     record { below = λ i. omega (arith, c .before .before .before .before .before .before .before .shared-slice-known2 .given i) } in
-    c .lead-in .ensures (rulesWithin (a .replicas) (a .ranges)) (c .before .before .before .before .before .before .before .before .before .pre)
-    (opens-within (a .replicas) (a .ranges) _ _ (c .before .before .before .before .open-within .ensures) b _ _ (c .before .before .m .given .1))
+    c .lead-in .ensures (rulesWithin (a .limits .replicas) (a .limits .ranges)) (c .before .before .before .before .before .before .before .before .before .pre)
+    (opens-within (a .limits .replicas) (a .limits .ranges) _ _ (c .before .before .before .before .open-within .ensures) b _ (c .before .before .w .given .1))
 
 returns-2 : tie.Need-returns-2
 returns-2 c =
     let a = c .before .before .before .before .before .before .before .before .args in
-    lead-refused-second (rulesWithin (a .replicas) (a .ranges)) _ _ _ (c .before .before .before .before .before .before .before .before .pre) _ _ _ _
-    (refuses-within (a .replicas) (a .ranges) _ _ (c .before .before .before .open-within .ensures) _ (c .before .n .given .1))
+    lead-refused-second (rulesWithin (a .limits .replicas) (a .limits .ranges)) _ _ _ (c .before .before .before .before .before .before .before .before .pre) _ _ _ _
+    (refuses-within (a .limits .replicas) (a .limits .ranges) _ _ (c .before .before .before .open-within .ensures) _ (c .before .n .given .1))
 
 pub lead-second-spec : {M : Type 1} → statement M
 lead-second-spec =
     tie.close
-    (tie.spec open-within-requires enum-known-m lead-in-requires enum-known-n returns returns-2)
+    (tie.spec open-within-requires enum-known-w lead-in-requires enum-known-n returns returns-2)

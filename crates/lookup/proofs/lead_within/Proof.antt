@@ -10,15 +10,15 @@ use Rattle.lookup.proofs.lead_within.Tie as tie
 open-within-requires : tie.Need-open-within-requires
 open-within-requires c κs = search needs
 
-enum-known-r : tie.Need-enum-known-r
-enum-known-r c = search needs
+enum-known-v : tie.Need-enum-known-v
+enum-known-v c = search needs
 
 lead-second-requires : tie.Need-lead-second-requires
 lead-second-requires c κs =
     let a = c .before .before .before .before .before .before .before .before .args in
     let b : Bytes (a .first .now) =
     record { below = λ i. omega (arith, c .before .before .before .before .before .before .before .shared-slice-known .given i) } in
-    opens-within (a .replicas) (a .ranges) _ _ (c .before .before .before .open-within .ensures) b _ _ (c .before .r .given .1)
+    opens-within (a .limits .replicas) (a .limits .ranges) _ _ (c .before .before .before .open-within .ensures) b _ (c .before .v .given .1)
 
 enum-known-n : tie.Need-enum-known-n
 enum-known-n c = search needs
@@ -29,10 +29,10 @@ returns c = c .lead-second .ensures
 returns-2 : tie.Need-returns-2
 returns-2 c =
     let a = c .before .before .before .before .before .before .before .before .args in
-    lead-refused-first (rulesWithin (a .replicas) (a .ranges)) _ _ _ _ _
-    (refuses-within (a .replicas) (a .ranges) _ _ (c .before .before .before .open-within .ensures) _ (c .before .n .given .1))
+    lead-refused-first (rulesWithin (a .limits .replicas) (a .limits .ranges)) _ _ _ _ _
+    (refuses-within (a .limits .replicas) (a .limits .ranges) _ _ (c .before .before .before .open-within .ensures) _ (c .before .n .given .1))
 
 pub lead-within-spec : {M : Type 1} → statement M
 lead-within-spec =
     tie.close
-    (tie.spec open-within-requires enum-known-r lead-second-requires enum-known-n returns returns-2)
+    (tie.spec open-within-requires enum-known-v lead-second-requires enum-known-n returns returns-2)

@@ -2,8 +2,10 @@
 -- are left.
 use Prim.Native.Nat.{_+_, _-_, _≤_}
 use mathlib.Core.Path.{_≡_, sym}
+use borrow.Author.Needs.{needs}
 use native.Mathlib.Omega.{arith}
 use lib.ListN.{length}
+use Rattle.leaves.proofs.Part.{part-is}
 use Rattle.lookup.specs.Method.{stepped}
 use Rattle.lookup.proofs.Loops.{stepped-stop, stepped-all, step-stop, step-on, step-end}
 use Rattle.lookup.proofs.step_over.Statement.{statement}
@@ -33,8 +35,23 @@ add-at c = omega arith
 add-four : tie.Need-add-four Inv-loop μ-loop
 add-four c = omega arith
 
+add-four-2 : tie.Need-add-four-2 Inv-loop μ-loop
+add-four-2 c = omega arith
+
+add-four-3 : tie.Need-add-four-3 Inv-loop μ-loop
+add-four-3 c = omega arith
+
+sub-four : tie.Need-sub-four Inv-loop μ-loop
+sub-four c = omega arith
+
+part-four-start : tie.Need-part-four-start Inv-loop μ-loop
+part-four-start c = omega arith
+
+part-four-end : tie.Need-part-four-end Inv-loop μ-loop
+part-four-end c = omega arith
+
 four-requires : tie.Need-four-requires Inv-loop μ-loop
-four-requires c κs = omega arith
+four-requires c κs = search needs
 
 mul-at : tie.Need-mul-at Inv-loop μ-loop
 mul-at c = omega arith
@@ -50,8 +67,8 @@ loop-less c = omega arith
 
 loop-again : tie.Need-loop-again Inv-loop μ-loop
 loop-again c = (
-  step-on _ _ _ _ _ (c .before .before .before .loop .inv .0) _ (c .four .ensures .0)
-      (c .before .before .loop-test .taken) (omega arith),
+  step-on _ _ _ _ _ (c .before .before .before .before .loop .inv .0) _ (part-is _ _ _ _ (c .four .ensures .0) (omega arith))
+      (c .before .before .before .loop-test .taken) (omega arith),
   omega arith,
   omega arith,
 )
@@ -71,6 +88,11 @@ step-over-spec =
     returns-2
     add-at
     add-four
+    add-four-2
+    add-four-3
+    sub-four
+    part-four-start
+    part-four-end
     four-requires
     mul-at
     add-at-2

@@ -1,9 +1,8 @@
 -- `lookup::tick_at` meets its contract. The elements that were counted are all there, so the one whose index is the key is there too
 -- where the key is below their number; it has the key, or the search finds what the definition says.
-use Prim.Native.Nat.{_+_, _*_, _≤_}
-use mathlib.Core.Path.{_≡_}
 use native.Mathlib.Omega.{arith}
 use borrow.Author.Needs.{needs}
+use Rattle.leaves.proofs.Part.{part-is}
 use Rattle.lookup.proofs.Loops.{tick-beyond, tick-guessed, tick-other}
 use Rattle.lookup.proofs.tick_at.Statement.{statement}
 use Rattle.lookup.proofs.tick_at.Tie as tie
@@ -30,31 +29,67 @@ mul-at c = search needs
 add-at-2 : tie.Need-add-at-2
 add-at-2 c = omega (arith, c .before .before .elements-at .ensures .room (omega arith))
 
+add-four : tie.Need-add-four
+add-four c = omega (arith, c .before .before .elements-at .ensures .room (omega arith))
+
+sub-four : tie.Need-sub-four
+sub-four c = omega arith
+
+part-four-start : tie.Need-part-four-start
+part-four-start c = omega arith
+
+part-four-end : tie.Need-part-four-end
+part-four-end c = omega (arith, c .before .before .elements-at .ensures .room (omega arith))
+
 four-requires : tie.Need-four-requires
-four-requires c κs = omega (arith, c .before .before .elements-at .ensures .room (omega arith))
+four-requires c κs = tt
 
 cast-if2 : tie.Need-cast-if2
 cast-if2 c = search needs
 
 add-eight : tie.Need-add-eight
-add-eight c = omega (arith, c .before .before .before .before .before .elements-at .ensures .room (omega arith))
+add-eight c = omega (arith, c .before .before .before .before .before .before .elements-at .ensures .room (omega arith))
+
+add-eight-2 : tie.Need-add-eight-2
+add-eight-2 c = omega (arith, c .before .before .before .before .before .before .elements-at .ensures .room (omega arith))
+
+add-eight-3 : tie.Need-add-eight-3
+add-eight-3 c = omega (arith, c .before .before .before .before .before .before .elements-at .ensures .room (omega arith))
+
+sub-eight : tie.Need-sub-eight
+sub-eight c = omega arith
+
+part-eight-start : tie.Need-part-eight-start
+part-eight-start c = omega arith
+
+part-eight-end : tie.Need-part-eight-end
+part-eight-end c = omega (arith, c .before .before .before .before .before .before .elements-at .ensures .room (omega arith))
 
 eight-requires : tie.Need-eight-requires
-eight-requires c κs = omega (arith, c .before .before .before .before .before .elements-at .ensures .room (omega arith))
+eight-requires c κs = tt
 
 returns-2 : tie.Need-returns-2
 returns-2 c =
-    tick-guessed _ _ _ _ (c .before .before .before .before .before .before .elements-at .ensures .is) _
-    (c .before .before .before .before .if1 .left) (c .before .before .before .four .ensures .0) _ (c .before .if2 .taken)
-    (c .eight .ensures .0)
+    let b4 = c .before .before .before .before in
+    let b8 = b4 .before .before .before .before in
+    tick-guessed _ _ _ _ (b8 .elements-at .ensures .is) _
+    (b4 .before .before .if1 .left) (part-is _ _ _ _ (b4 .four .ensures .0) (omega (
+      arith,
+      b8 .elements-at .ensures .room (omega arith),
+    ))) _ (c .before .before .if2 .taken)
+    (part-is _ _ _ _ (c .eight .ensures .0) (omega (arith, b8 .elements-at .ensures .room (omega arith))))
 
 tick-scan-requires-2 : tie.Need-tick-scan-requires-2
 tick-scan-requires-2 c κs = search needs
 
 returns-3 : tie.Need-returns-3
 returns-3 c =
-    tick-other _ _ _ _ (c .before .before .before .before .before .before .elements-at .ensures .is) _
-    (c .before .before .before .before .if1 .left) (c .before .before .before .four .ensures .0) _ (c .before .if2 .left)
+    let b4 = c .before .before .before .before in
+    tick-other _ _ _ _ (b4 .before .before .before .elements-at .ensures .is) _
+    (b4 .before .if1 .left) (part-is _ _ _ _ (c .before .before .before .four .ensures .0) (omega (
+      arith,
+      b4 .before .before .before .elements-at .ensures .room (omega arith),
+    ))) _ (c .before .if2 .left)
     (c .tick-scan2 .ensures)
 
 pub tick-at-spec : {M : Type 1} → statement M
@@ -68,9 +103,18 @@ tick-at-spec =
     add-at
     mul-at
     add-at-2
+    add-four
+    sub-four
+    part-four-start
+    part-four-end
     four-requires
     cast-if2
     add-eight
+    add-eight-2
+    add-eight-3
+    sub-eight
+    part-eight-start
+    part-eight-end
     eight-requires
     returns-2
     tick-scan-requires-2

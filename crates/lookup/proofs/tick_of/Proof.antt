@@ -1,4 +1,6 @@
 -- `lookup::tick_of` meets its contract: the ids are read as words, and what lookup finds for them is the known tick.
+use Rattle.codec.proofs.Ids.{item-is-read}
+use Rattle.lookup.proofs.Loops.{tick-from}
 use Rattle.lookup.proofs.Calls.{tick-known}
 use Rattle.lookup.proofs.tick_of.Statement.{statement}
 use Rattle.lookup.proofs.tick_of.Tie as tie
@@ -12,21 +14,26 @@ read8-requires-2 c κs = tt
 read8-requires-3 : tie.Need-read8-requires-3
 read8-requires-3 c κs = tt
 
-read8-requires-4 : tie.Need-read8-requires-4
-read8-requires-4 c κs = tt
+advance-requires : tie.Need-advance-requires
+advance-requires c κs = tt
 
-read8-requires-5 : tie.Need-read8-requires-5
-read8-requires-5 c κs = tt
+replica-of-requires : tie.Need-replica-of-requires
+replica-of-requires c κs = tt
 
-known-tick-requires : tie.Need-known-tick-requires
-known-tick-requires c κs = tt
+key-of-requires : tie.Need-key-of-requires
+key-of-requires c κs = tt
+
+tick-at-requires : tie.Need-tick-at-requires
+tick-at-requires c κs = tt
 
 returns : tie.Need-returns
 returns c =
-    let p = c .before .before .before .before .before .before .before .before .before .pre in
-    tick-known _ _ _ (p .0) _ _ (p .1) (p .2) _ _ _ _ _ _ (c .before .before .before .before .before .read8 .ensures .0)
-    (c .before .before .before .before .read82 .ensures .0) (c .before .before .before .read83 .ensures .0)
-    (c .before .before .read84 .ensures .0) (c .before .read85 .ensures .0) (c .known-tick .ensures)
+    let b5 = c .before .before .before .before .before in
+    let b10 = b5 .before .before .before .before .before in
+    let p = b10 .pre in
+    tick-known _ _ _ (p .0) _ _ (p .1) (p .2) _ _ _
+    (item-is-read _ _ _ _ (b5 .before .read8 .ensures .0) (b5 .read82 .ensures .0) (c .before .before .before .before .read83 .ensures .0)) (c .before .before .replica-of .ensures .0)
+    (tick-from _ _ _ _ _ _ _ _ (c .before .before .before .advance .ensures) (c .before .key-of .ensures) (c .tick-at .ensures))
 
 pub tick-of-spec : {M : Type 1} → statement M
 tick-of-spec =
@@ -35,7 +42,8 @@ tick-of-spec =
     read8-requires
     read8-requires-2
     read8-requires-3
-    read8-requires-4
-    read8-requires-5
-    known-tick-requires
+    advance-requires
+    replica-of-requires
+    key-of-requires
+    tick-at-requires
     returns)

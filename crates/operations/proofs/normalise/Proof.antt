@@ -4,19 +4,13 @@ use Rattle.ticks.specs.Calls.{normaliseReply}
 use Rattle.operations.proofs.Replies.{ended-basic}
 use Rattle.operations.proofs.normalise.Statement.{statement}
 use Rattle.operations.proofs.normalise.Tie as tie
-use Rattle.operations.proofs.normalise.Reads as reads
-use Rattle.operations.proofs.normalise.Lts as lts
-use Rattle.operations.proofs.normalise_within.Reads as normalise-within-reads
 
--- src/lib.rt:554:5
 normalise-within-requires : tie.Need-normalise-within-requires
 normalise-within-requires c κs = search needs
 
--- src/lib.rt:550:1
 same-length : tie.Need-same-length
 same-length c = search needs
 
--- src/lib.rt:550:1
 returns : tie.Need-returns
 returns c =
     let e = c .before .before .normalise-within .ensures in

@@ -4,9 +4,6 @@ use Rattle.operations.proofs.Replies.{ended-basic}
 use borrow.Author.Needs.{needs}
 use Rattle.operations.proofs.project.Statement.{statement}
 use Rattle.operations.proofs.project.Tie as tie
-use Rattle.operations.proofs.project.Reads as reads
-use Rattle.operations.proofs.project.Lts as lts
-use Rattle.operations.proofs.project_within.Reads as project-within-reads
 
 project-within-requires : tie.Need-project-within-requires
 project-within-requires c κs = search needs

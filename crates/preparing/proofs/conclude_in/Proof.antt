@@ -4,40 +4,32 @@ use Rattle.preparing.proofs.Ends.{end-planned}
 use borrow.Author.Needs.{needs}
 use Rattle.preparing.proofs.conclude_in.Statement.{statement}
 use Rattle.preparing.proofs.conclude_in.Tie as tie
-use Rattle.preparing.proofs.conclude_in.Reads as reads
-use Rattle.preparing.proofs.conclude_in.Lts as lts
-use Rattle.preparing.proofs.finish.Reads as finish-reads
-use Rattle.preparing.proofs.prepare.Reads as prepare-reads
 
--- src/lib.rt:135:9
 prepare-requires : tie.Need-prepare-requires
 prepare-requires c κs = tt
 
--- src/lib.rt:136:5
 finish-requires : tie.Need-finish-requires
 finish-requires c κs = tt
 
--- src/lib.rt:119:1
 same-length : tie.Need-same-length
 same-length c = search needs
 
--- src/lib.rt:119:1
 same-length-2 : tie.Need-same-length-2
 same-length-2 c = search needs
 
--- src/lib.rt:119:1
 same-length-3 : tie.Need-same-length-3
 same-length-3 c = search needs
 
--- src/lib.rt:119:1
 same-length-4 : tie.Need-same-length-4
 same-length-4 c = search needs
 
--- src/lib.rt:119:1
 returns : tie.Need-returns
 returns c =
-    let a = c .before .before .before .before .before .before .before .before .before .before .before .before .before .before .before .before .before .before .before .before .before .before .before .before .args in
-    end-planned (rulesWithin (a .replicas) (a .ranges) .limits) _ _ _ _ _ _ _ _ _ _ _ _ _ (c .before .before .before .before .before .before .before .before .before .before .before .before .before .prepare .ensures) (c .before .before .finish .ensures)
+    let b12 = c .before .before .before .before .before .before .before .before .before .before .before .before in
+    let b24 = b12 .before .before .before .before .before .before .before .before .before .before .before .before in
+    let a = b24 .args in
+    end-planned (rulesWithin (a .replicas) (a .ranges) .limits) _ _ _ _ _ _ _ _ _ _ _ _ _ (b12 .before .prepare .ensures)
+    (c .before .before .finish .ensures)
 
 pub conclude-in-spec : {M : Type 1} → statement M
 conclude-in-spec =

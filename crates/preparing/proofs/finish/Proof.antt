@@ -3,31 +3,22 @@ use Rattle.preparing.proofs.Ends.{finished-ready, finished-refused}
 use borrow.Author.Needs.{needs}
 use Rattle.preparing.proofs.finish.Statement.{statement}
 use Rattle.preparing.proofs.finish.Tie as tie
-use Rattle.preparing.proofs.finish.Reads as reads
-use Rattle.preparing.proofs.finish.Lts as lts
-use Rattle.preparing.proofs.put.Reads as put-reads
 
--- src/lib.rt:487:27
 enum-known-p : tie.Need-enum-known-p
 enum-known-p c = search needs
 
--- src/lib.rt:487:44
 put-requires : tie.Need-put-requires
 put-requires c κs = search needs
 
--- src/lib.rt:488:27
 enum-known-p-2 : tie.Need-enum-known-p-2
 enum-known-p-2 c = search needs
 
--- src/lib.rt:472:1
 same-length : tie.Need-same-length
 same-length c = search needs
 
--- src/lib.rt:472:1
 returns : tie.Need-returns
 returns c = finished-ready _ _ _ _ _ _ _ _ _ _ _ (c .before .before .put .ensures) (c .before .before .before .before .before .p .given .1)
 
--- src/lib.rt:472:1
 returns-2 : tie.Need-returns-2
 returns-2 c = finished-refused _ _ _ _ _ _ _ _ _ (c .before .p2 .given .1)
 

@@ -5,9 +5,6 @@ use Rattle.sampling.proofs.Tables.{in-rows, in-bounds, in-is}
 use borrow.Author.Needs.{needs}
 use Rattle.raising.proofs.fill.Statement.{statement}
 use Rattle.raising.proofs.fill.Tie as tie
-use Rattle.raising.proofs.fill.Reads as reads
-use Rattle.raising.proofs.fill.Lts as lts
-use Rattle.raising.proofs.fill_rows.Reads as fill-rows-reads
 
 returns : tie.Need-returns
 returns c = in-rows _ _ _ _ _ _ _ _ (omega arith)

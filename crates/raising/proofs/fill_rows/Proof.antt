@@ -11,7 +11,8 @@ use Rattle.raising.proofs.fill_rows.Tie as tie
 
 abbrev Inv-loop : tie.InvT-loop
 Inv-loop s r keys bounds from top t₀ c₀ k₀ t c k =
-    (filled s r c₀ keys bounds from top t₀ ≡ filledFrom s r keys bounds (suc top - k) c k t) × (3 * (top + 1) ≤ length bounds) × (top + 1 < 2 ^ 32)
+    (filled s r c₀ keys bounds from top t₀ ≡ filledFrom s r keys bounds (suc top - k) c k t) × (3 * (top + 1) ≤ length bounds) ×
+    (top + 1 < 2 ^ 32)
 
 abbrev μ-loop : tie.MeasureT-loop
 μ-loop s r keys bounds from top t₀ c₀ k₀ t c k = suc top - k
@@ -25,29 +26,29 @@ cast-i c = omega arith
 mul-i : tie.Need-mul-i Inv-loop μ-loop
 mul-i c = omega arith
 
-mul-advance : tie.Need-mul-advance Inv-loop μ-loop
-mul-advance c = omega arith
+mul-high : tie.Need-mul-high Inv-loop μ-loop
+mul-high c = omega arith
 
-shared-slice-read-advance : tie.Need-shared-slice-read-advance Inv-loop μ-loop
-shared-slice-read-advance c = omega arith
+shared-slice-read-high : tie.Need-shared-slice-read-high Inv-loop μ-loop
+shared-slice-read-high c = omega arith
 
-add-advance : tie.Need-add-advance Inv-loop μ-loop
-add-advance c = omega arith
+add-middle : tie.Need-add-middle Inv-loop μ-loop
+add-middle c = omega arith
 
-mul-advance-2 : tie.Need-mul-advance-2 Inv-loop μ-loop
-mul-advance-2 c = omega arith
+mul-middle : tie.Need-mul-middle Inv-loop μ-loop
+mul-middle c = omega arith
 
-shared-slice-read-advance-2 : tie.Need-shared-slice-read-advance-2 Inv-loop μ-loop
-shared-slice-read-advance-2 c = omega arith
+shared-slice-read-middle : tie.Need-shared-slice-read-middle Inv-loop μ-loop
+shared-slice-read-middle c = omega arith
 
-add-advance-2 : tie.Need-add-advance-2 Inv-loop μ-loop
-add-advance-2 c = omega arith
+add-low : tie.Need-add-low Inv-loop μ-loop
+add-low c = omega arith
 
-mul-advance-3 : tie.Need-mul-advance-3 Inv-loop μ-loop
-mul-advance-3 c = omega arith
+mul-low : tie.Need-mul-low Inv-loop μ-loop
+mul-low c = omega arith
 
-shared-slice-read-advance-3 : tie.Need-shared-slice-read-advance-3 Inv-loop μ-loop
-shared-slice-read-advance-3 c = omega arith
+shared-slice-read-low : tie.Need-shared-slice-read-low Inv-loop μ-loop
+shared-slice-read-low c = omega arith
 
 advance-requires : tie.Need-advance-requires Inv-loop μ-loop
 advance-requires c κs = tt
@@ -63,7 +64,14 @@ loop-less c = omega arith
 
 loop-again : tie.Need-loop-again Inv-loop μ-loop
 unfolding boundAt
-loop-again c = (fill-next _ _ _ _ _ _ _ _ _ (c .before .before .before .before .before .before .before .before .before .loop .inv .0) (c .before .before .before .before .before .before .before .before .loop-test .taken) _ (c .before .before .before .before .advance .ensures) _ (c .before .before .raise-row .ensures), omega arith, omega arith)
+loop-again c =
+    let b4 = c .before .before .before .before in
+    let b8 = b4 .before .before .before .before in (
+      fill-next _ _ _ _ _ _ _ _ _ (b8 .before .loop .inv .0) (b8 .loop-test .taken) _ (b4 .advance .ensures) _
+          (c .before .before .raise-row .ensures),
+      omega arith,
+      omega arith,
+    )
 
 same-length : tie.Need-same-length Inv-loop μ-loop
 same-length c = ap length (fill-ends _ _ _ _ _ _ _ _ _ (c .before .loop .inv .0) (omega arith)) ∙ filled-length _ _ _ _ _ _ _ _
@@ -80,14 +88,14 @@ fill-rows-spec =
     loop-holds
     cast-i
     mul-i
-    mul-advance
-    shared-slice-read-advance
-    add-advance
-    mul-advance-2
-    shared-slice-read-advance-2
-    add-advance-2
-    mul-advance-3
-    shared-slice-read-advance-3
+    mul-high
+    shared-slice-read-high
+    add-middle
+    mul-middle
+    shared-slice-read-middle
+    add-low
+    mul-low
+    shared-slice-read-low
     advance-requires
     raise-row-requires
     add-k

@@ -61,7 +61,10 @@ mul-result : tie.Need-mul-result
 mul-result c = omega arith
 
 returns-9 : tie.Need-returns-9
-returns-9 c = fits-last _ _ _ _ _ _ _ _ (omega arith) (omega arith) (omega arith) (omega arith) (omega arith) (omega arith) (omega arith) (stride * (c .before .before .before .before .before .before .before .before .before .before .before .args .n + 1)) (omega arith)
+returns-9 c =
+    let b8 = c .before .before .before .before .before .before .before .before in
+    fits-last _ _ _ _ _ _ _ _ (omega arith) (omega arith) (omega arith) (omega arith) (omega arith) (omega arith) (omega arith)
+    (stride * (b8 .before .before .before .args .n + 1)) (omega arith)
 
 pub fits-spec : {M : Type 1} → statement M
 fits-spec =

@@ -20,14 +20,14 @@ add-i c = omega arith
 returns : tie.Need-returns
 returns c = raised-past _ _ _ _ _ _ (c .before .before .column-of .ensures) (omega arith)
 
-mul-larger : tie.Need-mul-larger
-mul-larger c = omega arith
+mul-max : tie.Need-mul-max
+mul-max c = omega arith
 
-slice-read-larger : tie.Need-slice-read-larger
-slice-read-larger c = omega arith
+slice-read-max : tie.Need-slice-read-max
+slice-read-max c = omega arith
 
-larger-requires : tie.Need-larger-requires
-larger-requires c κs = tt
+max-requires : tie.Need-max-requires
+max-requires c κs = tt
 
 mul-t : tie.Need-mul-t
 mul-t c = omega arith
@@ -39,7 +39,7 @@ same-length : tie.Need-same-length
 same-length c = simp length-set
 
 returns-2 : tie.Need-returns-2
-returns-2 c = raised-is _ _ _ _ _ _ (c .before .before .before .before .column-of .ensures) _ (c .larger .ensures)
+returns-2 c = raised-is _ _ _ _ _ _ (c .before .before .before .before .column-of .ensures) _ (c .max .ensures)
 
 pub raise-cell-spec : {M : Type 1} → statement M
 raise-cell-spec =
@@ -50,9 +50,9 @@ raise-cell-spec =
     cast-i
     add-i
     returns
-    mul-larger
-    slice-read-larger
-    larger-requires
+    mul-max
+    slice-read-max
+    max-requires
     mul-t
     slice-write-t
     same-length

@@ -41,7 +41,9 @@ raise-cell-requires : tie.Need-raise-cell-requires Inv-loop μ-loop
 raise-cell-requires c κs = tt
 
 add-at : tie.Need-add-at Inv-loop μ-loop
-add-at c = omega (arith, c .before .before .before .before .before .before .before .loop .inv .there (c .before .before .before .before .before .before .loop-test .taken))
+add-at c =
+    let b4 = c .before .before .before .before in
+    omega (arith, b4 .before .before .before .loop .inv .there (b4 .before .before .loop-test .taken))
 
 add-i : tie.Need-add-i Inv-loop μ-loop
 add-i c = omega arith
@@ -50,7 +52,10 @@ loop-less : tie.Need-loop-less Inv-loop μ-loop
 loop-less c = omega arith
 
 loop-again : tie.Need-loop-again Inv-loop μ-loop
-loop-again c = rest-next _ _ _ _ _ _ _ _ (c .before .before .before .before .before .before .before .loop .inv) (c .before .before .before .before .before .before .loop-test .taken) _ _ _ (c .before .before .before .before .before .four .ensures .0) (c .before .before .before .before .eight .ensures .0) (c .before .before .raise-cell .ensures)
+loop-again c =
+    let b4 = c .before .before .before .before in
+    rest-next _ _ _ _ _ _ _ _ (b4 .before .before .before .loop .inv) (b4 .before .before .loop-test .taken) _ _ _
+    (b4 .before .four .ensures .0) (b4 .eight .ensures .0) (c .before .before .raise-cell .ensures)
 
 same-length : tie.Need-same-length Inv-loop μ-loop
 same-length c = ap length (rest-ends _ _ _ _ _ _ _ _ (c .before .loop .inv) (omega arith)) ∙ by-size _ _ _ _

@@ -3,6 +3,7 @@
 use Prim.Native.Nat.{_+_, _*_}
 use mathlib.Core.Path.{_≡_}
 use native.Mathlib.Omega.{arith}
+use borrow.Author.Tests.{not-true, not-false}
 use lib.ListN.{length}
 use Rattle.replication.specs.MethodRecords.{shapedAt}
 use Rattle.records.specs.Method.{commonLength, least}
@@ -30,9 +31,11 @@ record-length-requires c κs = tt
 
 returns : tie.Need-returns Inv-loop μ-loop
 returns c =
-    let l = c .before .before .before .before .loop in
-    let k = left-length _ (l .p) (l .left) (l .inv .1) (c .before .before .before .loop-test .taken) _ _ (c .before .before .one .ensures .0) (c .before .record-length .ensures) in
-    shape-stop _ _ _ _ _ _ (l .inv .0) (c .before .before .before .loop-test .taken) _ k (c .if1 .taken)
+    let one = c .before .before in
+    let took = one .before .loop-test .taken in
+    let l = one .before .before .loop in
+    let k = left-length _ (l .p) (l .left) (l .inv .1) took _ _ (one .one .ensures .0) (c .before .record-length .ensures) in
+    shape-stop _ _ _ _ _ _ (l .inv .0) took _ k (c .if1 .taken)
 
 add-item-there : tie.Need-add-item-there Inv-loop μ-loop
 add-item-there c =
@@ -47,30 +50,42 @@ rises-requires c κs = tt
 
 returns-2 : tie.Need-returns-2 Inv-loop μ-loop
 returns-2 c =
-    let l = c .before .before .before .before .before .before .before .loop in
-    let k = left-length _ (l .p) (l .left) (l .inv .1) (c .before .before .before .before .before .before .loop-test .taken) _ _ (c .before .before .before .before .before .one .ensures .0) (c .before .before .before .before .record-length .ensures) in
-    shape-low _ _ _ _ _ _ (l .inv .0) (c .before .before .before .before .before .before .loop-test .taken) _ k (c .before .before .before .if1 .left) _ _ _ (c .before .before .item-there .ensures) _ (c .before .rises .ensures)
-    (c .if2 .left)
+    let known = c .before .before .before in
+    let one = known .before .before in
+    let took = one .before .loop-test .taken in
+    let l = one .before .before .loop in
+    let k = left-length _ (l .p) (l .left) (l .inv .1) took _ _ (one .one .ensures .0) (known .before .record-length .ensures) in
+    shape-low _ _ _ _ _ _ (l .inv .0) took _ k (known .if1 .left) _ _ _ (c .before .before .item-there .ensures) _ (c .before .rises .ensures)
+    (not-true _ (c .if2 .taken))
 
 valid-requires : tie.Need-valid-requires Inv-loop μ-loop
 valid-requires c κs =
-    let l = c .before .before .before .before .before .before .before .loop in
-    left-whole _ (l .p) (l .left) (l .inv .1) (c .before .before .before .before .before .before .loop-test .taken) _ _ (c .before .before .before .before .before .one .ensures .0) (c .before .before .before .before .record-length .ensures) (c .before .before .before .if1 .left)
+    let known = c .before .before .before in
+    let one = known .before .before in
+    let l = one .before .before .loop in
+    left-whole _ (l .p) (l .left) (l .inv .1) (one .before .loop-test .taken) _ _ (one .one .ensures .0) (known .before .record-length .ensures)
+    (known .if1 .left)
 
 returns-3 : tie.Need-returns-3 Inv-loop μ-loop
 returns-3 c =
-    let l = c .before .before .before .before .before .before .before .before .before .loop in
-    let k = left-length _ (l .p) (l .left) (l .inv .1) (c .before .before .before .before .before .before .before .before .loop-test .taken) _ _ (c .before .before .before .before .before .before .before .one .ensures .0) (c .before .before .before .before .before .before .record-length .ensures) in
-    shape-invalid _ _ _ _ _ _ (l .inv .0) (c .before .before .before .before .before .before .before .before .loop-test .taken) _ k (c .before .before .before .before .before .if1 .left) _ _ _ (c .before .before .before .before .item-there .ensures) _
-    (c .before .before .before .rises .ensures) (c .before .before .if2 .taken) _ (c .before .valid .ensures) (c .if3 .left)
+    let rising = c .before .before in
+    let known = rising .before .before .before in
+    let one = known .before .before in
+    let took = one .before .loop-test .taken in
+    let l = one .before .before .loop in
+    let k = left-length _ (l .p) (l .left) (l .inv .1) took _ _ (one .one .ensures .0) (known .before .record-length .ensures) in
+    shape-invalid _ _ _ _ _ _ (l .inv .0) took _ k (known .if1 .left) _ _ _ (rising .before .before .item-there .ensures) _
+    (rising .before .rises .ensures) (not-false _ (rising .if2 .left)) _ (c .before .valid .ensures) (not-true _ (c .if3 .taken))
 
 add-p : tie.Need-add-p Inv-loop μ-loop
 add-p c =
-    let l = c .before .before .before .before .before .before .before .before .before .loop in
+    let known = c .before .before .before .before .before in
+    let one = known .before .before in
+    let l = one .before .before .loop in
     omega (
       arith,
-      left-next (c .before .before .before .before .before .before .before .before .before .before .before .args .s .now) (l .p) (l .left) (l .inv .1) (c .before .before .before .before .before .before .before .before .loop-test .taken) _ _ (c .before .before .before .before .before .before .before .one .ensures .0) (c .before .before .before .before .before .before .record-length .ensures)
-          (c .before .before .before .before .before .if1 .left),
+      left-next (one .before .before .before .before .args .s .now) (l .p) (l .left) (l .inv .1) (one .before .loop-test .taken) _ _
+          (one .one .ensures .0) (known .before .record-length .ensures) (known .if1 .left),
     )
 
 sub-left : tie.Need-sub-left Inv-loop μ-loop
@@ -81,11 +96,16 @@ loop-less c = omega arith
 
 loop-again : tie.Need-loop-again Inv-loop μ-loop
 loop-again c =
-    let l = c .before .before .before .before .before .before .before .before .before .loop in
-    let k = left-length _ (l .p) (l .left) (l .inv .1) (c .before .before .before .before .before .before .before .before .loop-test .taken) _ _ (c .before .before .before .before .before .before .before .one .ensures .0) (c .before .before .before .before .before .before .record-length .ensures) in (
-      shape-on _ _ _ _ _ _ (l .inv .0) (c .before .before .before .before .before .before .before .before .loop-test .taken) _ k (c .before .before .before .before .before .if1 .left) _ _ _ (c .before .before .before .before .item-there .ensures) _
-          (c .before .before .before .rises .ensures) (c .before .before .if2 .taken) _ (c .before .valid .ensures) (c .if3 .taken),
-      left-next (c .before .before .before .before .before .before .before .before .before .before .before .args .s .now) (l .p) (l .left) (l .inv .1) (c .before .before .before .before .before .before .before .before .loop-test .taken) _ _ (c .before .before .before .before .before .before .before .one .ensures .0) (c .before .before .before .before .before .before .record-length .ensures) (c .before .before .before .before .before .if1 .left),
+    let rising = c .before .before in
+    let known = rising .before .before .before in
+    let one = known .before .before in
+    let took = one .before .loop-test .taken in
+    let l = one .before .before .loop in
+    let n = known .before .record-length .ensures in
+    let k = left-length _ (l .p) (l .left) (l .inv .1) took _ _ (one .one .ensures .0) n in (
+      shape-on _ _ _ _ _ _ (l .inv .0) took _ k (known .if1 .left) _ _ _ (rising .before .before .item-there .ensures) _
+          (rising .before .rises .ensures) (not-false _ (rising .if2 .left)) _ (c .before .valid .ensures) (not-false _ (c .if3 .left)),
+      left-next (one .before .before .before .before .args .s .now) (l .p) (l .left) (l .inv .1) took _ _ (one .one .ensures .0) n (known .if1 .left),
     )
 
 returns-4 : tie.Need-returns-4 Inv-loop μ-loop

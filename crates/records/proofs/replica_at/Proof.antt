@@ -1,5 +1,6 @@
 -- `records::replica_at` meets its contract: the words are read where all bytes of the id are there.
 use native.Mathlib.Omega.{arith}
+use Rattle.leaves.proofs.Part.{part-is}
 use Rattle.records.proofs.Fields.{replica-total, replica-missing}
 use borrow.Author.Needs.{needs}
 use Rattle.records.proofs.replica_at.Statement.{statement}
@@ -17,25 +18,56 @@ returns c = replica-missing _ _ (omega (arith, c .before .beyond .ensures .0 (c 
 add-eight : tie.Need-add-eight
 add-eight c = omega (arith, c .before .beyond .ensures .1 (c .if1 .left))
 
-eight-requires : tie.Need-eight-requires
-eight-requires c κs = omega (arith, c .before .beyond .ensures .1 (c .if1 .left))
-
 add-eight-2 : tie.Need-add-eight-2
-add-eight-2 c = omega (arith, c .before .before .beyond .ensures .1 (c .before .if1 .left))
+add-eight-2 c = omega (arith, c .before .beyond .ensures .1 (c .if1 .left))
 
 add-eight-3 : tie.Need-add-eight-3
-add-eight-3 c = omega (arith, c .before .before .beyond .ensures .1 (c .before .if1 .left))
+add-eight-3 c = omega (arith, c .before .beyond .ensures .1 (c .if1 .left))
+
+sub-eight : tie.Need-sub-eight
+sub-eight c = search needs
+
+part-eight-start : tie.Need-part-eight-start
+part-eight-start c = search needs
+
+part-eight-end : tie.Need-part-eight-end
+part-eight-end c = omega (arith, c .before .beyond .ensures .1 (c .if1 .left))
+
+eight-requires : tie.Need-eight-requires
+eight-requires c κs = search needs
+
+add-eight-4 : tie.Need-add-eight-4
+add-eight-4 c = omega (arith, c .before .before .before .beyond .ensures .1 (c .before .before .if1 .left))
+
+add-eight-5 : tie.Need-add-eight-5
+add-eight-5 c = omega (arith, c .before .before .before .beyond .ensures .1 (c .before .before .if1 .left))
+
+add-eight-6 : tie.Need-add-eight-6
+add-eight-6 c = omega (arith, c .before .before .before .beyond .ensures .1 (c .before .before .if1 .left))
+
+add-eight-7 : tie.Need-add-eight-7
+add-eight-7 c = omega (arith, c .before .before .before .beyond .ensures .1 (c .before .before .if1 .left))
+
+add-eight-8 : tie.Need-add-eight-8
+add-eight-8 c = omega (arith, c .before .before .before .beyond .ensures .1 (c .before .before .if1 .left))
+
+sub-eight-2 : tie.Need-sub-eight-2
+sub-eight-2 c = search needs
+
+part-eight-start-2 : tie.Need-part-eight-start-2
+part-eight-start-2 c = search needs
+
+part-eight-end-2 : tie.Need-part-eight-end-2
+part-eight-end-2 c = omega (arith, c .before .before .before .beyond .ensures .1 (c .before .before .if1 .left))
 
 eight-requires-2 : tie.Need-eight-requires-2
-eight-requires-2 c κs = omega (arith, c .before .before .beyond .ensures .1 (c .before .if1 .left))
+eight-requires-2 c κs = search needs
 
 returns-2 : tie.Need-returns-2
 returns-2 c =
-    replica-total _ _ (omega (
-      arith,
-      c .before .before .before .beyond .ensures .1
-          (c .before .before .if1 .left),
-    )) _ _ (c .before .eight .ensures .0) (c .eight2 .ensures .0)
+    let there = c .before .before .before .before .before .beyond .ensures .1 (c .before .before .before .before .if1 .left) in
+    replica-total _ _ (omega (arith, there)) _ _ (part-is _ _ _ _ (c .before .before .eight .ensures .0) (omega (arith, there)))
+    (part-is _ _ _ _ (c .eight2 .ensures .0) (omega (arith, there)))
 
 pub replica-at-spec : {M : Type 1} → statement M
 replica-at-spec =
@@ -45,8 +77,19 @@ replica-at-spec =
     beyond-requires
     returns
     add-eight
-    eight-requires
     add-eight-2
     add-eight-3
+    sub-eight
+    part-eight-start
+    part-eight-end
+    eight-requires
+    add-eight-4
+    add-eight-5
+    add-eight-6
+    add-eight-7
+    add-eight-8
+    sub-eight-2
+    part-eight-start-2
+    part-eight-end-2
     eight-requires-2
     returns-2)

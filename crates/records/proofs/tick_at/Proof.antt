@@ -2,6 +2,7 @@
 use native.Mathlib.Omega.{arith}
 use mathlib.Core.Path.{sym}
 use Rattle.codec.proofs.Total.{read-missing}
+use Rattle.leaves.proofs.Part.{part-is}
 use Rattle.records.proofs.Fields.{tick-total}
 use borrow.Author.Needs.{needs}
 use Rattle.records.proofs.tick_at.Statement.{statement}
@@ -19,14 +20,41 @@ returns c = sym (read-missing _ 8 _ (omega (arith, c .before .beyond .ensures .0
 add-eight : tie.Need-add-eight
 add-eight c = omega (arith, c .before .beyond .ensures .1 (c .if1 .left))
 
+add-eight-2 : tie.Need-add-eight-2
+add-eight-2 c = omega (arith, c .before .beyond .ensures .1 (c .if1 .left))
+
+add-eight-3 : tie.Need-add-eight-3
+add-eight-3 c = omega (arith, c .before .beyond .ensures .1 (c .if1 .left))
+
+sub-eight : tie.Need-sub-eight
+sub-eight c = search needs
+
+part-eight-start : tie.Need-part-eight-start
+part-eight-start c = search needs
+
+part-eight-end : tie.Need-part-eight-end
+part-eight-end c = omega (arith, c .before .beyond .ensures .1 (c .if1 .left))
+
 eight-requires : tie.Need-eight-requires
-eight-requires c κs = omega (arith, c .before .beyond .ensures .1 (c .if1 .left))
+eight-requires c κs = search needs
 
 returns-2 : tie.Need-returns-2
 returns-2 c =
-    tick-total _ _ (omega (arith, c .before .before .beyond .ensures .1 (c .before .if1 .left))) _
-    (c .eight .ensures .0)
+    tick-total _ _ (omega (arith, c .before .before .before .beyond .ensures .1 (c .before .before .if1 .left))) _
+    (part-is _ _ _ _ (c .eight .ensures .0) (omega (arith, c .before .before .before .beyond .ensures .1 (c .before .before .if1 .left))))
 
 pub tick-at-spec : {M : Type 1} → statement M
 tick-at-spec =
-    tie.close (tie.spec add-beyond beyond-requires returns add-eight eight-requires returns-2)
+    tie.close
+    (tie.spec
+    add-beyond
+    beyond-requires
+    returns
+    add-eight
+    add-eight-2
+    add-eight-3
+    sub-eight
+    part-eight-start
+    part-eight-end
+    eight-requires
+    returns-2)

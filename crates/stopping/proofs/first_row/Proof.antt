@@ -14,13 +14,17 @@ same-length : tie.Need-same-length
 same-length c = omega arith
 
 returns : tie.Need-returns
-returns c = (first-at-once _ _ _ _ (c .before .before .before .before .put-bound .ensures .0) (c .before .same3 .ensures) (c .if1 .taken), omega arith, omega arith, omega arith)
+returns c =
+    let b4 = c .before .before .before .before in
+    (first-at-once _ _ _ _ (b4 .put-bound .ensures .0) (c .before .same3 .ensures) (c .if1 .taken), omega arith, omega arith, omega arith)
 
 same-length-2 : tie.Need-same-length-2
 same-length-2 c = omega arith
 
 returns-2 : tie.Need-returns-2
-returns-2 c = (first-after-one _ _ _ _ (c .before .before .before .before .put-bound .ensures .0) (c .before .same3 .ensures) (c .if1 .left), omega arith, omega arith, omega arith)
+returns-2 c =
+    let b4 = c .before .before .before .before in
+    (first-after-one _ _ _ _ (b4 .put-bound .ensures .0) (c .before .same3 .ensures) (c .if1 .left), omega arith, omega arith, omega arith)
 
 pub first-row-spec : {M : Type 1} → statement M
 first-row-spec =

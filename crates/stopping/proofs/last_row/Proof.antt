@@ -13,7 +13,10 @@ returns : tie.Need-returns
 returns c = (last-none _ _ _ _ (c .before .same3 .ensures) (c .if1 .taken), refl)
 
 after-item-requires : tie.Need-after-item-requires
-after-item-requires c κs = below-top (boundOf (c .before .before .before .args .l0) (c .before .before .before .args .l1) (c .before .before .before .args .l2)) _ (c .before .same3 .ensures) (c .if1 .left) (record { high = omega arith; middle = omega arith; low = omega arith })
+after-item-requires c κs =
+    below-top (boundOf (c .before .before .before .args .l0) (c .before .before .before .args .l1)
+    (c .before .before .before .args .l2)) _ (c .before .same3 .ensures) (c .if1 .left)
+    (record { high = omega arith; middle = omega arith; low = omega arith })
 
 add-put-bound : tie.Need-add-put-bound
 add-put-bound c = omega arith
@@ -28,7 +31,12 @@ same-length : tie.Need-same-length
 same-length c = omega arith
 
 returns-2 : tie.Need-returns-2
-returns-2 c = (last-more _ _ _ _ (c .before .before .before .before .before .before .same3 .ensures) (c .before .before .before .before .before .if1 .left) _ _ (c .before .before .before .before .after-item .ensures) (c .before .before .put-bound .ensures .0), omega arith)
+returns-2 c =
+    let b4 = c .before .before .before .before in (
+      last-more _ _ _ _ (b4 .before .before .same3 .ensures) (b4 .before .if1 .left) _ _ (b4 .after-item .ensures)
+          (c .before .before .put-bound .ensures .0),
+      omega arith,
+    )
 
 pub last-row-spec : {M : Type 1} → statement M
 last-row-spec =

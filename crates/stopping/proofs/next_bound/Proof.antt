@@ -20,7 +20,8 @@ add-t14 : tie.Need-add-t14
 add-t14 c = omega arith
 
 returns-2 : tie.Need-returns-2
-returns-2 c = (turn-second _ _ _ _ _ _ _ _ (omega arith) (c .if2 .taken) _ (c .before .bound-at2 .ensures), omega arith, omega arith, omega arith)
+returns-2 c =
+    (turn-second _ _ _ _ _ _ _ _ (omega arith) (c .if2 .taken) _ (c .before .bound-at2 .ensures), omega arith, omega arith, omega arith)
 
 bound-at-requires-3 : tie.Need-bound-at-requires-3
 bound-at-requires-3 c κs = omega arith
@@ -32,13 +33,27 @@ add-t16 : tie.Need-add-t16
 add-t16 c = omega arith
 
 returns-3 : tie.Need-returns-3
-returns-3 c = (turn-lower _ _ _ _ _ _ _ _ (omega arith) (omega arith) _ _ (c .before .before .bound-at3 .ensures) (c .before .before .before .before .bound-at2 .ensures) _ (c .before .less3 .ensures) (c .if3 .taken), omega arith, omega arith, omega arith)
+returns-3 c =
+    let b4 = c .before .before .before .before in (
+      turn-lower _ _ _ _ _ _ _ _ (omega arith) (omega arith) _ _ (c .before .before .bound-at3 .ensures) (b4 .bound-at2 .ensures) _
+          (c .before .less3 .ensures) (c .if3 .taken),
+      omega arith,
+      omega arith,
+      omega arith,
+    )
 
 add-t17 : tie.Need-add-t17
 add-t17 c = omega arith
 
 returns-4 : tie.Need-returns-4
-returns-4 c = (turn-upper _ _ _ _ _ _ _ _ (omega arith) (omega arith) _ _ (c .before .before .bound-at3 .ensures) (c .before .before .before .before .bound-at2 .ensures) _ (c .before .less3 .ensures) (c .if3 .left), omega arith, omega arith, omega arith)
+returns-4 c =
+    let b4 = c .before .before .before .before in (
+      turn-upper _ _ _ _ _ _ _ _ (omega arith) (omega arith) _ _ (c .before .before .bound-at3 .ensures) (b4 .bound-at2 .ensures) _
+          (c .before .less3 .ensures) (c .if3 .left),
+      omega arith,
+      omega arith,
+      omega arith,
+    )
 
 pub next-bound-spec : {M : Type 1} → statement M
 next-bound-spec =

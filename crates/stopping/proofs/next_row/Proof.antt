@@ -48,7 +48,13 @@ same-length : tie.Need-same-length
 same-length c = omega arith
 
 returns : tie.Need-returns
-returns c = (row-more _ _ _ _ _ _ refl refl refl _ (c .before .before .before .before .before .less3 .ensures) (c .before .before .before .before .if1 .taken) _ (c .before .before .put-bound .ensures .0), omega arith, omega arith, omega arith)
+returns c =
+    let b4 = c .before .before .before .before in (
+      row-more _ _ _ _ _ _ refl refl refl _ (b4 .before .less3 .ensures) (b4 .if1 .taken) _ (c .before .before .put-bound .ensures .0),
+      omega arith,
+      omega arith,
+      omega arith,
+    )
 
 returns-2 : tie.Need-returns-2
 returns-2 c = (row-same _ _ _ _ _ _ refl refl refl _ (c .before .less3 .ensures) (c .if1 .left), omega arith, omega arith, refl)

@@ -42,7 +42,9 @@ mul-result : tie.Need-mul-result
 mul-result c = omega arith
 
 returns-6 : tie.Need-returns-6
-returns-6 c = rows-last _ _ _ _ _ _ _ (omega arith) (omega arith) (omega arith) (3 * (c .before .before .before .before .before .before .before .before .args .n + 1)) (omega arith)
+returns-6 c =
+    let b8 = c .before .before .before .before .before .before .before .before in
+    rows-last _ _ _ _ _ _ _ (omega arith) (omega arith) (omega arith) (3 * (b8 .args .n + 1)) (omega arith)
 
 pub rows-fit-spec : {M : Type 1} → statement M
 rows-fit-spec =

@@ -17,15 +17,23 @@ rows-fit-requires : tie.Need-rows-fit-requires
 rows-fit-requires c κs = tt
 
 put-span-requires : tie.Need-put-span-requires
-put-span-requires c κs = let a = c .before .before .before .before .before .before .args in
-    let f = rows-tell (a .s .now) (a .c) (a .s .now) 0 (a .c .next) (a .c .left + 3) (length (a .bounds .now)) _ (c .before .before .rows-fit .ensures) (c .before .if1 .taken) in
+put-span-requires c κs =
+    let b4 = c .before .before .before .before in
+    let a = b4 .before .before .args in
+    let f = rows-tell (a .s .now) (a .c) (a .s .now) 0 (a .c .next) (a .c .left + 3) (length (a .bounds .now)) _
+    (c .before .before .rows-fit .ensures) (c .before .if1 .taken) in
     (f .ranges, omega (arith, f .rows), omega (arith, f .boundWords))
 
 same-length : tie.Need-same-length
 same-length c = omega arith
 
 returns : tie.Need-returns
-returns c = (c .before .before .put-span .ensures .0 ∙ spanned-some _ _ _ _ _ _ (c .before .before .before .before .before .rows-fit .ensures) (c .before .before .before .before .if1 .taken), c .before .before .put-span .ensures .1, c .before .before .put-span .ensures .2)
+returns c =
+    let b4 = c .before .before .before .before in (
+      c .before .before .put-span .ensures .0 ∙ spanned-some _ _ _ _ _ _ (b4 .before .rows-fit .ensures) (b4 .if1 .taken),
+      c .before .before .put-span .ensures .1,
+      c .before .before .put-span .ensures .2,
+    )
 
 returns-2 : tie.Need-returns-2
 returns-2 c = (spanned-none _ _ _ _ _ _ (c .before .rows-fit .ensures) (c .if1 .left), omega arith, refl)

@@ -20,7 +20,14 @@ same-length : tie.Need-same-length
 same-length c = omega arith
 
 returns : tie.Need-returns
-returns c = page-wrote (c .before .before .before .before .before .before .before .before .before .before .before .before .before .before .before .before .before .before .before .before .before .before .before .args .z) _ _ _ _ _ _ _ _ _ _ _ _ _ _ _ _ (c .before .before .before .before .before .before .before .before .before .before .before .before .before .before .write-map .ensures) (c .before .before .before .before .before .before .before .before .before .before .write-vector-list .ensures) (c .before .before .before .before .before .before .write-range-list .ensures) (c .before .before .write-closing .ensures)
+returns c =
+    let b4 = c .before .before .before .before in
+    let b8 = b4 .before .before .before .before in
+    let b12 = b8 .before .before .before .before in
+    let b20 = b12 .before .before .before .before .before .before .before .before in
+    page-wrote (b20 .before .before .before .args .z) _ _ _ _ _ _ _ _ _ _ _ _ _ _ _ _ (b12 .before .before .write-map .ensures)
+    (b8 .before .before .write-vector-list .ensures) (b4 .before .before .write-range-list .ensures)
+    (c .before .before .write-closing .ensures)
 
 pub write-spec : {M : Type 1} → statement M
 write-spec =

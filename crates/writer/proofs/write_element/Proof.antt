@@ -20,7 +20,9 @@ same-length : tie.Need-same-length
 same-length c = omega arith
 
 returns : tie.Need-returns
-returns c = element-wrote _ _ _ _ _ _ (c .before .before .before .before .before .before .write4 .ensures) (c .before .before .write8 .ensures)
+returns c =
+    let b4 = c .before .before .before .before in
+    element-wrote _ _ _ _ _ _ (b4 .before .before .write4 .ensures) (c .before .before .write8 .ensures)
 
 pub write-element-spec : {M : Type 1} → statement M
 write-element-spec =

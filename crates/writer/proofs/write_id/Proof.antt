@@ -29,7 +29,11 @@ same-length : tie.Need-same-length
 same-length c = omega arith
 
 returns : tie.Need-returns
-returns c = id-wrote _ _ _ _ _ _ _ _ (c .before .before .before .before .before .before .before .before .word .ensures) (c .before .before .before .word2 .ensures) (c .before .before .before .before .before .before .before .write8 .ensures) (c .before .before .write82 .ensures)
+returns c =
+    let b4 = c .before .before .before .before in
+    let b8 = b4 .before .before .before .before in
+    id-wrote _ _ _ _ _ _ _ _ (b8 .word .ensures) (c .before .before .before .word2 .ensures)
+    (b4 .before .before .before .write8 .ensures) (c .before .before .write82 .ensures)
 
 pub write-id-spec : {M : Type 1} → statement M
 write-id-spec =

@@ -37,7 +37,15 @@ loop-less : tie.Need-loop-less Inv-loop μ-loop
 loop-less c = omega arith
 
 loop-again : tie.Need-loop-again Inv-loop μ-loop
-loop-again c = (ids-more _ _ _ _ _ _ _ _ _ (c .before .before .before .before .before .before .loop .inv .0) _ _ _ (c .before .before .before .before .before .loop-test .taken) (c .before .before .before .number .ensures) (c .before .before .write-id .ensures), omega arith, omega arith, omega arith, omega arith)
+loop-again c =
+    let b4 = c .before .before .before .before in (
+      ids-more _ _ _ _ _ _ _ _ _ (b4 .before .before .loop .inv .0) _ _ _ (b4 .before .loop-test .taken)
+          (c .before .before .before .number .ensures) (c .before .before .write-id .ensures),
+      omega arith,
+      omega arith,
+      omega arith,
+      omega arith,
+    )
 
 same-length : tie.Need-same-length Inv-loop μ-loop
 same-length c = omega arith

@@ -50,7 +50,14 @@ same-length : tie.Need-same-length
 same-length c = omega arith
 
 returns : tie.Need-returns
-returns c = range-wrote _ _ _ _ _ _ _ _ _ _ _ _ (c .before .before .before .before .before .before .before .before .before .before .before .before .before .before .before .before .before .before .word .ensures) (c .before .before .before .before .before .before .before .before .before .before .before .before .before .word2 .ensures) (c .before .before .before .before .before .before .before .before .word3 .ensures) (c .before .before .before .before .before .before .before .before .before .before .before .before .before .before .before .before .before .write8 .ensures) (c .before .before .before .before .before .before .before .before .before .before .before .before .write82 .ensures) (c .before .before .before .before .before .before .before .write83 .ensures) (c .before .before .write4 .ensures)
+returns c =
+    let b4 = c .before .before .before .before in
+    let b8 = b4 .before .before .before .before in
+    let b12 = b8 .before .before .before .before in
+    let b16 = b12 .before .before .before .before in
+    range-wrote _ _ _ _ _ _ _ _ _ _ _ _ (b16 .before .before .word .ensures) (b12 .before .word2 .ensures) (b8 .word3 .ensures)
+    (b16 .before .write8 .ensures) (b12 .write82 .ensures) (b4 .before .before .before .write83 .ensures)
+    (c .before .before .write4 .ensures)
 
 pub write-range-spec : {M : Type 1} → statement M
 write-range-spec =

@@ -26,7 +26,11 @@ same-length : tie.Need-same-length
 same-length c = omega arith
 
 returns-2 : tie.Need-returns-2
-returns-2 c = range-list-wrote _ _ _ _ _ _ _ _ (c .before .before .before .before .before .before .before .before .before .before .write-before-ranges .ensures) (c .before .before .before .before .before .before .write4 .ensures) (c .before .before .write-ranges .ensures)
+returns-2 c =
+    let b4 = c .before .before .before .before in
+    let b8 = b4 .before .before .before .before in
+    range-list-wrote _ _ _ _ _ _ _ _ (b8 .before .before .write-before-ranges .ensures) (b4 .before .before .write4 .ensures)
+    (c .before .before .write-ranges .ensures)
 
 pub write-range-list-spec : {M : Type 1} → statement M
 write-range-list-spec =

@@ -12,7 +12,8 @@ use Rattle.writer.proofs.write_ranges.Tie as tie
 
 abbrev Inv-loop : tie.InvT-loop
 Inv-loop out₀ at bounds numbers n p₀ i₀ before₀ out p i before =
-    Left out₀ at (rangesPieces bounds 1 (n + 1) (numbersAt numbers 0 n)) out p (rangesPieces bounds (i + 1) before (numbersAt numbers i (n - i)))
+    Left out₀ at (rangesPieces bounds 1 (n + 1) (numbersAt numbers 0 n)) out p
+    (rangesPieces bounds (i + 1) before (numbersAt numbers i (n - i)))
     × (p ≤ at + 28 * i) × (i ≤ n) × (at + 28 * n < 2 ^ 64) × (length out ≡ length out₀)
 
 abbrev μ-loop : tie.MeasureT-loop
@@ -40,7 +41,15 @@ loop-less : tie.Need-loop-less Inv-loop μ-loop
 loop-less c = omega arith
 
 loop-again : tie.Need-loop-again Inv-loop μ-loop
-loop-again c = (ranges-more _ _ _ _ _ _ _ _ _ _ _ (c .before .before .before .before .before .before .loop .inv .0) _ _ _ (c .before .before .before .before .before .loop-test .taken) (c .before .before .before .before .number .ensures) (c .before .before .write-row .ensures .0), omega arith, omega arith, omega arith, omega arith)
+loop-again c =
+    let b4 = c .before .before .before .before in (
+      ranges-more _ _ _ _ _ _ _ _ _ _ _ (b4 .before .before .loop .inv .0) _ _ _ (b4 .before .loop-test .taken) (b4 .number .ensures)
+          (c .before .before .write-row .ensures .0),
+      omega arith,
+      omega arith,
+      omega arith,
+      omega arith,
+    )
 
 same-length : tie.Need-same-length Inv-loop μ-loop
 same-length c = omega arith

@@ -20,7 +20,9 @@ same-length : tie.Need-same-length
 same-length c = omega arith
 
 returns-2 : tie.Need-returns-2
-returns-2 c = (row-new _ _ _ _ _ _ _ _ (c .before .before .before .before .if1 .left) (c .before .before .write-range .ensures), omega arith)
+returns-2 c =
+    let b4 = c .before .before .before .before in
+    (row-new _ _ _ _ _ _ _ _ (b4 .if1 .left) (c .before .before .write-range .ensures), omega arith)
 
 pub write-row-spec : {M : Type 1} → statement M
 write-row-spec =

@@ -30,7 +30,11 @@ same-length : tie.Need-same-length
 same-length c = omega arith
 
 returns-2 : tie.Need-returns-2
-returns-2 c = vector-wrote _ _ _ _ _ _ _ _ _ (c .before .before .before .before .before .before .before .before .before .before .write4 .ensures) (c .before .before .before .before .before .before .write-elements .ensures .0) (c .before .before .before .before .before .before .write-elements .ensures .1) refl (c .before .before .write42 .ensures)
+returns-2 c =
+    let b4 = c .before .before .before .before in
+    let b8 = b4 .before .before .before .before in
+    vector-wrote _ _ _ _ _ _ _ _ _ (b8 .before .before .write4 .ensures) (b4 .before .before .write-elements .ensures .0)
+    (b4 .before .before .write-elements .ensures .1) refl (c .before .before .write42 .ensures)
 
 pub write-vector-spec : {M : Type 1} → statement M
 write-vector-spec =

@@ -121,7 +121,9 @@ fn well_formed(text: &str) -> Result<(), String> {
         // Outside of quotes only names, blanks and equality signs are left.
         let parts: Vec<&str> = attributes.split('"').collect();
         let names = parts.iter().step_by(2);
-        if parts.len() % 2 == 0 || names.rev().skip(1).any(|part| !part.ends_with('=')) || parts[parts.len() - 1] != ""
+        if parts.len().is_multiple_of(2)
+            || names.rev().skip(1).any(|part| !part.ends_with('='))
+            || !parts[parts.len() - 1].is_empty()
         {
             return Err(format!("attributes of {name}"));
         }

@@ -1,0 +1,85 @@
+-- `apply::write_applied` meets its contract: the merged knowledge in its room, and both tables joined, make the applied store.
+use native.Mathlib.Omega.{arith}
+use Rattle.layout.specs.Permitted.{largestRecords}
+use Rattle.replication.specs.Operate.{applied}
+use Rattle.replication.specs.MethodOpening.{storeAt, batchAt}
+use Rattle.codec.proofs.Writing.{zeros-length}
+use Rattle.operations.specs.MethodOpened.{limitsOf}
+use Rattle.operations.proofs.Opened.{merge-opened}
+use Rattle.store_write.proofs.Closing.{store-room, close-store}
+use Rattle.apply.proofs.Applying.{apply-inside, mine-reads, theirs-reads}
+use borrow.Author.Needs.{needs}
+use Rattle.apply.proofs.write_applied.Statement.{statement}
+use Rattle.apply.proofs.write_applied.Tie as tie
+
+add-mine : tie.Need-add-mine
+add-mine c = search needs
+
+add-theirs : tie.Need-add-theirs
+add-theirs c = search needs
+
+slice-aggregate-join : tie.Need-slice-aggregate-join
+slice-aggregate-join c = search needs
+
+join-requires : tie.Need-join-requires
+join-requires c κs = search needs
+
+room-in-store-requires : tie.Need-room-in-store-requires
+room-in-store-requires c κs = search needs
+
+sub-merge-opened : tie.Need-sub-merge-opened
+sub-merge-opened c = search needs
+
+part-merge-opened-start : tie.Need-part-merge-opened-start
+part-merge-opened-start c = search needs
+
+part-merge-opened-end : tie.Need-part-merge-opened-end
+part-merge-opened-end c = search needs
+
+merge-opened-requires : tie.Need-merge-opened-requires
+merge-opened-requires c κs = search needs
+
+slice-aggregate-close-store : tie.Need-slice-aggregate-close-store
+slice-aggregate-close-store c = search needs
+
+close-store-requires : tie.Need-close-store-requires
+close-store-requires c κs = search needs
+
+same-length : tie.Need-same-length
+same-length c = search needs
+
+returns : tie.Need-returns
+returns c =
+    let b5 = c .before .before .before .before .before in
+    let b10 = b5 .before .before .before .before .before in
+    let b15 = b10 .before .before .before .before .before in
+    let b20 = b15 .before .before .before .before .before in
+    let a = b20 .args in
+    let m = b20 .pre in
+    let L = limitsOf (a .limits) in
+    close-store L (applied (storeAt L (a .store .now)) (batchAt L (a .batch .now))) (a .out .now)
+    (apply-inside (a .limits .replicas) (a .limits .ranges) (a .limits .records) _ _ _ _ _ _ _ _ m _ _ _ _
+    (b10 .before .join .ensures .0 .0) (b10 .before .join .ensures .0 .1) (b10 .before .join .ensures .1)
+    (omega (arith, zeros-length largestRecords)) _ _ _
+    (store-room _ (b5 .before .before .before .before .room-in-store .ensures .0)) _ _
+    (merge-opened (a .limits) _ _ _ _ _ _ _ (b5 .before .before .merge-opened .ensures)
+    (mine-reads (a .limits) _ _ _ _ _ _ _ _ m) (theirs-reads (a .limits) _ _ _ _ _ _ _ _ m)))
+    (c .before .before .close-store .ensures)
+
+pub write-applied-spec : {M : Type 1} → statement M
+write-applied-spec =
+    tie.close
+    (tie.spec
+    add-mine
+    add-theirs
+    slice-aggregate-join
+    join-requires
+    room-in-store-requires
+    sub-merge-opened
+    part-merge-opened-start
+    part-merge-opened-end
+    merge-opened-requires
+    slice-aggregate-close-store
+    close-store-requires
+    same-length
+    returns)

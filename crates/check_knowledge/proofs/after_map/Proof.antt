@@ -1,0 +1,40 @@
+-- `check_knowledge::after_map` meets its contract. The count of the vectors, then what is after it.
+use native.Mathlib.Omega.{arith}
+use Rattle.check_knowledge.specs.Method.{afterMap}
+use Rattle.check_knowledge.proofs.Answers.{told-fault, told-on}
+use mathlib.Core.Path.{sym, _∙_}
+use Rattle.check_knowledge.proofs.after_map.Statement.{statement}
+use Rattle.check_knowledge.proofs.after_map.Tie as tie
+
+vector-count-requires : tie.Need-vector-count-requires
+vector-count-requires c κs = tt
+
+enum-known-v : tie.Need-enum-known-v
+enum-known-v c = omega arith
+
+after-count-requires : tie.Need-after-count-requires
+after-count-requires c κs = tt
+
+enum-known-n : tie.Need-enum-known-n
+enum-known-n c = omega arith
+
+returns : tie.Need-returns
+unfolding afterMap
+returns c =
+    told-on _ _ _ _ _ (sym (c .before .before .before .before .vector-count .ensures) ∙ c .before .before .v .given .1) (c .after-count .ensures)
+
+returns-2 : tie.Need-returns-2
+unfolding afterMap
+returns-2 c =
+    told-fault _ _ _ (sym (c .before .before .before .vector-count .ensures) ∙ c .before .n .given .1)
+
+pub after-map-spec : {M : Type 1} → statement M
+after-map-spec =
+    tie.close
+    (tie.spec
+    vector-count-requires
+    enum-known-v
+    after-count-requires
+    enum-known-n
+    returns
+    returns-2)

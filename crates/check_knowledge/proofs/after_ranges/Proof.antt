@@ -1,0 +1,34 @@
+-- `check_knowledge::after_ranges` meets its contract. The closing fields, then that no byte is left.
+use native.Mathlib.Omega.{arith}
+use Rattle.check_knowledge.proofs.Answers.{answer-whole, answer-more, answer-fault}
+use Rattle.check_knowledge.proofs.after_ranges.Statement.{statement}
+use Rattle.check_knowledge.proofs.after_ranges.Tie as tie
+
+closing-fields-requires : tie.Need-closing-fields-requires
+closing-fields-requires c κs = tt
+
+enum-known-end : tie.Need-enum-known-end
+enum-known-end c = omega arith
+
+enum-known-n : tie.Need-enum-known-n
+enum-known-n c = omega arith
+
+returns : tie.Need-returns
+returns c =
+    let a = c .before .before .before .before .before .before .args in
+    answer-whole (a .s .now) (a .r) (a .v) (a .e) (a .g) (a .at) _ _ _ (c .before .before .before .before .closing-fields .ensures) (c .before .before .end .given .1) (c .if1 .taken)
+
+returns-2 : tie.Need-returns-2
+returns-2 c =
+    let a = c .before .before .before .before .before .before .args in
+    answer-more (a .s .now) (a .r) (a .v) (a .e) (a .g) (a .at) _ _ _ (c .before .before .before .before .closing-fields .ensures) (c .before .before .end .given .1) (c .if1 .left)
+
+returns-3 : tie.Need-returns-3
+returns-3 c =
+    let a = c .before .before .before .before .before .args in
+    answer-fault (a .s .now) (a .r) (a .v) (a .e) (a .g) (a .at) _ _ (c .before .before .before .closing-fields .ensures) (c .before .n .given .1)
+
+pub after-ranges-spec : {M : Type 1} → statement M
+after-ranges-spec =
+    tie.close
+    (tie.spec closing-fields-requires enum-known-end enum-known-n returns returns-2 returns-3)

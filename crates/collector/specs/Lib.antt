@@ -1,0 +1,2 @@
+-- What the exported functions leave behind.
+pub mod Called

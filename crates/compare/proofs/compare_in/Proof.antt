@@ -1,0 +1,80 @@
+-- `compare::compare_in` meets its contract: 14, or both places written, the first's before the second's.
+use native.Mathlib.Omega.{arith}
+use Rattle.compare.proofs.Calls.{size-small, ends-short, ends-written}
+use borrow.Author.Needs.{needs}
+use Rattle.compare.proofs.compare_in.Statement.{statement}
+use Rattle.compare.proofs.compare_in.Tie as tie
+
+alike-below-requires : tie.Need-alike-below-requires
+alike-below-requires c κs = search needs
+
+lacking-place-requires : tie.Need-lacking-place-requires
+lacking-place-requires c κs = search needs
+
+lacking-place-requires-2 : tie.Need-lacking-place-requires-2
+lacking-place-requires-2 c κs = search needs
+
+size-of-requires : tie.Need-size-of-requires
+size-of-requires c κs = search needs
+
+size-of-requires-2 : tie.Need-size-of-requires-2
+size-of-requires-2 c κs = search needs
+
+add-length : tie.Need-add-length
+add-length c = omega (arith, size-small _ _ (c .before .size-of .ensures), size-small _ _ (c .size-of2 .ensures))
+
+returns : tie.Need-returns
+returns c =
+    λ R o q.
+    let y = c .before .before .before in
+    ends-short R _ _ _ _ _ _ o _ _ q _ _ (y .before .lacking-place .ensures) (y .lacking-place2 .ensures) _ _
+    (c .before .before .size-of .ensures) (c .before .size-of2 .ensures) (c .if1 .taken)
+
+with-ticks-requires : tie.Need-with-ticks-requires
+with-ticks-requires c κs = search needs
+
+put-entry-requires : tie.Need-put-entry-requires
+put-entry-requires c κs = search needs
+
+with-ticks-requires-2 : tie.Need-with-ticks-requires-2
+with-ticks-requires-2 c κs = search needs
+
+put-entry-requires-2 : tie.Need-put-entry-requires-2
+put-entry-requires-2 c κs = search needs
+
+order-of-requires : tie.Need-order-of-requires
+order-of-requires c κs = search needs
+
+same-length : tie.Need-same-length
+same-length c = search needs
+
+returns-2 : tie.Need-returns-2
+returns-2 c =
+    λ R o q.
+    let g = c .before .before .before .before in
+    let f = g .before .before .before .before .before in
+    let room = f .before .before in
+    let y = room .before .before .before in
+    ends-written R _ _ _ _ _ _ o _ _ q _ _ (y .before .lacking-place .ensures) (y .lacking-place2 .ensures) _ _
+    (room .before .before .size-of .ensures) (room .before .size-of2 .ensures) _ _ _ _ _ (f .with-ticks .ensures) (g .with-ticks2 .ensures)
+    (g .before .before .before .before .put-entry .ensures) (c .before .before .before .put-entry2 .ensures) (c .order-of .ensures)
+    (room .if1 .left)
+
+pub compare-in-spec : {M : Type 1} → statement M
+compare-in-spec =
+    tie.close
+    (tie.spec
+    alike-below-requires
+    lacking-place-requires
+    lacking-place-requires-2
+    size-of-requires
+    size-of-requires-2
+    add-length
+    returns
+    with-ticks-requires
+    put-entry-requires
+    with-ticks-requires-2
+    put-entry-requires-2
+    order-of-requires
+    same-length
+    returns-2)

@@ -1,0 +1,5 @@
+-- Statements over replication on which no crate of code stands.
+pub mod Refusals
+pub mod Enough
+pub mod Round
+pub mod Queries

@@ -1,0 +1,2 @@
+-- How far one new file moves the figure of coverage.
+pub mod Moves

@@ -1,0 +1,3 @@
+-- The laws of new, edit and delete.
+pub mod Changing
+pub mod NewStore

@@ -1,0 +1,79 @@
+-- `edit::write_changed` meets its contract: the raised knowledge in its room, and the records joined with the new one, make the changed store.
+use native.Mathlib.Omega.{arith}
+use Rattle.codec.specs.Number.{Bytes}
+use Rattle.layout.specs.Permitted.{largestRecords}
+use Rattle.codec.proofs.Writing.{zeros-length}
+use Rattle.operations.specs.MethodOpened.{limitsOf}
+use Rattle.operations.proofs.Opened.{raise-opened}
+use Rattle.store_write.proofs.Closing.{store-room, close-store}
+use Rattle.edit.proofs.Changing.{change-inside}
+use borrow.Author.Needs.{needs}
+use Rattle.edit.proofs.write_changed.Statement.{statement}
+use Rattle.edit.proofs.write_changed.Tie as tie
+use Rattle.edit.proofs.write_changed.Reads as reads
+
+add-at : tie.Need-add-at
+add-at c = search needs
+
+slice-aggregate-join : tie.Need-slice-aggregate-join
+slice-aggregate-join c = search needs
+
+join-requires : tie.Need-join-requires
+join-requires c κs = search needs
+
+room-in-store-requires : tie.Need-room-in-store-requires
+room-in-store-requires c κs = search needs
+
+sub-raise-opened : tie.Need-sub-raise-opened
+sub-raise-opened c = search needs
+
+part-raise-opened-start : tie.Need-part-raise-opened-start
+part-raise-opened-start c = search needs
+
+part-raise-opened-end : tie.Need-part-raise-opened-end
+part-raise-opened-end c = search needs
+
+raise-opened-requires : tie.Need-raise-opened-requires
+raise-opened-requires c κs = search needs
+
+slice-aggregate-close-store : tie.Need-slice-aggregate-close-store
+slice-aggregate-close-store c = search needs
+
+close-store-requires : tie.Need-close-store-requires
+close-store-requires c κs = search needs
+
+same-length : tie.Need-same-length
+same-length c = search needs
+
+returns : tie.Need-returns
+returns c =
+    let b4 = c .before .before .before .before in
+    let b8 = b4 .before .before .before .before in
+    let b12 = b8 .before .before .before .before in
+    let b16 = b12 .before .before .before .before in
+    let a = b16 .before .before .args in
+    let bytes : Bytes (a .store .now) = record { below = λ i. omega (arith, b16 .before .shared-slice-known .given i) } in
+    let others : Bytes (a .one .now) = record { below = λ i. omega (arith, b12 .before .before .before .shared-slice-known3 .given i) } in
+    let h = b16 .before .before .pre in
+    λ st b. close-store (limitsOf (a .limits)) st (a .out .now)
+    (change-inside (a .limits) _ _ _ _ _ bytes others _ _ _ _ (b12 .join .ensures .0 .0) (b12 .join .ensures .0 .1) (b12 .join .ensures .1)
+    (omega (arith, zeros-length largestRecords)) _ _ _ (store-room _ (b8 .before .before .room-in-store .ensures .0)) _ _
+    (raise-opened (a .limits) _ _ _ _ _ _ _ (b4 .before .before .before .raise-opened .ensures) (h .reads) (h .high) (h .low)) st b)
+    (c .before .before .close-store .ensures)
+
+pub write-changed-spec : {M : Type 1} → statement M
+write-changed-spec =
+    tie.close
+    (tie.spec
+    add-at
+    slice-aggregate-join
+    join-requires
+    room-in-store-requires
+    sub-raise-opened
+    part-raise-opened-start
+    part-raise-opened-end
+    raise-opened-requires
+    slice-aggregate-close-store
+    close-store-requires
+    same-length
+    returns)

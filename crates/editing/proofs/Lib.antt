@@ -1,2 +1,0 @@
--- The laws of edit and delete.
-pub mod Changing

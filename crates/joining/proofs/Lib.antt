@@ -1,6 +1,0 @@
--- The laws of joining two tables of records.
-pub mod Addresses
-pub mod JoinedTables
-pub mod Copies
-pub mod Turning
-pub mod Written

@@ -1,0 +1,4 @@
+-- The laws that callers of the leaves use.
+pub mod Part
+pub mod Compare
+pub mod Writing

@@ -1,0 +1,104 @@
+-- `make::make_needed` meets its contract: needed is given in short scratch, or refused there with 11 or 12, or it is left to the long scratch.
+use native.Mathlib.Omega.{arith}
+use Rattle.codec.proofs.Writing.{zeros-length}
+use Rattle.make.proofs.Batches.{needed-inside, needed-counted, needed-given, needed-refused}
+use borrow.Author.Needs.{needs}
+use Rattle.make.proofs.make_needed.Statement.{statement}
+use Rattle.make.proofs.make_needed.Tie as tie
+
+make-long-requires : tie.Need-make-long-requires
+make-long-requires c κs = search needs
+
+same-length : tie.Need-same-length
+same-length c = search needs
+
+returns : tie.Need-returns
+returns c = search needs
+
+slice-aggregate-normalise-opened : tie.Need-slice-aggregate-normalise-opened
+slice-aggregate-normalise-opened c = search needs
+
+normalise-opened-requires : tie.Need-normalise-opened-requires
+normalise-opened-requires c κs = search needs
+
+enum-known-n : tie.Need-enum-known-n
+enum-known-n c = search needs
+
+array-share-prefix-short : tie.Need-array-share-prefix-short
+array-share-prefix-short c =
+    let bn = c .before .before in
+    let bk = bn .before .before .before in
+    let ba = bk .before .before .before .before .before .before .before in
+    let a = ba .args in
+    omega (
+      arith,
+      zeros-length 1024,
+      needed-inside (a .store .now) (a .mine .now) (a .knowledge .now) (a .w) (ba .pre) _ _ _ (bk .normalise-opened .ensures) _
+          (bn .n .given .1),
+    )
+
+slice-aggregate-make-learned : tie.Need-slice-aggregate-make-learned
+slice-aggregate-make-learned c =
+    let bn = c .before .before .before in
+    let bk = bn .before .before .before in
+    let ba = bk .before .before .before .before .before .before .before in
+    let a = ba .args in
+    needed-counted (a .store .now) (a .mine .now) (a .knowledge .now) (a .w) (ba .pre) _ _ _ (bk .normalise-opened .ensures) _ (bn .n .given .1)
+
+make-learned-requires : tie.Need-make-learned-requires
+make-learned-requires c κs =
+    let bn = c .before .before .before in
+    let bk = bn .before .before .before in
+    let ba = bk .before .before .before .before .before .before .before in
+    let a = ba .args in (
+      ba .pre,
+      needed-given (a .store .now) (a .mine .now) (a .knowledge .now) (a .w) (ba .pre) _ _ _ (bk .normalise-opened .ensures) _ (bn .n .given .1),
+    )
+
+enum-known-n-2 : tie.Need-enum-known-n-2
+enum-known-n-2 c = search needs
+
+make-long-requires-2 : tie.Need-make-long-requires-2
+make-long-requires-2 c κs = search needs
+
+same-length-2 : tie.Need-same-length-2
+same-length-2 c = search needs
+
+returns-2 : tie.Need-returns-2
+returns-2 c = search needs
+
+same-length-3 : tie.Need-same-length-3
+same-length-3 c = search needs
+
+returns-3 : tie.Need-returns-3
+returns-3 c = search needs
+
+returns-4 : tie.Need-returns-4
+returns-4 c =
+    let bn = c .before .before in
+    let bk = bn .before .before .before in
+    let ba = bk .before .before .before .before .before .before .before in
+    let a = ba .args in
+    needed-refused (a .store .now) (a .mine .now) (a .knowledge .now) (a .w) (ba .pre) _ _ _ (bk .normalise-opened .ensures) _
+    (a .out .now) (bn .n2 .given .1) (c .if2 .left)
+
+pub make-needed-spec : {M : Type 1} → statement M
+make-needed-spec =
+    tie.close
+    (tie.spec
+    make-long-requires
+    same-length
+    returns
+    slice-aggregate-normalise-opened
+    normalise-opened-requires
+    enum-known-n
+    array-share-prefix-short
+    slice-aggregate-make-learned
+    make-learned-requires
+    enum-known-n-2
+    make-long-requires-2
+    same-length-2
+    returns-2
+    same-length-3
+    returns-3
+    returns-4)

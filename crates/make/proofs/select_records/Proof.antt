@@ -1,0 +1,16 @@
+-- `make::select_records` meets its contract: the records of the span that the given knowledge lacks.
+use borrow.Author.Needs.{needs}
+use Rattle.make.proofs.select_records.Statement.{statement}
+use Rattle.make.proofs.select_records.Tie as tie
+
+select-requires : tie.Need-select-requires
+select-requires c κs = tt
+
+same-length : tie.Need-same-length
+same-length c = search needs
+
+returns : tie.Need-returns
+returns c = (c .before .before .select .ensures .0, c .before .before .select .ensures .1)
+
+pub select-records-spec : {M : Type 1} → statement M
+select-records-spec = tie.close (tie.spec select-requires same-length returns)

@@ -1,0 +1,2 @@
+-- The method of the test of normal form on bytes.
+pub mod MethodNormal

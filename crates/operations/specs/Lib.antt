@@ -1,0 +1,2 @@
+-- What the functions on opened knowledges leave, and what they promise.
+pub mod MethodOpened

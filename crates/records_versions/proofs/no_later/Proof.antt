@@ -1,0 +1,21 @@
+-- `records_versions::no_later` meets its contract: the ticks are compared where the replicas are the same.
+use Rattle.codec.specs.Ids.{replicaOf}
+use Rattle.records_versions.proofs.Versions.{no-later-same, no-later-other}
+use Rattle.records_versions.proofs.no_later.Statement.{statement}
+use Rattle.records_versions.proofs.no_later.Tie as tie
+
+same2-requires : tie.Need-same2-requires
+same2-requires c κs = tt
+
+returns : tie.Need-returns
+returns c =
+    let a = c .before .before .args in
+    no-later-same (replicaOf (a .p)) (replicaOf (a .q)) (a .tick) (a .t) _ (c .before .same2 .ensures) (c .if1 .taken)
+
+returns-2 : tie.Need-returns-2
+returns-2 c =
+    let a = c .before .before .args in
+    no-later-other (replicaOf (a .p)) (replicaOf (a .q)) (a .tick) (a .t) _ (c .before .same2 .ensures) (c .if1 .left)
+
+pub no-later-spec : {M : Type 1} → statement M
+no-later-spec = tie.close (tie.spec same2-requires returns returns-2)

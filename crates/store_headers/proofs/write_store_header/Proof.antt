@@ -1,0 +1,39 @@
+-- `store_headers::write_store_header` meets its contract: without room nothing is written; with it, the fields one behind the other.
+use Rattle.store_headers.proofs.Headers.{store-head-short, store-head-wrote}
+use borrow.Author.Needs.{needs}
+use Rattle.store_headers.proofs.write_store_header.Statement.{statement}
+use Rattle.store_headers.proofs.write_store_header.Tie as tie
+
+returns : tie.Need-returns
+returns c = store-head-short _ _ _ _ (c .if1 .taken)
+
+write1-requires : tie.Need-write1-requires
+write1-requires c κs = search needs
+
+write-replica-requires : tie.Need-write-replica-requires
+write-replica-requires c κs = search needs
+
+write-sizes-requires : tie.Need-write-sizes-requires
+write-sizes-requires c κs = search needs
+
+same-length : tie.Need-same-length
+same-length c = search needs
+
+returns-2 : tie.Need-returns-2
+returns-2 c =
+    let sizes = c .before .before in
+    let own = sizes .before .before .before .before in
+    let kind = own .before .before .before .before in
+    store-head-wrote _ _ _ _ _ _ _ (kind .before .before .if1 .left) (kind .write1 .ensures) (own .write-replica .ensures)
+    (sizes .write-sizes .ensures)
+
+pub write-store-header-spec : {M : Type 1} → statement M
+write-store-header-spec =
+    tie.close
+    (tie.spec
+    returns
+    write1-requires
+    write-replica-requires
+    write-sizes-requires
+    same-length
+    returns-2)

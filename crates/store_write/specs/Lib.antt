@@ -1,0 +1,3 @@
+-- What is written for a store or a batch that is ready.
+pub mod MethodStoring
+pub mod MethodClosing

@@ -1,2 +1,0 @@
--- What is written for a store or a batch that is ready.
-pub mod MethodStoring
