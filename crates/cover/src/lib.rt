@@ -352,8 +352,16 @@ fn cover_in(s: &[u8], v: View, t: &[u8], w: View, first: &[u8], last: &[u8]) -> 
     if last.len() != 24 {
         return Cover::Refused(17);
     }
-    let f = codec::item_of(first);
-    let l = codec::item_of(last);
+    let f = Item {
+        high: codec::read8(first, 0),
+        middle: codec::read8(first, 8),
+        low: codec::read8(first, 16),
+    };
+    let l = Item {
+        high: codec::read8(last, 0),
+        middle: codec::read8(last, 8),
+        low: codec::read8(last, 16),
+    };
     if codec::less3(l.high, l.middle, l.low, f.high, f.middle, f.low) {
         return Cover::Refused(17);
     }

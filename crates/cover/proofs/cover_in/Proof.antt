@@ -1,5 +1,6 @@
 -- `cover::cover_in` meets its contract: 17 for the span, and else whether there is a lacking place.
 use Rattle.cover.proofs.Calls.{cover-first-length, cover-last-length, cover-above, cover-yes, cover-no}
+use Rattle.codec.proofs.Ids.{item-is-read}
 use native.Mathlib.Omega.{arith}
 use Rattle.cover.proofs.cover_in.Statement.{statement}
 use Rattle.cover.proofs.cover_in.Tie as tie
@@ -10,20 +11,34 @@ returns c = λ R o q. cover-first-length R _ _ _ _ _ _ o _ _ q (c .if1 .taken)
 returns-2 : tie.Need-returns-2
 returns-2 c = λ R o q. cover-last-length R _ _ _ _ _ _ o _ _ q (c .if2 .taken)
 
-item-of-requires : tie.Need-item-of-requires
-item-of-requires c κs = tt
+read8-requires : tie.Need-read8-requires
+read8-requires c κs = tt
 
-item-of-requires-2 : tie.Need-item-of-requires-2
-item-of-requires-2 c κs = tt
+read8-requires-2 : tie.Need-read8-requires-2
+read8-requires-2 c κs = tt
+
+read8-requires-3 : tie.Need-read8-requires-3
+read8-requires-3 c κs = tt
+
+read8-requires-4 : tie.Need-read8-requires-4
+read8-requires-4 c κs = tt
+
+read8-requires-5 : tie.Need-read8-requires-5
+read8-requires-5 c κs = tt
+
+read8-requires-6 : tie.Need-read8-requires-6
+read8-requires-6 c κs = tt
 
 less3-requires : tie.Need-less3-requires
 less3-requires c κs = tt
 
 returns-3 : tie.Need-returns-3
 returns-3 c =
+    let b5 = c .before .before .before .before .before in
     λ R o q.
-    cover-above R _ _ _ _ _ _ o _ _ q (c .before .before .before .before .before .if1 .left) (c .before .before .before .before .if2 .left) _ _
-    (c .before .before .before .item-of .ensures .0) (c .before .before .item-of2 .ensures .0)
+    cover-above R _ _ _ _ _ _ o _ _ q (b5 .before .before .before .before .if1 .left) (b5 .before .before .before .if2 .left) _ _
+    (item-is-read _ _ _ _ (b5 .before .before .read8 .ensures .0) (b5 .before .read82 .ensures .0) (b5 .read83 .ensures .0))
+    (item-is-read _ _ _ _ (c .before .before .before .before .read84 .ensures .0) (c .before .before .before .read85 .ensures .0) (c .before .before .read86 .ensures .0))
     _ (c .before .less3 .ensures) (c .if3 .taken)
 
 lacking-requires : tie.Need-lacking-requires
@@ -40,9 +55,10 @@ returns-4 c =
     let b5 = c .before .before .before .before .before in
     let b10 = b5 .before .before .before .before .before in
     λ R o q.
-    let pre = b10 .before .before .before .pre in
-    cover-yes R _ _ _ _ _ _ o _ _ q (b5 .before .before .before .if1 .left) (b5 .before .before .if2 .left) _ _
-    (b5 .before .item-of .ensures .0) (b5 .item-of2 .ensures .0)
+    let pre = b10 .before .before .before .before .before .before .before .pre in
+    cover-yes R _ _ _ _ _ _ o _ _ q (b10 .before .before .if1 .left) (b10 .before .if2 .left) _ _
+    (item-is-read _ _ _ _ (b10 .read8 .ensures .0) (b5 .before .before .before .before .read82 .ensures .0) (b5 .before .before .before .read83 .ensures .0))
+    (item-is-read _ _ _ _ (b5 .before .before .read84 .ensures .0) (b5 .before .read85 .ensures .0) (b5 .read86 .ensures .0))
     _ (c .before .before .before .before .less3 .ensures) (c .before .before .before .if3 .left) (pre .0) (pre .1) _
     (c .before .before .lacking .ensures) (c .enum-told .given .1)
 
@@ -51,9 +67,10 @@ returns-5 c =
     let b5 = c .before .before .before .before .before in
     let b10 = b5 .before .before .before .before .before in
     λ R o q.
-    let pre = b10 .before .before .before .pre in
-    cover-no R _ _ _ _ _ _ o _ _ q (b5 .before .before .before .if1 .left) (b5 .before .before .if2 .left) _ _
-    (b5 .before .item-of .ensures .0) (b5 .item-of2 .ensures .0)
+    let pre = b10 .before .before .before .before .before .before .before .pre in
+    cover-no R _ _ _ _ _ _ o _ _ q (b10 .before .before .if1 .left) (b10 .before .if2 .left) _ _
+    (item-is-read _ _ _ _ (b10 .read8 .ensures .0) (b5 .before .before .before .before .read82 .ensures .0) (b5 .before .before .before .read83 .ensures .0))
+    (item-is-read _ _ _ _ (b5 .before .before .read84 .ensures .0) (b5 .before .read85 .ensures .0) (b5 .read86 .ensures .0))
     _ (c .before .before .before .before .less3 .ensures) (c .before .before .before .if3 .left) (pre .0) (pre .1) _
     (c .before .before .lacking .ensures) _ (c .enum-told2 .given .1)
 
@@ -63,8 +80,12 @@ cover-in-spec =
     (tie.spec
     returns
     returns-2
-    item-of-requires
-    item-of-requires-2
+    read8-requires
+    read8-requires-2
+    read8-requires-3
+    read8-requires-4
+    read8-requires-5
+    read8-requires-6
     less3-requires
     returns-3
     lacking-requires
