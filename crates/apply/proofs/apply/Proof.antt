@@ -5,16 +5,13 @@ use borrow.Author.Needs.{needs}
 use Rattle.apply.proofs.apply.Statement.{statement}
 use Rattle.apply.proofs.apply.Tie as tie
 
-apply-within-requires : tie.Need-apply-within-requires
-apply-within-requires c κs = search needs
-
-same-length : tie.Need-same-length
-same-length c = search needs
-
 returns : tie.Need-returns
 returns c =
     let a = c .before .before .before .before .before .before .before .args in
     ended-base (λ L. applyReply L (a .store .now) (a .batch .now)) _ _ _ (c .before .before .apply-within .ensures)
 
 pub apply-spec : {M : Type 1} → statement M
-apply-spec = tie.close (tie.spec apply-within-requires same-length returns)
+apply-spec = tie.close (tie.spec
+    (λ c κs. search needs)  -- apply-within-requires
+    (λ c. search needs)  -- same-length
+    returns)

@@ -22,33 +22,15 @@ add-last c =
     let s = c .before .before .before .before .before .before in
     omega (arith, batch-room (s .args .limits .replicas) (s .args .limits .ranges) (s .args .limits .records) _ _ _ _ _ (s .pre))
 
-sub-k : tie.Need-sub-k
-sub-k c = search needs
-
-part-k-start : tie.Need-part-k-start
-part-k-start c = search needs
-
 part-k-end : tie.Need-part-k-end
 part-k-end c =
     let s = c .before .before .before .before .before .before in
     omega (arith, own-room (s .args .limits .replicas) (s .args .limits .ranges) (s .args .limits .records) _ _ _ _ _ (s .pre))
 
-sub-n : tie.Need-sub-n
-sub-n c = search needs
-
-part-n-start : tie.Need-part-n-start
-part-n-start c = search needs
-
 part-n-end : tie.Need-part-n-end
 part-n-end c =
     let s = c .before .before .before .before .before .before .before in
     omega (arith, batch-room (s .args .limits .replicas) (s .args .limits .ranges) (s .args .limits .records) _ _ _ _ _ (s .pre))
-
-sub-l : tie.Need-sub-l
-sub-l c = search needs
-
-part-l-start : tie.Need-part-l-start
-part-l-start c = search needs
 
 part-l-end : tie.Need-part-l-end
 part-l-end c =
@@ -65,15 +47,6 @@ returns c =
     let s = c .before .before .before .before .before .before .before .before .before .before .before in
     refuses-uncovered (s .args .limits .replicas) (s .args .limits .ranges) (s .args .limits .records) _ _ _ _ _ (s .pre)
     _ (c .before .covers-needed .ensures) _ (not-true _ (c .if1 .taken))
-
-read8-requires : tie.Need-read8-requires
-read8-requires c κs = search needs
-
-add-read8 : tie.Need-add-read8
-add-read8 c = search needs
-
-read8-requires-2 : tie.Need-read8-requires-2
-read8-requires-2 c κs = search needs
 
 covers-own-requires : tie.Need-covers-own-requires
 covers-own-requires c κs =
@@ -99,9 +72,6 @@ write-applied-requires c κs =
     merges (s .args .limits .replicas) (s .args .limits .ranges) (s .args .limits .records) _ _ _ _ _ (s .pre) _ (n .covers-needed .ensures)
     (not-false _ (o .before .before .before .if1 .left)) _ _ (o .before .before .read8 .ensures .0) (o .before .read82 .ensures .0)
 
-same-length : tie.Need-same-length
-same-length c = search needs
-
 returns-3 : tie.Need-returns-3
 returns-3 c =
     let o = c .before .before .before .before .before in
@@ -119,22 +89,22 @@ apply-open-spec =
     add-end
     add-at
     add-last
-    sub-k
-    part-k-start
+    (λ c. search needs)  -- sub-k
+    (λ c. search needs)  -- part-k-start
     part-k-end
-    sub-n
-    part-n-start
+    (λ c. search needs)  -- sub-n
+    (λ c. search needs)  -- part-n-start
     part-n-end
-    sub-l
-    part-l-start
+    (λ c. search needs)  -- sub-l
+    (λ c. search needs)  -- part-l-start
     part-l-end
     covers-needed-requires
     returns
-    read8-requires
-    add-read8
-    read8-requires-2
+    (λ c κs. search needs)  -- read8-requires
+    (λ c. search needs)  -- add-read8
+    (λ c κs. search needs)  -- read8-requires-2
     covers-own-requires
     returns-2
     write-applied-requires
-    same-length
+    (λ c. search needs)  -- same-length
     returns-3)

@@ -6,28 +6,10 @@ use borrow.Author.Needs.{needs}
 use Rattle.apply.proofs.apply_within.Statement.{statement}
 use Rattle.apply.proofs.apply_within.Tie as tie
 
-open-store-requires : tie.Need-open-store-requires
-open-store-requires c κs = search needs
-
-enum-known-own : tie.Need-enum-known-own
-enum-known-own c = search needs
-
-enum-told : tie.Need-enum-told
-enum-told c = search needs
-
 returns : tie.Need-returns
 returns c =
     let a = c .before .before .before .before .before .before .args in
     not-store (a .limits .replicas) (a .limits .ranges) (a .limits .records) _ _ _ (c .before .before .open-store .ensures) _ (c .enum-told .given .1)
-
-open-batch-requires : tie.Need-open-batch-requires
-open-batch-requires c κs = search needs
-
-enum-known-needed : tie.Need-enum-known-needed
-enum-known-needed c = search needs
-
-enum-told-2 : tie.Need-enum-told-2
-enum-told-2 c = search needs
 
 returns-2 : tie.Need-returns-2
 returns-2 c =
@@ -47,24 +29,18 @@ apply-open-requires c κs =
     both-valid (a .limits .replicas) (a .limits .ranges) (a .limits .records) _ _ _ (o .open-store .ensures) y _ _ (b .before .before .own .given .1) _
     (b .open-batch .ensures) z _ _ _ (c .before .before .needed .given .1)
 
-same-length : tie.Need-same-length
-same-length c = search needs
-
-returns-3 : tie.Need-returns-3
-returns-3 c = search needs
-
 pub apply-within-spec : {M : Type 1} → statement M
 apply-within-spec =
     tie.close
     (tie.spec
-    open-store-requires
-    enum-known-own
-    enum-told
+    (λ c κs. search needs)  -- open-store-requires
+    (λ c. search needs)  -- enum-known-own
+    (λ c. search needs)  -- enum-told
     returns
-    open-batch-requires
-    enum-known-needed
-    enum-told-2
+    (λ c κs. search needs)  -- open-batch-requires
+    (λ c. search needs)  -- enum-known-needed
+    (λ c. search needs)  -- enum-told-2
     returns-2
     apply-open-requires
-    same-length
-    returns-3)
+    (λ c. search needs)  -- same-length
+    (λ c. search needs))  -- returns-3

@@ -4,45 +4,6 @@ use borrow.Author.Needs.{needs}
 use Rattle.apply.proofs.covers_needed.Statement.{statement}
 use Rattle.apply.proofs.covers_needed.Tie as tie
 
-read8-requires : tie.Need-read8-requires
-read8-requires c κs = search needs
-
-add-read8 : tie.Need-add-read8
-add-read8 c = search needs
-
-read8-requires-2 : tie.Need-read8-requires-2
-read8-requires-2 c κs = search needs
-
-add-read8-2 : tie.Need-add-read8-2
-add-read8-2 c = search needs
-
-read8-requires-3 : tie.Need-read8-requires-3
-read8-requires-3 c κs = search needs
-
-read8-requires-4 : tie.Need-read8-requires-4
-read8-requires-4 c κs = search needs
-
-add-read8-3 : tie.Need-add-read8-3
-add-read8-3 c = search needs
-
-read8-requires-5 : tie.Need-read8-requires-5
-read8-requires-5 c κs = search needs
-
-add-read8-4 : tie.Need-add-read8-4
-add-read8-4 c = search needs
-
-read8-requires-6 : tie.Need-read8-requires-6
-read8-requires-6 c κs = search needs
-
-lacking-requires : tie.Need-lacking-requires
-lacking-requires c κs = search needs
-
-enum-told : tie.Need-enum-told
-enum-told c = search needs
-
-enum-told-2 : tie.Need-enum-told-2
-enum-told-2 c = search needs
-
 returns : tie.Need-returns
 returns c =
     let l = c .before .before .before in
@@ -67,18 +28,18 @@ pub covers-needed-spec : {M : Type 1} → statement M
 covers-needed-spec =
     tie.close
     (tie.spec
-    read8-requires
-    add-read8
-    read8-requires-2
-    add-read8-2
-    read8-requires-3
-    read8-requires-4
-    add-read8-3
-    read8-requires-5
-    add-read8-4
-    read8-requires-6
-    lacking-requires
-    enum-told
-    enum-told-2
+    (λ c κs. search needs)  -- read8-requires
+    (λ c. search needs)  -- add-read8
+    (λ c κs. search needs)  -- read8-requires-2
+    (λ c. search needs)  -- add-read8-2
+    (λ c κs. search needs)  -- read8-requires-3
+    (λ c κs. search needs)  -- read8-requires-4
+    (λ c. search needs)  -- add-read8-3
+    (λ c κs. search needs)  -- read8-requires-5
+    (λ c. search needs)  -- add-read8-4
+    (λ c κs. search needs)  -- read8-requires-6
+    (λ c κs. search needs)  -- lacking-requires
+    (λ c. search needs)  -- enum-told
+    (λ c. search needs)  -- enum-told-2
     returns
     returns-2)

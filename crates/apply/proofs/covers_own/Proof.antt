@@ -5,15 +5,6 @@ use borrow.Author.Needs.{needs}
 use Rattle.apply.proofs.covers_own.Statement.{statement}
 use Rattle.apply.proofs.covers_own.Tie as tie
 
-known-tick-requires : tie.Need-known-tick-requires
-known-tick-requires c κs = search needs
-
-key-of-requires : tie.Need-key-of-requires
-key-of-requires c κs = search needs
-
-top-key-requires : tie.Need-top-key-requires
-top-key-requires c κs = search needs
-
 returns : tie.Need-returns
 returns c =
     let h = c .before .before .before .before .before .before .pre in
@@ -21,4 +12,8 @@ returns c =
     _ (c .top-key .ensures) _ refl
 
 pub covers-own-spec : {M : Type 1} → statement M
-covers-own-spec = tie.close (tie.spec known-tick-requires key-of-requires top-key-requires returns)
+covers-own-spec = tie.close (tie.spec
+    (λ c κs. search needs)  -- known-tick-requires
+    (λ c κs. search needs)  -- key-of-requires
+    (λ c κs. search needs)  -- top-key-requires
+    returns)

@@ -12,42 +12,6 @@ use borrow.Author.Needs.{needs}
 use Rattle.apply.proofs.write_applied.Statement.{statement}
 use Rattle.apply.proofs.write_applied.Tie as tie
 
-add-mine : tie.Need-add-mine
-add-mine c = search needs
-
-add-theirs : tie.Need-add-theirs
-add-theirs c = search needs
-
-slice-aggregate-join : tie.Need-slice-aggregate-join
-slice-aggregate-join c = search needs
-
-join-requires : tie.Need-join-requires
-join-requires c κs = search needs
-
-room-in-store-requires : tie.Need-room-in-store-requires
-room-in-store-requires c κs = search needs
-
-sub-merge-opened : tie.Need-sub-merge-opened
-sub-merge-opened c = search needs
-
-part-merge-opened-start : tie.Need-part-merge-opened-start
-part-merge-opened-start c = search needs
-
-part-merge-opened-end : tie.Need-part-merge-opened-end
-part-merge-opened-end c = search needs
-
-merge-opened-requires : tie.Need-merge-opened-requires
-merge-opened-requires c κs = search needs
-
-slice-aggregate-close-store : tie.Need-slice-aggregate-close-store
-slice-aggregate-close-store c = search needs
-
-close-store-requires : tie.Need-close-store-requires
-close-store-requires c κs = search needs
-
-same-length : tie.Need-same-length
-same-length c = search needs
-
 returns : tie.Need-returns
 returns c =
     let b5 = c .before .before .before .before .before in
@@ -70,16 +34,16 @@ pub write-applied-spec : {M : Type 1} → statement M
 write-applied-spec =
     tie.close
     (tie.spec
-    add-mine
-    add-theirs
-    slice-aggregate-join
-    join-requires
-    room-in-store-requires
-    sub-merge-opened
-    part-merge-opened-start
-    part-merge-opened-end
-    merge-opened-requires
-    slice-aggregate-close-store
-    close-store-requires
-    same-length
+    (λ c. search needs)  -- add-mine
+    (λ c. search needs)  -- add-theirs
+    (λ c. search needs)  -- slice-aggregate-join
+    (λ c κs. search needs)  -- join-requires
+    (λ c κs. search needs)  -- room-in-store-requires
+    (λ c. search needs)  -- sub-merge-opened
+    (λ c. search needs)  -- part-merge-opened-start
+    (λ c. search needs)  -- part-merge-opened-end
+    (λ c κs. search needs)  -- merge-opened-requires
+    (λ c. search needs)  -- slice-aggregate-close-store
+    (λ c κs. search needs)  -- close-store-requires
+    (λ c. search needs)  -- same-length
     returns)

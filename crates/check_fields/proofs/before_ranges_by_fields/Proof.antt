@@ -5,18 +5,6 @@ use borrow.Author.Needs.{needs}
 use Rattle.check_fields.proofs.before_ranges_by_fields.Statement.{statement}
 use Rattle.check_fields.proofs.before_ranges_by_fields.Tie as tie
 
-fixed-requires : tie.Need-fixed-requires
-fixed-requires c κs = search needs
-
-fixed-requires-2 : tie.Need-fixed-requires-2
-fixed-requires-2 c κs = search needs
-
-fixed-requires-3 : tie.Need-fixed-requires-3
-fixed-requires-3 c κs = search needs
-
-read-requires : tie.Need-read-requires
-read-requires c κs = search needs
-
 returns : tie.Need-returns
 unfolding beforeRanges
 returns c =
@@ -26,4 +14,9 @@ returns c =
 
 pub before-ranges-by-fields-spec : {M : Type 1} → statement M
 before-ranges-by-fields-spec =
-    tie.close (tie.spec fixed-requires fixed-requires-2 fixed-requires-3 read-requires returns)
+    tie.close (tie.spec
+    (λ c κs. search needs)  -- fixed-requires
+    (λ c κs. search needs)  -- fixed-requires-2
+    (λ c κs. search needs)  -- fixed-requires-3
+    (λ c κs. search needs)  -- read-requires
+    returns)

@@ -5,18 +5,6 @@ use native.Mathlib.Omega.{arith}
 use Rattle.check_fields.proofs.closing_by_fields.Statement.{statement}
 use Rattle.check_fields.proofs.closing_by_fields.Tie as tie
 
-fixed-requires : tie.Need-fixed-requires
-fixed-requires c κs = omega arith
-
-fixed-requires-2 : tie.Need-fixed-requires-2
-fixed-requires-2 c κs = omega arith
-
-fixed-requires-3 : tie.Need-fixed-requires-3
-fixed-requires-3 c κs = omega arith
-
-fixed-requires-4 : tie.Need-fixed-requires-4
-fixed-requires-4 c κs = omega arith
-
 returns : tie.Need-returns
 unfolding closing
 returns c =
@@ -24,4 +12,9 @@ returns c =
 
 pub closing-by-fields-spec : {M : Type 1} → statement M
 closing-by-fields-spec =
-    tie.close (tie.spec fixed-requires fixed-requires-2 fixed-requires-3 fixed-requires-4 returns)
+    tie.close (tie.spec
+    (λ c κs. omega arith)  -- fixed-requires
+    (λ c κs. omega arith)  -- fixed-requires-2
+    (λ c κs. omega arith)  -- fixed-requires-3
+    (λ c κs. omega arith)  -- fixed-requires-4
+    returns)

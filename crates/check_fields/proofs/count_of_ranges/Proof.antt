@@ -6,22 +6,10 @@ use borrow.Author.Needs.{needs}
 use Rattle.check_fields.proofs.count_of_ranges.Statement.{statement}
 use Rattle.check_fields.proofs.count_of_ranges.Tie as tie
 
-beyond-requires : tie.Need-beyond-requires
-beyond-requires c κs = search needs
-
-run-by-fields-requires : tie.Need-run-by-fields-requires
-run-by-fields-requires c κs = search needs
-
 returns : tie.Need-returns
 unfolding runOf
 returns c =
     c .run-by-fields .ensures
-
-read8-requires : tie.Need-read8-requires
-read8-requires c κs = search needs
-
-run-by-fields-requires-2 : tie.Need-run-by-fields-requires-2
-run-by-fields-requires-2 c κs = search needs
 
 returns-2 : tie.Need-returns-2
 unfolding runOf
@@ -32,12 +20,6 @@ add-read4 : tie.Need-add-read4
 add-read4 c =
     omega (arith, c .before .before .before .beyond .ensures .1 (c .before .before .if1 .left))
 
-read4-requires : tie.Need-read4-requires
-read4-requires c κs = search needs
-
-run-by-fields-requires-3 : tie.Need-run-by-fields-requires-3
-run-by-fields-requires-3 c κs = search needs
-
 returns-3 : tie.Need-returns-3
 unfolding runOf
 returns-3 c =
@@ -46,12 +28,6 @@ returns-3 c =
 add-read2 : tie.Need-add-read2
 add-read2 c =
     omega (arith, c .before .before .before .before .before .beyond .ensures .1 (c .before .before .before .before .if1 .left))
-
-read2-requires : tie.Need-read2-requires
-read2-requires c κs = search needs
-
-run-by-fields-requires-4 : tie.Need-run-by-fields-requires-4
-run-by-fields-requires-4 c κs = search needs
 
 returns-4 : tie.Need-returns-4
 unfolding runOf
@@ -62,12 +38,6 @@ add-read1 : tie.Need-add-read1
 add-read1 c =
     omega (arith, c .before .before .before .before .before .before .before .beyond .ensures .1 (c .before .before .before .before .before .before .if1 .left))
 
-read1-requires : tie.Need-read1-requires
-read1-requires c κs = search needs
-
-run-by-fields-requires-5 : tie.Need-run-by-fields-requires-5
-run-by-fields-requires-5 c κs = search needs
-
 returns-5 : tie.Need-returns-5
 unfolding runOf
 returns-5 c =
@@ -77,9 +47,6 @@ add-read1-2 : tie.Need-add-read1-2
 add-read1-2 c =
     let b8 = c .before .before .before .before .before .before .before .before in
     omega (arith, b8 .before .beyond .ensures .1 (b8 .if1 .left))
-
-read1-requires-2 : tie.Need-read1-requires-2
-read1-requires-2 c κs = search needs
 
 add-t18 : tie.Need-add-t18
 add-t18 c =
@@ -106,25 +73,25 @@ pub count-of-ranges-spec : {M : Type 1} → statement M
 count-of-ranges-spec =
     tie.close
     (tie.spec
-    beyond-requires
-    run-by-fields-requires
+    (λ c κs. search needs)  -- beyond-requires
+    (λ c κs. search needs)  -- run-by-fields-requires
     returns
-    read8-requires
-    run-by-fields-requires-2
+    (λ c κs. search needs)  -- read8-requires
+    (λ c κs. search needs)  -- run-by-fields-requires-2
     returns-2
     add-read4
-    read4-requires
-    run-by-fields-requires-3
+    (λ c κs. search needs)  -- read4-requires
+    (λ c κs. search needs)  -- run-by-fields-requires-3
     returns-3
     add-read2
-    read2-requires
-    run-by-fields-requires-4
+    (λ c κs. search needs)  -- read2-requires
+    (λ c κs. search needs)  -- run-by-fields-requires-4
     returns-4
     add-read1
-    read1-requires
-    run-by-fields-requires-5
+    (λ c κs. search needs)  -- read1-requires
+    (λ c κs. search needs)  -- run-by-fields-requires-5
     returns-5
     add-read1-2
-    read1-requires-2
+    (λ c κs. search needs)  -- read1-requires-2
     add-t18
     returns-6)

@@ -6,71 +6,35 @@ use borrow.Author.Needs.{needs}
 use Rattle.check_fields.proofs.count_of_replicas.Statement.{statement}
 use Rattle.check_fields.proofs.count_of_replicas.Tie as tie
 
-run-by-fields-requires : tie.Need-run-by-fields-requires
-run-by-fields-requires c κs = search needs
-
 returns : tie.Need-returns
 unfolding runOf
 returns c =
     c .run-by-fields .ensures
-
-read8-requires : tie.Need-read8-requires
-read8-requires c κs = search needs
-
-run-by-fields-requires-2 : tie.Need-run-by-fields-requires-2
-run-by-fields-requires-2 c κs = search needs
 
 returns-2 : tie.Need-returns-2
 unfolding runOf
 returns-2 c =
     c .run-by-fields2 .ensures
 
-read8-requires-2 : tie.Need-read8-requires-2
-read8-requires-2 c κs = search needs
-
-run-by-fields-requires-3 : tie.Need-run-by-fields-requires-3
-run-by-fields-requires-3 c κs = search needs
-
 returns-3 : tie.Need-returns-3
 unfolding runOf
 returns-3 c =
     c .run-by-fields3 .ensures
-
-read4-requires : tie.Need-read4-requires
-read4-requires c κs = search needs
-
-run-by-fields-requires-4 : tie.Need-run-by-fields-requires-4
-run-by-fields-requires-4 c κs = search needs
 
 returns-4 : tie.Need-returns-4
 unfolding runOf
 returns-4 c =
     c .run-by-fields4 .ensures
 
-read4-requires-2 : tie.Need-read4-requires-2
-read4-requires-2 c κs = search needs
-
-run-by-fields-requires-5 : tie.Need-run-by-fields-requires-5
-run-by-fields-requires-5 c κs = search needs
-
 returns-5 : tie.Need-returns-5
 unfolding runOf
 returns-5 c =
     c .run-by-fields5 .ensures
 
-read2-requires : tie.Need-read2-requires
-read2-requires c κs = search needs
-
-run-by-fields-requires-6 : tie.Need-run-by-fields-requires-6
-run-by-fields-requires-6 c κs = search needs
-
 returns-6 : tie.Need-returns-6
 unfolding runOf
 returns-6 c =
     c .run-by-fields6 .ensures
-
-read1-requires : tie.Need-read1-requires
-read1-requires c κs = search needs
 
 returns-7 : tie.Need-returns-7
 returns-7 c =
@@ -87,22 +51,22 @@ pub count-of-replicas-spec : {M : Type 1} → statement M
 count-of-replicas-spec =
     tie.close
     (tie.spec
-    run-by-fields-requires
+    (λ c κs. search needs)  -- run-by-fields-requires
     returns
-    read8-requires
-    run-by-fields-requires-2
+    (λ c κs. search needs)  -- read8-requires
+    (λ c κs. search needs)  -- run-by-fields-requires-2
     returns-2
-    read8-requires-2
-    run-by-fields-requires-3
+    (λ c κs. search needs)  -- read8-requires-2
+    (λ c κs. search needs)  -- run-by-fields-requires-3
     returns-3
-    read4-requires
-    run-by-fields-requires-4
+    (λ c κs. search needs)  -- read4-requires
+    (λ c κs. search needs)  -- run-by-fields-requires-4
     returns-4
-    read4-requires-2
-    run-by-fields-requires-5
+    (λ c κs. search needs)  -- read4-requires-2
+    (λ c κs. search needs)  -- run-by-fields-requires-5
     returns-5
-    read2-requires
-    run-by-fields-requires-6
+    (λ c κs. search needs)  -- read2-requires
+    (λ c κs. search needs)  -- run-by-fields-requires-6
     returns-6
-    read1-requires
+    (λ c κs. search needs)  -- read1-requires
     returns-7)

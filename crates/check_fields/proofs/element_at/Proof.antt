@@ -4,22 +4,13 @@ use borrow.Author.Needs.{needs}
 use Rattle.check_fields.proofs.element_at.Statement.{statement}
 use Rattle.check_fields.proofs.element_at.Tie as tie
 
-sub-if1 : tie.Need-sub-if1
-sub-if1 c = search needs
-
 returns : tie.Need-returns
 returns c =
     element-short _ _ _ _ _ (c .before .before .pre .1) (c .if1 .taken)
 
-read4-requires : tie.Need-read4-requires
-read4-requires c κs = search needs
-
 returns-2 : tie.Need-returns-2
 returns-2 c =
     element-beyond _ _ _ _ _ (c .before .before .before .before .pre .1) (c .before .before .if1 .left) _ (c .before .read4 .ensures .0) (c .if2 .taken)
-
-seen-key-requires : tie.Need-seen-key-requires
-seen-key-requires c κs = search needs
 
 returns-3 : tie.Need-returns-3
 returns-3 c =
@@ -27,20 +18,11 @@ returns-3 c =
     element-seen _ _ _ _ _ (b4 .before .before .pre .1) (b4 .if1 .left) _ (c .before .before .before .read4 .ensures .0)
     (c .before .before .if2 .left) _ (c .before .seen-key .ensures) (c .if3 .taken)
 
-sub-if4 : tie.Need-sub-if4
-sub-if4 c = search needs
-
 returns-4 : tie.Need-returns-4
 returns-4 c =
     let b4 = c .before .before .before .before in
     element-cut _ _ _ _ _ (b4 .before .before .before .pre .1) (b4 .before .if1 .left) _ (b4 .read4 .ensures .0)
     (c .before .before .before .if2 .left) _ (c .before .before .seen-key .ensures) (c .before .if3 .left) (c .if4 .taken)
-
-add-read8 : tie.Need-add-read8
-add-read8 c = search needs
-
-read8-requires : tie.Need-read8-requires
-read8-requires c κs = search needs
 
 returns-5 : tie.Need-returns-5
 returns-5 c =
@@ -49,12 +31,6 @@ returns-5 c =
     element-late _ _ _ _ _ (b8 .before .pre .1) (b4 .before .before .before .if1 .left) _ (b4 .before .before .read4 .ensures .0)
     (b4 .before .if2 .left) _ (b4 .seen-key .ensures) (c .before .before .before .if3 .left) (c .before .before .if4 .left) _
     (c .before .read8 .ensures .0) (c .if5 .taken)
-
-add-t7 : tie.Need-add-t7
-add-t7 c = search needs
-
-add-t8 : tie.Need-add-t8
-add-t8 c = search needs
 
 returns-6 : tie.Need-returns-6
 returns-6 c =
@@ -68,17 +44,17 @@ pub element-at-spec : {M : Type 1} → statement M
 element-at-spec =
     tie.close
     (tie.spec
-    sub-if1
+    (λ c. search needs)  -- sub-if1
     returns
-    read4-requires
+    (λ c κs. search needs)  -- read4-requires
     returns-2
-    seen-key-requires
+    (λ c κs. search needs)  -- seen-key-requires
     returns-3
-    sub-if4
+    (λ c. search needs)  -- sub-if4
     returns-4
-    add-read8
-    read8-requires
+    (λ c. search needs)  -- add-read8
+    (λ c κs. search needs)  -- read8-requires
     returns-5
-    add-t7
-    add-t8
+    (λ c. search needs)  -- add-t7
+    (λ c. search needs)  -- add-t8
     returns-6)

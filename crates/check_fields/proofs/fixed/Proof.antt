@@ -4,15 +4,12 @@ use Rattle.check_fields.proofs.Steps.{next-step}
 use Rattle.check_fields.proofs.fixed.Statement.{statement}
 use Rattle.check_fields.proofs.fixed.Tie as tie
 
-read-requires : tie.Need-read-requires
-read-requires c κs = omega arith
-
-equal-requires : tie.Need-equal-requires
-equal-requires c κs = tt
-
 returns : tie.Need-returns
 returns c =
     next-step _ _ _ _ (c .before .read .ensures) (c .equal .ensures)
 
 pub fixed-spec : {M : Type 1} → statement M
-fixed-spec = tie.close (tie.spec read-requires equal-requires returns)
+fixed-spec = tie.close (tie.spec
+    (λ c κs. omega arith)  -- read-requires
+    (λ c κs. tt)  -- equal-requires
+    returns)

@@ -5,15 +5,6 @@ use Rattle.check_fields.proofs.Steps.{steps}
 use Rattle.check_fields.proofs.in_limits.Statement.{statement}
 use Rattle.check_fields.proofs.in_limits.Tie as tie
 
-enum-known-g : tie.Need-enum-known-g
-enum-known-g c = omega arith
-
-enum-told : tie.Need-enum-told
-enum-told c = omega arith
-
-returns : tie.Need-returns
-returns c = search needs
-
 returns-2 : tie.Need-returns-2
 returns-2 c = search steps
 
@@ -24,4 +15,10 @@ returns-4 : tie.Need-returns-4
 returns-4 c = search steps
 
 pub in-limits-spec : {M : Type 1} → statement M
-in-limits-spec = tie.close (tie.spec enum-known-g enum-told returns returns-2 returns-3 returns-4)
+in-limits-spec = tie.close (tie.spec
+    (λ c. omega arith)  -- enum-known-g
+    (λ c. omega arith)  -- enum-told
+    (λ c. search needs)  -- returns
+    returns-2
+    returns-3
+    returns-4)

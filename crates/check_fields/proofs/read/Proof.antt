@@ -5,18 +5,6 @@ use borrow.Author.Needs.{needs}
 use Rattle.check_fields.proofs.read.Statement.{statement}
 use Rattle.check_fields.proofs.read.Tie as tie
 
-enum-known-g : tie.Need-enum-known-g
-enum-known-g c = search needs
-
-enum-told : tie.Need-enum-told
-enum-told c = search needs
-
-returns : tie.Need-returns
-returns c = search needs
-
-beyond-requires : tie.Need-beyond-requires
-beyond-requires c κs = search needs
-
 returns-2 : tie.Need-returns-2
 returns-2 c =
     number-cut _ _ _ _ _ (c .before .before .before .g .given .1) (c .before .beyond .ensures .0 (c .if1 .taken))
@@ -37,10 +25,10 @@ pub read-spec : {M : Type 1} → statement M
 read-spec =
     tie.close
     (tie.spec
-    enum-known-g
-    enum-told
-    returns
-    beyond-requires
+    (λ c. search needs)  -- enum-known-g
+    (λ c. search needs)  -- enum-told
+    (λ c. search needs)  -- returns
+    (λ c κs. search needs)  -- beyond-requires
     returns-2
     number-at-requires
     add-t7

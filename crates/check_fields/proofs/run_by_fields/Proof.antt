@@ -4,29 +4,17 @@ use borrow.Author.Needs.{needs}
 use Rattle.check_fields.proofs.run_by_fields.Statement.{statement}
 use Rattle.check_fields.proofs.run_by_fields.Tie as tie
 
-opening-by-fields-requires : tie.Need-opening-by-fields-requires
-opening-by-fields-requires c κs = search needs
-
 returns : tie.Need-returns
 returns c =
     run-opening _ _ _ _ (c .before .if1 .taken) (c .opening-by-fields .ensures)
-
-before-vectors-by-fields-requires : tie.Need-before-vectors-by-fields-requires
-before-vectors-by-fields-requires c κs = search needs
 
 returns-2 : tie.Need-returns-2
 returns-2 c =
     run-vectors _ _ _ _ (c .before .before .if1 .left) (c .before .if2 .taken) (c .before-vectors-by-fields .ensures)
 
-before-ranges-by-fields-requires : tie.Need-before-ranges-by-fields-requires
-before-ranges-by-fields-requires c κs = search needs
-
 returns-3 : tie.Need-returns-3
 returns-3 c =
     run-ranges _ _ _ _ (c .before .before .before .if1 .left) (c .before .before .if2 .left) (c .before .if3 .taken) (c .before-ranges-by-fields .ensures)
-
-closing-by-fields-requires : tie.Need-closing-by-fields-requires
-closing-by-fields-requires c κs = search needs
 
 returns-4 : tie.Need-returns-4
 returns-4 c =
@@ -36,11 +24,11 @@ pub run-by-fields-spec : {M : Type 1} → statement M
 run-by-fields-spec =
     tie.close
     (tie.spec
-    opening-by-fields-requires
+    (λ c κs. search needs)  -- opening-by-fields-requires
     returns
-    before-vectors-by-fields-requires
+    (λ c κs. search needs)  -- before-vectors-by-fields-requires
     returns-2
-    before-ranges-by-fields-requires
+    (λ c κs. search needs)  -- before-ranges-by-fields-requires
     returns-3
-    closing-by-fields-requires
+    (λ c κs. search needs)  -- closing-by-fields-requires
     returns-4)

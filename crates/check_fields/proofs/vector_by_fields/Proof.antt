@@ -5,18 +5,6 @@ use borrow.Author.Needs.{needs}
 use Rattle.check_fields.proofs.vector_by_fields.Statement.{statement}
 use Rattle.check_fields.proofs.vector_by_fields.Tie as tie
 
-count-of-elements-requires : tie.Need-count-of-elements-requires
-count-of-elements-requires c κs = search needs
-
-in-limits-requires : tie.Need-in-limits-requires
-in-limits-requires c κs = search needs
-
-enum-known-g : tie.Need-enum-known-g
-enum-known-g c = search needs
-
-enum-told : tie.Need-enum-told
-enum-told c = search needs
-
 returns : tie.Need-returns
 returns c =
     let b4 = c .before .before .before .before in
@@ -42,10 +30,10 @@ pub vector-by-fields-spec : {M : Type 1} → statement M
 vector-by-fields-spec =
     tie.close
     (tie.spec
-    count-of-elements-requires
-    in-limits-requires
-    enum-known-g
-    enum-told
+    (λ c κs. search needs)  -- count-of-elements-requires
+    (λ c κs. search needs)  -- in-limits-requires
+    (λ c. search needs)  -- enum-known-g
+    (λ c. search needs)  -- enum-told
     returns
     elements-requires
     returns-2)

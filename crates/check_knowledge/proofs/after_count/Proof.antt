@@ -6,18 +6,6 @@ use mathlib.Core.Path.{sym, _∙_}
 use Rattle.check_knowledge.proofs.after_count.Statement.{statement}
 use Rattle.check_knowledge.proofs.after_count.Tie as tie
 
-vector-list-requires : tie.Need-vector-list-requires
-vector-list-requires c κs = tt
-
-enum-known-e : tie.Need-enum-known-e
-enum-known-e c = omega arith
-
-after-vectors-requires : tie.Need-after-vectors-requires
-after-vectors-requires c κs = tt
-
-enum-known-n : tie.Need-enum-known-n
-enum-known-n c = omega arith
-
 returns : tie.Need-returns
 unfolding afterCount
 returns c =
@@ -31,4 +19,10 @@ returns-2 c =
 pub after-count-spec : {M : Type 1} → statement M
 after-count-spec =
     tie.close
-    (tie.spec vector-list-requires enum-known-e after-vectors-requires enum-known-n returns returns-2)
+    (tie.spec
+    (λ c κs. tt)  -- vector-list-requires
+    (λ c. omega arith)  -- enum-known-e
+    (λ c κs. tt)  -- after-vectors-requires
+    (λ c. omega arith)  -- enum-known-n
+    returns
+    returns-2)

@@ -6,18 +6,6 @@ use mathlib.Core.Path.{sym, _∙_}
 use Rattle.check_knowledge.proofs.after_map.Statement.{statement}
 use Rattle.check_knowledge.proofs.after_map.Tie as tie
 
-vector-count-requires : tie.Need-vector-count-requires
-vector-count-requires c κs = tt
-
-enum-known-v : tie.Need-enum-known-v
-enum-known-v c = omega arith
-
-after-count-requires : tie.Need-after-count-requires
-after-count-requires c κs = tt
-
-enum-known-n : tie.Need-enum-known-n
-enum-known-n c = omega arith
-
 returns : tie.Need-returns
 unfolding afterMap
 returns c =
@@ -32,9 +20,9 @@ pub after-map-spec : {M : Type 1} → statement M
 after-map-spec =
     tie.close
     (tie.spec
-    vector-count-requires
-    enum-known-v
-    after-count-requires
-    enum-known-n
+    (λ c κs. tt)  -- vector-count-requires
+    (λ c. omega arith)  -- enum-known-v
+    (λ c κs. tt)  -- after-count-requires
+    (λ c. omega arith)  -- enum-known-n
     returns
     returns-2)

@@ -4,15 +4,6 @@ use Rattle.check_knowledge.proofs.Answers.{answer-whole, answer-more, a
 use Rattle.check_knowledge.proofs.after_ranges.Statement.{statement}
 use Rattle.check_knowledge.proofs.after_ranges.Tie as tie
 
-closing-fields-requires : tie.Need-closing-fields-requires
-closing-fields-requires c κs = tt
-
-enum-known-end : tie.Need-enum-known-end
-enum-known-end c = omega arith
-
-enum-known-n : tie.Need-enum-known-n
-enum-known-n c = omega arith
-
 returns : tie.Need-returns
 returns c =
     let a = c .before .before .before .before .before .before .args in
@@ -31,4 +22,10 @@ returns-3 c =
 pub after-ranges-spec : {M : Type 1} → statement M
 after-ranges-spec =
     tie.close
-    (tie.spec closing-fields-requires enum-known-end enum-known-n returns returns-2 returns-3)
+    (tie.spec
+    (λ c κs. tt)  -- closing-fields-requires
+    (λ c. omega arith)  -- enum-known-end
+    (λ c. omega arith)  -- enum-known-n
+    returns
+    returns-2
+    returns-3)

@@ -6,18 +6,6 @@ use mathlib.Core.Path.{sym, _∙_}
 use Rattle.check_knowledge.proofs.after_vectors.Statement.{statement}
 use Rattle.check_knowledge.proofs.after_vectors.Tie as tie
 
-range-list-requires : tie.Need-range-list-requires
-range-list-requires c κs = tt
-
-enum-known-g : tie.Need-enum-known-g
-enum-known-g c = omega arith
-
-after-ranges-requires : tie.Need-after-ranges-requires
-after-ranges-requires c κs = tt
-
-enum-known-n : tie.Need-enum-known-n
-enum-known-n c = omega arith
-
 returns : tie.Need-returns
 unfolding afterVectors
 returns c =
@@ -32,9 +20,9 @@ pub after-vectors-spec : {M : Type 1} → statement M
 after-vectors-spec =
     tie.close
     (tie.spec
-    range-list-requires
-    enum-known-g
-    after-ranges-requires
-    enum-known-n
+    (λ c κs. tt)  -- range-list-requires
+    (λ c. omega arith)  -- enum-known-g
+    (λ c κs. tt)  -- after-ranges-requires
+    (λ c. omega arith)  -- enum-known-n
     returns
     returns-2)

@@ -4,18 +4,6 @@ use Rattle.check_knowledge.proofs.Answers.{check-fault, check-on}
 use Rattle.check_knowledge.proofs.check_whole.Statement.{statement}
 use Rattle.check_knowledge.proofs.check_whole.Tie as tie
 
-replica-map-requires : tie.Need-replica-map-requires
-replica-map-requires c κs = tt
-
-enum-known-r : tie.Need-enum-known-r
-enum-known-r c = omega arith
-
-after-map-requires : tie.Need-after-map-requires
-after-map-requires c κs = tt
-
-enum-known-n : tie.Need-enum-known-n
-enum-known-n c = omega arith
-
 returns : tie.Need-returns
 returns c =
     check-on _ _ _ _ (c .before .before .before .before .replica-map .ensures) _ _ (c .before .before .r .given .1) _ (c .after-map .ensures)
@@ -27,4 +15,10 @@ returns-2 c =
 pub check-whole-spec : {M : Type 1} → statement M
 check-whole-spec =
     tie.close
-    (tie.spec replica-map-requires enum-known-r after-map-requires enum-known-n returns returns-2)
+    (tie.spec
+    (λ c κs. tt)  -- replica-map-requires
+    (λ c. omega arith)  -- enum-known-r
+    (λ c κs. tt)  -- after-map-requires
+    (λ c. omega arith)  -- enum-known-n
+    returns
+    returns-2)

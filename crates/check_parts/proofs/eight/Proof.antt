@@ -5,21 +5,6 @@ use borrow.Author.Needs.{needs}
 use Rattle.check_parts.proofs.eight.Statement.{statement}
 use Rattle.check_parts.proofs.eight.Tie as tie
 
-four-requires : tie.Need-four-requires
-four-requires c κs = search needs
-
-mul-result : tie.Need-mul-result
-mul-result c = search needs
-
-add-four : tie.Need-add-four
-add-four c = search needs
-
-four-requires-2 : tie.Need-four-requires-2
-four-requires-2 c κs = search needs
-
-add-result : tie.Need-add-result
-add-result c = search needs
-
 returns : tie.Need-returns
 returns c =
     record {
@@ -30,4 +15,10 @@ returns c =
 
 pub eight-spec : {M : Type 1} → statement M
 eight-spec =
-    tie.close (tie.spec four-requires mul-result add-four four-requires-2 add-result returns)
+    tie.close (tie.spec
+    (λ c κs. search needs)  -- four-requires
+    (λ c. search needs)  -- mul-result
+    (λ c. search needs)  -- add-four
+    (λ c κs. search needs)  -- four-requires-2
+    (λ c. search needs)  -- add-result
+    returns)

@@ -4,33 +4,9 @@ use borrow.Author.Needs.{needs}
 use Rattle.check_parts.proofs.range_above.Statement.{statement}
 use Rattle.check_parts.proofs.range_above.Tie as tie
 
-sub-if1 : tie.Need-sub-if1
-sub-if1 c = search needs
-
 returns : tie.Need-returns
 returns c =
     place-cut _ _ _ _ (c .before .before .pre) (c .if1 .taken)
-
-eight-requires : tie.Need-eight-requires
-eight-requires c κs = search needs
-
-add-eight : tie.Need-add-eight
-add-eight c = search needs
-
-eight-requires-2 : tie.Need-eight-requires-2
-eight-requires-2 c κs = search needs
-
-add-eight-2 : tie.Need-add-eight-2
-add-eight-2 c = search needs
-
-eight-requires-3 : tie.Need-eight-requires-3
-eight-requires-3 c κs = search needs
-
-less3-requires : tie.Need-less3-requires
-less3-requires c κs = search needs
-
-range-of-any-bound-requires : tie.Need-range-of-any-bound-requires
-range-of-any-bound-requires c κs = search needs
 
 returns-2 : tie.Need-returns-2
 returns-2 c =
@@ -52,14 +28,14 @@ pub range-above-spec : {M : Type 1} → statement M
 range-above-spec =
     tie.close
     (tie.spec
-    sub-if1
+    (λ c. search needs)  -- sub-if1
     returns
-    eight-requires
-    add-eight
-    eight-requires-2
-    add-eight-2
-    eight-requires-3
-    less3-requires
-    range-of-any-bound-requires
+    (λ c κs. search needs)  -- eight-requires
+    (λ c. search needs)  -- add-eight
+    (λ c κs. search needs)  -- eight-requires-2
+    (λ c. search needs)  -- add-eight-2
+    (λ c κs. search needs)  -- eight-requires-3
+    (λ c κs. search needs)  -- less3-requires
+    (λ c κs. search needs)  -- range-of-any-bound-requires
     returns-2
     returns-3)

@@ -6,18 +6,6 @@ use borrow.Author.Needs.{needs}
 use Rattle.check_parts.proofs.range_list.Statement.{statement}
 use Rattle.check_parts.proofs.range_list.Tie as tie
 
-count-of-ranges-requires : tie.Need-count-of-ranges-requires
-count-of-ranges-requires c κs = search needs
-
-in-limits-requires : tie.Need-in-limits-requires
-in-limits-requires c κs = search needs
-
-enum-known-f : tie.Need-enum-known-f
-enum-known-f c = search needs
-
-enum-told : tie.Need-enum-told
-enum-told c = search needs
-
 returns : tie.Need-returns
 returns c =
     range-list-fault _ _ _ _ _ _ (c .before .before .before .count-of-ranges .ensures) (c .before .before .in-limits .ensures) _
@@ -40,10 +28,10 @@ pub range-list-spec : {M : Type 1} → statement M
 range-list-spec =
     tie.close
     (tie.spec
-    count-of-ranges-requires
-    in-limits-requires
-    enum-known-f
-    enum-told
+    (λ c κs. search needs)  -- count-of-ranges-requires
+    (λ c κs. search needs)  -- in-limits-requires
+    (λ c. search needs)  -- enum-known-f
+    (λ c. search needs)  -- enum-told
     returns
     ranges-requires
     returns-2)

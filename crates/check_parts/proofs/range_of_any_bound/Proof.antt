@@ -5,25 +5,13 @@ use Rattle.check_parts.proofs.Bound.{firsts}
 use Rattle.check_parts.proofs.range_of_any_bound.Statement.{statement}
 use Rattle.check_parts.proofs.range_of_any_bound.Tie as tie
 
-sub-if1 : tie.Need-sub-if1
-sub-if1 c = omega arith
-
 returns : tie.Need-returns
 returns c =
     search firsts
 
-add-four : tie.Need-add-four
-add-four c = omega arith
-
-four-requires : tie.Need-four-requires
-four-requires c κs = omega arith
-
 returns-2 : tie.Need-returns-2
 returns-2 c =
     search firsts
-
-add-t4 : tie.Need-add-t4
-add-t4 c = omega arith
 
 returns-3 : tie.Need-returns-3
 returns-3 c =
@@ -32,4 +20,11 @@ returns-3 c =
 
 pub range-of-any-bound-spec : {M : Type 1} → statement M
 range-of-any-bound-spec =
-    tie.close (tie.spec sub-if1 returns add-four four-requires returns-2 add-t4 returns-3)
+    tie.close (tie.spec
+    (λ c. omega arith)  -- sub-if1
+    returns
+    (λ c. omega arith)  -- add-four
+    (λ c κs. omega arith)  -- four-requires
+    returns-2
+    (λ c. omega arith)  -- add-t4
+    returns-3)

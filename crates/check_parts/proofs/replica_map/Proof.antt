@@ -14,12 +14,6 @@ in-limits-requires : tie.Need-in-limits-requires
 in-limits-requires c κs =
     tt
 
-enum-known-g : tie.Need-enum-known-g
-enum-known-g c = omega arith
-
-enum-told : tie.Need-enum-told
-enum-told c = omega arith
-
 returns : tie.Need-returns
 returns c =
     map-fault _ _ _ _ (c .before .before .before .count-of-replicas .ensures) (c .before .before .in-limits .ensures) _
@@ -44,8 +38,8 @@ replica-map-spec =
     (tie.spec
     count-of-replicas-requires
     in-limits-requires
-    enum-known-g
-    enum-told
+    (λ c. omega arith)  -- enum-known-g
+    (λ c. omega arith)  -- enum-told
     returns
     replica-ids-requires
     returns-2)

@@ -5,15 +5,6 @@ use borrow.Author.Needs.{needs}
 use Rattle.check_parts.proofs.vector_count.Statement.{statement}
 use Rattle.check_parts.proofs.vector_count.Tie as tie
 
-count-of-vectors-requires : tie.Need-count-of-vectors-requires
-count-of-vectors-requires c κs = search needs
-
-add-in-limits : tie.Need-add-in-limits
-add-in-limits c = search needs
-
-in-limits-requires : tie.Need-in-limits-requires
-in-limits-requires c κs = search needs
-
 returns : tie.Need-returns
 unfolding vectorCount
 returns c =
@@ -21,4 +12,8 @@ returns c =
 
 pub vector-count-spec : {M : Type 1} → statement M
 vector-count-spec =
-    tie.close (tie.spec count-of-vectors-requires add-in-limits in-limits-requires returns)
+    tie.close (tie.spec
+    (λ c κs. search needs)  -- count-of-vectors-requires
+    (λ c. search needs)  -- add-in-limits
+    (λ c κs. search needs)  -- in-limits-requires
+    returns)

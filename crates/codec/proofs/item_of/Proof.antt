@@ -3,15 +3,6 @@ use Rattle.codec.proofs.Ids.{item-is-read}
 use Rattle.codec.proofs.item_of.Statement.{statement}
 use Rattle.codec.proofs.item_of.Tie as tie
 
-read8-requires : tie.Need-read8-requires
-read8-requires c κs = tt
-
-read8-requires-2 : tie.Need-read8-requires-2
-read8-requires-2 c κs = tt
-
-read8-requires-3 : tie.Need-read8-requires-3
-read8-requires-3 c κs = tt
-
 returns : tie.Need-returns
 returns c = (
   item-is-read _ _ _ _ (c .before .before .read8 .ensures .0) (c .before .read82 .ensures .0) (c .read83 .ensures .0),
@@ -19,4 +10,8 @@ returns c = (
 )
 
 pub item-of-spec : {M : Type 1} → statement M
-item-of-spec = tie.close (tie.spec read8-requires read8-requires-2 read8-requires-3 returns)
+item-of-spec = tie.close (tie.spec
+    (λ c κs. tt)  -- read8-requires
+    (λ c κs. tt)  -- read8-requires-2
+    (λ c κs. tt)  -- read8-requires-3
+    returns)

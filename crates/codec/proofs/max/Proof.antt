@@ -6,12 +6,6 @@ use Rattle.codec.proofs.Difference.{gap-kept}
 use Rattle.codec.proofs.max.Statement.{statement}
 use Rattle.codec.proofs.max.Tie as tie
 
-wrapping-sub-u64-requires : tie.Need-wrapping-sub-u64-requires
-wrapping-sub-u64-requires c κs = search needs
-
-cast-result : tie.Need-cast-result
-cast-result c = search needs
-
 mul-result : tie.Need-mul-result
 mul-result c =
     omega (arith, gap-kept (c .before .args .a) (c .before .args .b) (c .wrapping-sub-u64 .result) (omega arith) (omega arith) (c .wrapping-sub-u64 .ensures))
@@ -25,4 +19,9 @@ returns c =
     omega (arith, gap-kept (c .before .args .a) (c .before .args .b) (c .wrapping-sub-u64 .result) (omega arith) (omega arith) (c .wrapping-sub-u64 .ensures))
 
 pub max-spec : {M : Type 1} → statement M
-max-spec = tie.close (tie.spec wrapping-sub-u64-requires cast-result mul-result add-result returns)
+max-spec = tie.close (tie.spec
+    (λ c κs. search needs)  -- wrapping-sub-u64-requires
+    (λ c. search needs)  -- cast-result
+    mul-result
+    add-result
+    returns)

@@ -7,9 +7,6 @@ use borrow.Author.Needs.{needs}
 use Rattle.codec.proofs.read2.Statement.{statement}
 use Rattle.codec.proofs.read2.Tie as tie
 
-beyond-requires : tie.Need-beyond-requires
-beyond-requires c κs = search needs
-
 returns : tie.Need-returns
 returns c =
     (sym (read-missing _ 2 _ (c .before .beyond .ensures .0 (c .if1 .taken))), omega arith)
@@ -18,9 +15,6 @@ one-requires : tie.Need-one-requires
 one-requires c κs =
     omega (arith, c .before .beyond .ensures .1 (c .if1 .left))
 
-mul-result : tie.Need-mul-result
-mul-result c = search needs
-
 add-one : tie.Need-add-one
 add-one c =
     omega (arith, c .before .before .beyond .ensures .1 (c .before .if1 .left))
@@ -28,9 +22,6 @@ add-one c =
 one-requires-2 : tie.Need-one-requires-2
 one-requires-2 c κs =
     omega (arith, c .before .before .beyond .ensures .1 (c .before .if1 .left))
-
-add-result : tie.Need-add-result
-add-result c = search needs
 
 returns-2 : tie.Need-returns-2
 returns-2 c =
@@ -41,11 +32,11 @@ pub read2-spec : {M : Type 1} → statement M
 read2-spec =
     tie.close
     (tie.spec
-    beyond-requires
+    (λ c κs. search needs)  -- beyond-requires
     returns
     one-requires
-    mul-result
+    (λ c. search needs)  -- mul-result
     add-one
     one-requires-2
-    add-result
+    (λ c. search needs)  -- add-result
     returns-2)

@@ -6,9 +6,6 @@ use borrow.Author.Needs.{needs}
 use Rattle.codec.proofs.read4.Statement.{statement}
 use Rattle.codec.proofs.read4.Tie as tie
 
-beyond-requires : tie.Need-beyond-requires
-beyond-requires c κs = search needs
-
 returns : tie.Need-returns
 returns c =
     (sym (read-missing _ 4 _ (c .before .beyond .ensures .0 (c .if1 .taken))), omega arith)
@@ -23,4 +20,8 @@ returns-2 c =
     (omega (arith, read-there (a .s .now) 4 (a .at) (c .before .before .beyond .ensures .1 (c .before .if1 .left))), omega arith)
 
 pub read4-spec : {M : Type 1} → statement M
-read4-spec = tie.close (tie.spec beyond-requires returns four-requires returns-2)
+read4-spec = tie.close (tie.spec
+    (λ c κs. search needs)  -- beyond-requires
+    returns
+    four-requires
+    returns-2)

@@ -3,12 +3,6 @@ use Rattle.codec.proofs.Ids.{replica-is-read}
 use Rattle.codec.proofs.replica_of.Statement.{statement}
 use Rattle.codec.proofs.replica_of.Tie as tie
 
-read8-requires : tie.Need-read8-requires
-read8-requires c κs = tt
-
-read8-requires-2 : tie.Need-read8-requires-2
-read8-requires-2 c κs = tt
-
 returns : tie.Need-returns
 returns c = (
   replica-is-read _ _ _ (c .before .read8 .ensures .0) (c .read82 .ensures .0),
@@ -16,4 +10,7 @@ returns c = (
 )
 
 pub replica-of-spec : {M : Type 1} → statement M
-replica-of-spec = tie.close (tie.spec read8-requires read8-requires-2 returns)
+replica-of-spec = tie.close (tie.spec
+    (λ c κs. tt)  -- read8-requires
+    (λ c κs. tt)  -- read8-requires-2
+    returns)

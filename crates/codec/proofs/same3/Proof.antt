@@ -4,9 +4,6 @@ use Rattle.codec.proofs.Words.{same3-rest, same3-first}
 use Rattle.codec.proofs.same3.Statement.{statement}
 use Rattle.codec.proofs.same3.Tie as tie
 
-same2-requires : tie.Need-same2-requires
-same2-requires c κs = tt
-
 returns : tie.Need-returns
 returns c = same3-rest _ _ _ _ _ _ _ (c .before .if1 .taken) (c .same2 .ensures)
 
@@ -14,4 +11,7 @@ returns-2 : tie.Need-returns-2
 returns-2 c = same3-first _ _ _ _ _ _ (omega arith) (omega arith) (omega arith) (omega arith) (omega arith)
 
 pub same3-spec : {M : Type 1} → statement M
-same3-spec = tie.close (tie.spec same2-requires returns returns-2)
+same3-spec = tie.close (tie.spec
+    (λ c κs. tt)  -- same2-requires
+    returns
+    returns-2)

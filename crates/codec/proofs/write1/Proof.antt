@@ -12,12 +12,6 @@ use Rattle.codec.proofs.write1.Tie as tie
 returns : tie.Need-returns
 returns c = no-room _ _ 1 _ (omega arith)
 
-cast-out : tie.Need-cast-out
-cast-out c = omega arith
-
-slice-write-out : tie.Need-slice-write-out
-slice-write-out c = omega arith
-
 same-length : tie.Need-same-length
 same-length c = simp length-set
 
@@ -26,4 +20,9 @@ unfolding bytes put
 returns-2 c = simp (towards-suc, div-one) (simp div-one at (written (c .before .args .out .now) (c .before .args .at) 1 (c .before .args .x) (omega arith)))
 
 pub write1-spec : {M : Type 1} → statement M
-write1-spec = tie.close (tie.spec returns cast-out slice-write-out same-length returns-2)
+write1-spec = tie.close (tie.spec
+    returns
+    (λ c. omega arith)  -- cast-out
+    (λ c. omega arith)  -- slice-write-out
+    same-length
+    returns-2)

@@ -9,9 +9,6 @@ use Rattle.codec.proofs.Writing.{no-room, eight-stored}
 use Rattle.codec.proofs.write8.Statement.{statement}
 use Rattle.codec.proofs.write8.Tie as tie
 
-beyond-requires : tie.Need-beyond-requires
-beyond-requires c κs = tt
-
 returns : tie.Need-returns
 returns c = no-room _ _ 8 _ (c .before .beyond .ensures .0 (c .if1 .taken))
 
@@ -28,9 +25,6 @@ put4-requires-2 c κs =
     let l = ap length (c .before .before .before .put4 .ensures) ∙ length-sets (b8 .args .out .now) (b8 .args .at)
     (bytes 4 (b8 .args .x / 4294967296)) in omega (arith, l, b4 .before .before .beyond .ensures .1 (b4 .before .if1 .left))
 
-same-length : tie.Need-same-length
-same-length c = omega arith
-
 returns-2 : tie.Need-returns-2
 returns-2 c =
     let b4 = c .before .before .before .before in
@@ -42,4 +36,11 @@ returns-2 c =
 pub write8-spec : {M : Type 1} → statement M
 write8-spec =
     tie.close
-    (tie.spec beyond-requires returns put4-requires add-put4 put4-requires-2 same-length returns-2)
+    (tie.spec
+    (λ c κs. tt)  -- beyond-requires
+    returns
+    put4-requires
+    add-put4
+    put4-requires-2
+    (λ c. omega arith)  -- same-length
+    returns-2)

@@ -4,12 +4,6 @@ use borrow.Author.Needs.{needs}
 use Rattle.collector.proofs.answer_to_c.Statement.{statement}
 use Rattle.collector.proofs.answer_to_c.Tie as tie
 
-enum-known-a : tie.Need-enum-known-a
-enum-known-a c = search needs
-
-enum-known-a-2 : tie.Need-enum-known-a-2
-enum-known-a-2 c = search needs
-
 returns : tie.Need-returns
 returns c = answer-written _ _ _ (c .before .a .given .1)
 
@@ -17,4 +11,8 @@ returns-2 : tie.Need-returns-2
 returns-2 c = answer-refused _ _ _ (c .before .a2 .given .1)
 
 pub answer-to-c-spec : {M : Type 1} → statement M
-answer-to-c-spec = tie.close (tie.spec enum-known-a enum-known-a-2 returns returns-2)
+answer-to-c-spec = tie.close (tie.spec
+    (λ c. search needs)  -- enum-known-a
+    (λ c. search needs)  -- enum-known-a-2
+    returns
+    returns-2)

@@ -4,18 +4,6 @@ use borrow.Author.Needs.{needs}
 use Rattle.collector.proofs.part_to_c.Statement.{statement}
 use Rattle.collector.proofs.part_to_c.Tie as tie
 
-enum-told : tie.Need-enum-told
-enum-told c = search needs
-
-enum-known-p : tie.Need-enum-known-p
-enum-known-p c = search needs
-
-enum-known-p-2 : tie.Need-enum-known-p-2
-enum-known-p-2 c = search needs
-
-enum-known-p-3 : tie.Need-enum-known-p-3
-enum-known-p-3 c = search needs
-
 returns : tie.Need-returns
 returns c = part-nothing _ _ _ _ (c .enum-told .given .1)
 
@@ -32,10 +20,10 @@ pub part-to-c-spec : {M : Type 1} → statement M
 part-to-c-spec =
     tie.close
     (tie.spec
-    enum-told
-    enum-known-p
-    enum-known-p-2
-    enum-known-p-3
+    (λ c. search needs)  -- enum-told
+    (λ c. search needs)  -- enum-known-p
+    (λ c. search needs)  -- enum-known-p-2
+    (λ c. search needs)  -- enum-known-p-3
     returns
     returns-2
     returns-3

@@ -6,27 +6,6 @@ use Rattle.layout.proofs.Told.{number-accepted, sizes-accepted, number-refused,
 use Rattle.collector.proofs.sync_check.Statement.{statement}
 use Rattle.collector.proofs.sync_check.Tie as tie
 
-check-requires : tie.Need-check-requires
-check-requires c κs = search needs
-
-enum-known-r : tie.Need-enum-known-r
-enum-known-r c = search needs
-
-element-write-sizes : tie.Need-element-write-sizes
-element-write-sizes c = search needs
-
-element-write-sizes-2 : tie.Need-element-write-sizes-2
-element-write-sizes-2 c = search needs
-
-element-write-sizes-3 : tie.Need-element-write-sizes-3
-element-write-sizes-3 c = search needs
-
-element-write-sizes-4 : tie.Need-element-write-sizes-4
-element-write-sizes-4 c = search needs
-
-enum-known-n : tie.Need-enum-known-n
-enum-known-n c = search needs
-
 returns : tie.Need-returns
 returns c =
     let v = c .before .r .given .0 in
@@ -45,12 +24,12 @@ pub sync-check-spec : {M : Type 1} → statement M
 sync-check-spec =
     tie.close
     (tie.spec
-    check-requires
-    enum-known-r
-    element-write-sizes
-    element-write-sizes-2
-    element-write-sizes-3
-    element-write-sizes-4
-    enum-known-n
+    (λ c κs. search needs)  -- check-requires
+    (λ c. search needs)  -- enum-known-r
+    (λ c. search needs)  -- element-write-sizes
+    (λ c. search needs)  -- element-write-sizes-2
+    (λ c. search needs)  -- element-write-sizes-3
+    (λ c. search needs)  -- element-write-sizes-4
+    (λ c. search needs)  -- enum-known-n
     returns
     returns-2)

@@ -5,19 +5,14 @@ use borrow.Author.Needs.{needs}
 use Rattle.collector.proofs.sync_compare.Statement.{statement}
 use Rattle.collector.proofs.sync_compare.Tie as tie
 
-compare-requires : tie.Need-compare-requires
-compare-requires c κs = search needs
-
-answer-to-c-requires : tie.Need-answer-to-c-requires
-answer-to-c-requires c κs = search needs
-
-same-length : tie.Need-same-length
-same-length c = search needs
-
 returns : tie.Need-returns
 returns c =
     let said = c .before .before .before .before .compare .ensures in
     (answer-called _ _ _ _ _ _ _ (c .answer-to-c .ensures .0) (c .answer-to-c .ensures .1) (said .0) (said .1 .0), said .1 .1)
 
 pub sync-compare-spec : {M : Type 1} → statement M
-sync-compare-spec = tie.close (tie.spec compare-requires answer-to-c-requires same-length returns)
+sync-compare-spec = tie.close (tie.spec
+    (λ c κs. search needs)  -- compare-requires
+    (λ c κs. search needs)  -- answer-to-c-requires
+    (λ c. search needs)  -- same-length
+    returns)

@@ -6,18 +6,6 @@ use Rattle.ticks.proofs.Told.{value-contained, value-lacking, contain-stays}
 use Rattle.collector.proofs.sync_contain.Statement.{statement}
 use Rattle.collector.proofs.sync_contain.Tie as tie
 
-contain-requires : tie.Need-contain-requires
-contain-requires c κs = search needs
-
-enum-told : tie.Need-enum-told
-enum-told c = search needs
-
-enum-told-2 : tie.Need-enum-told-2
-enum-told-2 c = search needs
-
-enum-known-n : tie.Need-enum-known-n
-enum-known-n c = search needs
-
 returns : tie.Need-returns
 returns c = value-contained _ _ (sym (c .before .before .contain .ensures) ∙ c .enum-told .given .1)
 
@@ -30,4 +18,11 @@ returns-3 c = contain-stays _ _ (c .before .n .given .0 .0) (sym (c .before .bef
 pub sync-contain-spec : {M : Type 1} → statement M
 sync-contain-spec =
     tie.close
-    (tie.spec contain-requires enum-told enum-told-2 enum-known-n returns returns-2 returns-3)
+    (tie.spec
+    (λ c κs. search needs)  -- contain-requires
+    (λ c. search needs)  -- enum-told
+    (λ c. search needs)  -- enum-told-2
+    (λ c. search needs)  -- enum-known-n
+    returns
+    returns-2
+    returns-3)

@@ -6,18 +6,6 @@ use Rattle.ticks.proofs.Told.{value-covers, value-lacks, cover-stays}
 use Rattle.collector.proofs.sync_cover.Statement.{statement}
 use Rattle.collector.proofs.sync_cover.Tie as tie
 
-cover-requires : tie.Need-cover-requires
-cover-requires c κs = search needs
-
-enum-told : tie.Need-enum-told
-enum-told c = search needs
-
-enum-told-2 : tie.Need-enum-told-2
-enum-told-2 c = search needs
-
-enum-known-n : tie.Need-enum-known-n
-enum-known-n c = search needs
-
 returns : tie.Need-returns
 returns c = value-covers _ _ (sym (c .before .before .cover .ensures) ∙ c .enum-told .given .1)
 
@@ -30,4 +18,11 @@ returns-3 c = cover-stays _ _ (c .before .n .given .0 .0) (sym (c .before .befor
 pub sync-cover-spec : {M : Type 1} → statement M
 sync-cover-spec =
     tie.close
-    (tie.spec cover-requires enum-told enum-told-2 enum-known-n returns returns-2 returns-3)
+    (tie.spec
+    (λ c κs. search needs)  -- cover-requires
+    (λ c. search needs)  -- enum-told
+    (λ c. search needs)  -- enum-told-2
+    (λ c. search needs)  -- enum-known-n
+    returns
+    returns-2
+    returns-3)

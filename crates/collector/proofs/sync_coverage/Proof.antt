@@ -6,15 +6,6 @@ use borrow.Author.Needs.{needs}
 use Rattle.collector.proofs.sync_coverage.Statement.{statement}
 use Rattle.collector.proofs.sync_coverage.Tie as tie
 
-coverage-requires : tie.Need-coverage-requires
-coverage-requires c κs = search needs
-
-enum-known-c : tie.Need-enum-known-c
-enum-known-c c = search needs
-
-enum-known-k : tie.Need-enum-known-k
-enum-known-k c = search needs
-
 returns : tie.Need-returns
 returns c = covers-these _ _ _ _ _ _ _ (sym (c .before .before .before .coverage .ensures) ∙ c .before .c .given .1)
 
@@ -23,4 +14,9 @@ returns-2 c = covers-refusal _ _ _ _ _ (sym (c .before .before .before .coverage
 
 pub sync-coverage-spec : {M : Type 1} → statement M
 sync-coverage-spec =
-    tie.close (tie.spec coverage-requires enum-known-c enum-known-k returns returns-2)
+    tie.close (tie.spec
+    (λ c κs. search needs)  -- coverage-requires
+    (λ c. search needs)  -- enum-known-c
+    (λ c. search needs)  -- enum-known-k
+    returns
+    returns-2)

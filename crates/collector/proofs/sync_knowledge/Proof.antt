@@ -4,14 +4,11 @@ use borrow.Author.Needs.{needs}
 use Rattle.collector.proofs.sync_knowledge.Statement.{statement}
 use Rattle.collector.proofs.sync_knowledge.Tie as tie
 
-knowledge-part-requires : tie.Need-knowledge-part-requires
-knowledge-part-requires c κs = search needs
-
-part-to-c-requires : tie.Need-part-to-c-requires
-part-to-c-requires c κs = search needs
-
 returns : tie.Need-returns
 returns c = part-called _ _ (c .before .before .before .before .knowledge-part .ensures) _ _ _ _ _ _ _ (c .part-to-c .ensures)
 
 pub sync-knowledge-spec : {M : Type 1} → statement M
-sync-knowledge-spec = tie.close (tie.spec knowledge-part-requires part-to-c-requires returns)
+sync-knowledge-spec = tie.close (tie.spec
+    (λ c κs. search needs)  -- knowledge-part-requires
+    (λ c κs. search needs)  -- part-to-c-requires
+    returns)

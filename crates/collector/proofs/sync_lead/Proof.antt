@@ -8,15 +8,6 @@ use Rattle.ticks.proofs.Told.{value-ahead, lead-stays}
 use Rattle.collector.proofs.sync_lead.Statement.{statement}
 use Rattle.collector.proofs.sync_lead.Tie as tie
 
-lead-requires : tie.Need-lead-requires
-lead-requires c κs = search needs
-
-enum-known-x : tie.Need-enum-known-x
-enum-known-x c = search needs
-
-enum-known-n : tie.Need-enum-known-n
-enum-known-n c = search needs
-
 returns : tie.Need-returns
 returns c =
     let x = c .before .x .given .0 .0 in
@@ -27,4 +18,9 @@ returns-2 : tie.Need-returns-2
 returns-2 c = lead-stays _ _ (c .before .n .given .0 .0) (sym (c .before .before .before .lead .ensures) ∙ c .before .n .given .1)
 
 pub sync-lead-spec : {M : Type 1} → statement M
-sync-lead-spec = tie.close (tie.spec lead-requires enum-known-x enum-known-n returns returns-2)
+sync-lead-spec = tie.close (tie.spec
+    (λ c κs. search needs)  -- lead-requires
+    (λ c. search needs)  -- enum-known-x
+    (λ c. search needs)  -- enum-known-n
+    returns
+    returns-2)

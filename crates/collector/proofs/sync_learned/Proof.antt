@@ -4,14 +4,11 @@ use borrow.Author.Needs.{needs}
 use Rattle.collector.proofs.sync_learned.Statement.{statement}
 use Rattle.collector.proofs.sync_learned.Tie as tie
 
-learned-part-requires : tie.Need-learned-part-requires
-learned-part-requires c κs = search needs
-
-part-to-c-requires : tie.Need-part-to-c-requires
-part-to-c-requires c κs = search needs
-
 returns : tie.Need-returns
 returns c = part-called _ _ (c .before .before .before .before .learned-part .ensures) _ _ _ _ _ _ _ (c .part-to-c .ensures)
 
 pub sync-learned-spec : {M : Type 1} → statement M
-sync-learned-spec = tie.close (tie.spec learned-part-requires part-to-c-requires returns)
+sync-learned-spec = tie.close (tie.spec
+    (λ c κs. search needs)  -- learned-part-requires
+    (λ c κs. search needs)  -- part-to-c-requires
+    returns)

@@ -4,14 +4,11 @@ use borrow.Author.Needs.{needs}
 use Rattle.collector.proofs.sync_winner.Statement.{statement}
 use Rattle.collector.proofs.sync_winner.Tie as tie
 
-winner-part-requires : tie.Need-winner-part-requires
-winner-part-requires c κs = search needs
-
-part-to-c-requires : tie.Need-part-to-c-requires
-part-to-c-requires c κs = search needs
-
 returns : tie.Need-returns
 returns c = side-called _ _ (c .before .before .before .before .winner-part .ensures) _ _ _ _ _ _ _ (c .part-to-c .ensures)
 
 pub sync-winner-spec : {M : Type 1} → statement M
-sync-winner-spec = tie.close (tie.spec winner-part-requires part-to-c-requires returns)
+sync-winner-spec = tie.close (tie.spec
+    (λ c κs. search needs)  -- winner-part-requires
+    (λ c κs. search needs)  -- part-to-c-requires
+    returns)

@@ -4,16 +4,13 @@ use borrow.Author.Needs.{needs}
 use Rattle.compare.proofs.compare.Statement.{statement}
 use Rattle.compare.proofs.compare.Tie as tie
 
-compare-within-requires : tie.Need-compare-within-requires
-compare-within-requires c κs = search needs
-
-same-length : tie.Need-same-length
-same-length c = search needs
-
 returns : tie.Need-returns
 returns c =
     let e = ends-basic _ _ _ _ _ _ _ (c .before .before .compare-within .ensures) in
     (e .is, (e .buffer, e .order))
 
 pub compare-spec : {M : Type 1} → statement M
-compare-spec = tie.close (tie.spec compare-within-requires same-length returns)
+compare-spec = tie.close (tie.spec
+    (λ c κs. search needs)  -- compare-within-requires
+    (λ c. search needs)  -- same-length
+    returns)

@@ -5,21 +5,6 @@ use borrow.Author.Needs.{needs}
 use Rattle.compare.proofs.compare_in.Statement.{statement}
 use Rattle.compare.proofs.compare_in.Tie as tie
 
-alike-below-requires : tie.Need-alike-below-requires
-alike-below-requires c κs = search needs
-
-lacking-place-requires : tie.Need-lacking-place-requires
-lacking-place-requires c κs = search needs
-
-lacking-place-requires-2 : tie.Need-lacking-place-requires-2
-lacking-place-requires-2 c κs = search needs
-
-size-of-requires : tie.Need-size-of-requires
-size-of-requires c κs = search needs
-
-size-of-requires-2 : tie.Need-size-of-requires-2
-size-of-requires-2 c κs = search needs
-
 add-length : tie.Need-add-length
 add-length c = omega (arith, size-small _ _ (c .before .size-of .ensures), size-small _ _ (c .size-of2 .ensures))
 
@@ -29,24 +14,6 @@ returns c =
     let y = c .before .before .before in
     ends-short R _ _ _ _ _ _ o _ _ q _ _ (y .before .lacking-place .ensures) (y .lacking-place2 .ensures) _ _
     (c .before .before .size-of .ensures) (c .before .size-of2 .ensures) (c .if1 .taken)
-
-with-ticks-requires : tie.Need-with-ticks-requires
-with-ticks-requires c κs = search needs
-
-put-entry-requires : tie.Need-put-entry-requires
-put-entry-requires c κs = search needs
-
-with-ticks-requires-2 : tie.Need-with-ticks-requires-2
-with-ticks-requires-2 c κs = search needs
-
-put-entry-requires-2 : tie.Need-put-entry-requires-2
-put-entry-requires-2 c κs = search needs
-
-order-of-requires : tie.Need-order-of-requires
-order-of-requires c κs = search needs
-
-same-length : tie.Need-same-length
-same-length c = search needs
 
 returns-2 : tie.Need-returns-2
 returns-2 c =
@@ -64,17 +31,17 @@ pub compare-in-spec : {M : Type 1} → statement M
 compare-in-spec =
     tie.close
     (tie.spec
-    alike-below-requires
-    lacking-place-requires
-    lacking-place-requires-2
-    size-of-requires
-    size-of-requires-2
+    (λ c κs. search needs)  -- alike-below-requires
+    (λ c κs. search needs)  -- lacking-place-requires
+    (λ c κs. search needs)  -- lacking-place-requires-2
+    (λ c κs. search needs)  -- size-of-requires
+    (λ c κs. search needs)  -- size-of-requires-2
     add-length
     returns
-    with-ticks-requires
-    put-entry-requires
-    with-ticks-requires-2
-    put-entry-requires-2
-    order-of-requires
-    same-length
+    (λ c κs. search needs)  -- with-ticks-requires
+    (λ c κs. search needs)  -- put-entry-requires
+    (λ c κs. search needs)  -- with-ticks-requires-2
+    (λ c κs. search needs)  -- put-entry-requires-2
+    (λ c κs. search needs)  -- order-of-requires
+    (λ c. search needs)  -- same-length
     returns-2)

@@ -8,12 +8,6 @@ use borrow.Author.Needs.{needs}
 use Rattle.compare.proofs.compare_second.Statement.{statement}
 use Rattle.compare.proofs.compare_second.Tie as tie
 
-open-within-requires : tie.Need-open-within-requires
-open-within-requires c κs = search needs
-
-enum-known-w : tie.Need-enum-known-w
-enum-known-w c = search needs
-
 compare-in-requires : tie.Need-compare-in-requires
 compare-in-requires c κs =
     let m = c .before .before .before in
@@ -26,12 +20,6 @@ compare-in-requires c κs =
       opens-open (a .limits .replicas) (a .limits .ranges) _ _ _
           (opens-within (a .limits .replicas) (a .limits .ranges) _ _ (o .open-within .ensures) b _ (m .w .given .1)),
     )
-
-enum-known-n : tie.Need-enum-known-n
-enum-known-n c = search needs
-
-same-length : tie.Need-same-length
-same-length c = search needs
 
 returns : tie.Need-returns
 returns c =
@@ -56,10 +44,10 @@ pub compare-second-spec : {M : Type 1} → statement M
 compare-second-spec =
     tie.close
     (tie.spec
-    open-within-requires
-    enum-known-w
+    (λ c κs. search needs)  -- open-within-requires
+    (λ c. search needs)  -- enum-known-w
     compare-in-requires
-    enum-known-n
-    same-length
+    (λ c. search needs)  -- enum-known-n
+    (λ c. search needs)  -- same-length
     returns
     returns-2)

@@ -8,12 +8,6 @@ use borrow.Author.Needs.{needs}
 use Rattle.compare.proofs.compare_within.Statement.{statement}
 use Rattle.compare.proofs.compare_within.Tie as tie
 
-open-within-requires : tie.Need-open-within-requires
-open-within-requires c κs = search needs
-
-enum-known-v : tie.Need-enum-known-v
-enum-known-v c = search needs
-
 compare-second-requires : tie.Need-compare-second-requires
 compare-second-requires c κs =
     let r = c .before .before .before in
@@ -22,12 +16,6 @@ compare-second-requires c κs =
     let a = g .before .args in
     let b : Bytes (a .first .now) = record { below = λ i. omega (arith, g .shared-slice-known .given i) } in
     opens-within (a .limits .replicas) (a .limits .ranges) _ _ (o .open-within .ensures) b _ (r .v .given .1)
-
-enum-known-n : tie.Need-enum-known-n
-enum-known-n c = search needs
-
-same-length : tie.Need-same-length
-same-length c = search needs
 
 returns : tie.Need-returns
 returns c = c .before .before .compare-second .ensures
@@ -43,10 +31,10 @@ pub compare-within-spec : {M : Type 1} → statement M
 compare-within-spec =
     tie.close
     (tie.spec
-    open-within-requires
-    enum-known-v
+    (λ c κs. search needs)  -- open-within-requires
+    (λ c. search needs)  -- enum-known-v
     compare-second-requires
-    enum-known-n
-    same-length
+    (λ c. search needs)  -- enum-known-n
+    (λ c. search needs)  -- same-length
     returns
     returns-2)

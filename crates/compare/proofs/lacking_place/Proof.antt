@@ -4,17 +4,8 @@ use borrow.Author.Needs.{needs}
 use Rattle.compare.proofs.lacking_place.Statement.{statement}
 use Rattle.compare.proofs.lacking_place.Tie as tie
 
-enum-known-e : tie.Need-enum-known-e
-enum-known-e c = search needs
-
-enum-told : tie.Need-enum-told
-enum-told c = search needs
-
 returns : tie.Need-returns
 returns c = place-nowhere _ _ _ (c .before .before .before .before .pre .2) (c .enum-told .given .1)
-
-lacking-requires : tie.Need-lacking-requires
-lacking-requires c κs = search needs
 
 returns-2 : tie.Need-returns-2
 returns-2 c =
@@ -23,4 +14,9 @@ returns-2 c =
     place-found _ _ _ _ _ _ _ (pre .2) _ _ (c .lacking .ensures) (pre .0) (pre .1) (e .e .given .1)
 
 pub lacking-place-spec : {M : Type 1} → statement M
-lacking-place-spec = tie.close (tie.spec enum-known-e enum-told returns lacking-requires returns-2)
+lacking-place-spec = tie.close (tie.spec
+    (λ c. search needs)  -- enum-known-e
+    (λ c. search needs)  -- enum-told
+    returns
+    (λ c κs. search needs)  -- lacking-requires
+    returns-2)

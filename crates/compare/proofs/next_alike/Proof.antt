@@ -4,9 +4,6 @@ use borrow.Author.Needs.{needs}
 use Rattle.compare.proofs.next_alike.Statement.{statement}
 use Rattle.compare.proofs.next_alike.Tie as tie
 
-same-vector-requires : tie.Need-same-vector-requires
-same-vector-requires c κs = search needs
-
 returns : tie.Need-returns
 returns c =
     let v = c .before .before .before .before in
@@ -17,9 +14,6 @@ returns-2 c = goes-nowhere _ _ _ _
 
 returns-3 : tie.Need-returns-3
 returns-3 c = goes-nowhere _ _ _ _
-
-same-bound-requires : tie.Need-same-bound-requires
-same-bound-requires c κs = search needs
 
 returns-4 : tie.Need-returns-4
 returns-4 c =
@@ -34,10 +28,10 @@ pub next-alike-spec : {M : Type 1} → statement M
 next-alike-spec =
     tie.close
     (tie.spec
-    same-vector-requires
+    (λ c κs. search needs)  -- same-vector-requires
     returns
     returns-2
     returns-3
-    same-bound-requires
+    (λ c κs. search needs)  -- same-bound-requires
     returns-4
     returns-5)

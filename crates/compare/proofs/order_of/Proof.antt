@@ -4,29 +4,11 @@ use borrow.Author.Needs.{needs}
 use Rattle.compare.proofs.order_of.Statement.{statement}
 use Rattle.compare.proofs.order_of.Tie as tie
 
-enum-told : tie.Need-enum-told
-enum-told c = search needs
-
-enum-told-2 : tie.Need-enum-told-2
-enum-told-2 c = search needs
-
-enum-told-3 : tie.Need-enum-told-3
-enum-told-3 c = search needs
-
-enum-told-4 : tie.Need-enum-told-4
-enum-told-4 c = search needs
-
 returns : tie.Need-returns
 returns c = order-alike _ _ (c .before .before .enum-told2 .given .1) (c .enum-told4 .given .1)
 
 returns-2 : tie.Need-returns-2
 returns-2 c = order-ahead _ _ _ (c .before .before .enum-told2 .given .1) (c .enum-told3 .given .1)
-
-enum-told-5 : tie.Need-enum-told-5
-enum-told-5 c = search needs
-
-enum-told-6 : tie.Need-enum-told-6
-enum-told-6 c = search needs
 
 returns-3 : tie.Need-returns-3
 returns-3 c = order-behind _ _ _ (c .before .before .enum-told .given .1) (c .enum-told6 .given .1)
@@ -38,13 +20,13 @@ pub order-of-spec : {M : Type 1} → statement M
 order-of-spec =
     tie.close
     (tie.spec
-    enum-told
-    enum-told-2
-    enum-told-3
-    enum-told-4
+    (λ c. search needs)  -- enum-told
+    (λ c. search needs)  -- enum-told-2
+    (λ c. search needs)  -- enum-told-3
+    (λ c. search needs)  -- enum-told-4
     returns
     returns-2
-    enum-told-5
-    enum-told-6
+    (λ c. search needs)  -- enum-told-5
+    (λ c. search needs)  -- enum-told-6
     returns-3
     returns-4)

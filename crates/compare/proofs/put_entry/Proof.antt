@@ -5,40 +5,22 @@ use borrow.Author.Needs.{needs}
 use Rattle.compare.proofs.put_entry.Statement.{statement}
 use Rattle.compare.proofs.put_entry.Tie as tie
 
-enum-known-e : tie.Need-enum-known-e
-enum-known-e c = search needs
-
-enum-told : tie.Need-enum-told
-enum-told c = search needs
-
 returns : tie.Need-returns
 returns c = entry-nothing _ _ _ (c .enum-told .given .1)
 
-beyond-requires : tie.Need-beyond-requires
-beyond-requires c κs = search needs
-
 returns-2 : tie.Need-returns-2
 returns-2 c = entry-short _ _ _ _ _ _ (c .before .before .before .e .given .1) (c .before .beyond .ensures .0 (c .if1 .taken))
-
-write8-requires : tie.Need-write8-requires
-write8-requires c κs = search needs
 
 add-write8 : tie.Need-add-write8
 add-write8 c =
     let b5 = c .before .before .before .before .before in
     omega (arith, b5 .before .before .before .beyond .ensures .1 (b5 .before .before .if1 .left))
 
-write8-requires-2 : tie.Need-write8-requires-2
-write8-requires-2 c κs = search needs
-
 add-write8-2 : tie.Need-add-write8-2
 add-write8-2 c =
     let b5 = c .before .before .before .before .before in
     let b10 = b5 .before .before .before .before .before in
     omega (arith, b10 .before .before .beyond .ensures .1 (b10 .before .if1 .left))
-
-write8-requires-3 : tie.Need-write8-requires-3
-write8-requires-3 c κs = search needs
 
 add-write8-3 : tie.Need-add-write8-3
 add-write8-3 c =
@@ -47,9 +29,6 @@ add-write8-3 c =
     let b15 = b10 .before .before .before .before .before in
     omega (arith, b15 .before .beyond .ensures .1 (b15 .if1 .left))
 
-write8-requires-4 : tie.Need-write8-requires-4
-write8-requires-4 c κs = search needs
-
 add-write8-4 : tie.Need-add-write8-4
 add-write8-4 c =
     let b5 = c .before .before .before .before .before in
@@ -57,9 +36,6 @@ add-write8-4 c =
     let b15 = b10 .before .before .before .before .before in
     let b20 = b15 .before .before .before .before .before in
     omega (arith, b20 .beyond .ensures .1 (b15 .before .before .before .before .if1 .left))
-
-write8-requires-5 : tie.Need-write8-requires-5
-write8-requires-5 c κs = search needs
 
 add-write8-5 : tie.Need-add-write8-5
 add-write8-5 c =
@@ -70,9 +46,6 @@ add-write8-5 c =
     let b25 = b20 .before .before .before .before .before in
     omega (arith, b25 .before .before .before .before .good, b20 .before .before .before .before .beyond .ensures .1 (b20 .before .before .before .if1 .left))
 
-write8-requires-6 : tie.Need-write8-requires-6
-write8-requires-6 c κs = search needs
-
 add-write8-6 : tie.Need-add-write8-6
 add-write8-6 c =
     let b5 = c .before .before .before .before .before in
@@ -82,12 +55,6 @@ add-write8-6 c =
     let b25 = b20 .before .before .before .before .before in
     let b30 = b25 .before .before .before .before .before in
     omega (arith, b30 .before .before .before .good, b25 .before .before .before .beyond .ensures .1 (b25 .before .before .if1 .left))
-
-write8-requires-7 : tie.Need-write8-requires-7
-write8-requires-7 c κs = search needs
-
-same-length : tie.Need-same-length
-same-length c = search needs
 
 returns-3 : tie.Need-returns-3
 returns-3 c =
@@ -106,23 +73,23 @@ pub put-entry-spec : {M : Type 1} → statement M
 put-entry-spec =
     tie.close
     (tie.spec
-    enum-known-e
-    enum-told
+    (λ c. search needs)  -- enum-known-e
+    (λ c. search needs)  -- enum-told
     returns
-    beyond-requires
+    (λ c κs. search needs)  -- beyond-requires
     returns-2
-    write8-requires
+    (λ c κs. search needs)  -- write8-requires
     add-write8
-    write8-requires-2
+    (λ c κs. search needs)  -- write8-requires-2
     add-write8-2
-    write8-requires-3
+    (λ c κs. search needs)  -- write8-requires-3
     add-write8-3
-    write8-requires-4
+    (λ c κs. search needs)  -- write8-requires-4
     add-write8-4
-    write8-requires-5
+    (λ c κs. search needs)  -- write8-requires-5
     add-write8-5
-    write8-requires-6
+    (λ c κs. search needs)  -- write8-requires-6
     add-write8-6
-    write8-requires-7
-    same-length
+    (λ c κs. search needs)  -- write8-requires-7
+    (λ c. search needs)  -- same-length
     returns-3)

@@ -4,39 +4,6 @@ use borrow.Author.Needs.{needs}
 use Rattle.compare.proofs.same_bound.Statement.{statement}
 use Rattle.compare.proofs.same_bound.Tie as tie
 
-eight-requires : tie.Need-eight-requires
-eight-requires c κs = search needs
-
-add-eight : tie.Need-add-eight
-add-eight c = search needs
-
-eight-requires-2 : tie.Need-eight-requires-2
-eight-requires-2 c κs = search needs
-
-add-eight-2 : tie.Need-add-eight-2
-add-eight-2 c = search needs
-
-eight-requires-3 : tie.Need-eight-requires-3
-eight-requires-3 c κs = search needs
-
-eight-requires-4 : tie.Need-eight-requires-4
-eight-requires-4 c κs = search needs
-
-add-eight-3 : tie.Need-add-eight-3
-add-eight-3 c = search needs
-
-eight-requires-5 : tie.Need-eight-requires-5
-eight-requires-5 c κs = search needs
-
-add-eight-4 : tie.Need-add-eight-4
-add-eight-4 c = search needs
-
-eight-requires-6 : tie.Need-eight-requires-6
-eight-requires-6 c κs = search needs
-
-same3-requires : tie.Need-same3-requires
-same3-requires c κs = search needs
-
 returns : tie.Need-returns
 returns c =
     let f = c .before .before .before .before .before in
@@ -51,16 +18,16 @@ pub same-bound-spec : {M : Type 1} → statement M
 same-bound-spec =
     tie.close
     (tie.spec
-    eight-requires
-    add-eight
-    eight-requires-2
-    add-eight-2
-    eight-requires-3
-    eight-requires-4
-    add-eight-3
-    eight-requires-5
-    add-eight-4
-    eight-requires-6
-    same3-requires
+    (λ c κs. search needs)  -- eight-requires
+    (λ c. search needs)  -- add-eight
+    (λ c κs. search needs)  -- eight-requires-2
+    (λ c. search needs)  -- add-eight-2
+    (λ c κs. search needs)  -- eight-requires-3
+    (λ c κs. search needs)  -- eight-requires-4
+    (λ c. search needs)  -- add-eight-3
+    (λ c κs. search needs)  -- eight-requires-5
+    (λ c. search needs)  -- add-eight-4
+    (λ c κs. search needs)  -- eight-requires-6
+    (λ c κs. search needs)  -- same3-requires
     returns
     returns-2)

@@ -4,20 +4,8 @@ use borrow.Author.Needs.{needs}
 use Rattle.compare.proofs.with_ticks.Statement.{statement}
 use Rattle.compare.proofs.with_ticks.Tie as tie
 
-enum-known-x : tie.Need-enum-known-x
-enum-known-x c = search needs
-
-enum-told : tie.Need-enum-told
-enum-told c = search needs
-
 returns : tie.Need-returns
 returns c = λ u. entry-none _ _ _ u (c .enum-told .given .1)
-
-known-tick-requires : tie.Need-known-tick-requires
-known-tick-requires c κs = search needs
-
-known-tick-requires-2 : tie.Need-known-tick-requires-2
-known-tick-requires-2 c κs = search needs
 
 returns-2 : tie.Need-returns-2
 returns-2 c =
@@ -29,4 +17,10 @@ returns-2 c =
 pub with-ticks-spec : {M : Type 1} → statement M
 with-ticks-spec =
     tie.close
-    (tie.spec enum-known-x enum-told returns known-tick-requires known-tick-requires-2 returns-2)
+    (tie.spec
+    (λ c. search needs)  -- enum-known-x
+    (λ c. search needs)  -- enum-told
+    returns
+    (λ c κs. search needs)  -- known-tick-requires
+    (λ c κs. search needs)  -- known-tick-requires-2
+    returns-2)

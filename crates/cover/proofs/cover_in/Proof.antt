@@ -11,27 +11,6 @@ returns c = λ R o q. cover-first-length R _ _ _ _ _ _ o _ _ q (c .if1 .taken)
 returns-2 : tie.Need-returns-2
 returns-2 c = λ R o q. cover-last-length R _ _ _ _ _ _ o _ _ q (c .if2 .taken)
 
-read8-requires : tie.Need-read8-requires
-read8-requires c κs = tt
-
-read8-requires-2 : tie.Need-read8-requires-2
-read8-requires-2 c κs = tt
-
-read8-requires-3 : tie.Need-read8-requires-3
-read8-requires-3 c κs = tt
-
-read8-requires-4 : tie.Need-read8-requires-4
-read8-requires-4 c κs = tt
-
-read8-requires-5 : tie.Need-read8-requires-5
-read8-requires-5 c κs = tt
-
-read8-requires-6 : tie.Need-read8-requires-6
-read8-requires-6 c κs = tt
-
-less3-requires : tie.Need-less3-requires
-less3-requires c κs = tt
-
 returns-3 : tie.Need-returns-3
 returns-3 c =
     let b5 = c .before .before .before .before .before in
@@ -40,15 +19,6 @@ returns-3 c =
     (item-is-read _ _ _ _ (b5 .before .before .read8 .ensures .0) (b5 .before .read82 .ensures .0) (b5 .read83 .ensures .0))
     (item-is-read _ _ _ _ (c .before .before .before .before .read84 .ensures .0) (c .before .before .before .read85 .ensures .0) (c .before .before .read86 .ensures .0))
     _ (c .before .less3 .ensures) (c .if3 .taken)
-
-lacking-requires : tie.Need-lacking-requires
-lacking-requires c κs = tt
-
-enum-told : tie.Need-enum-told
-enum-told c = omega arith
-
-enum-told-2 : tie.Need-enum-told-2
-enum-told-2 c = omega arith
 
 returns-4 : tie.Need-returns-4
 returns-4 c =
@@ -80,16 +50,16 @@ cover-in-spec =
     (tie.spec
     returns
     returns-2
-    read8-requires
-    read8-requires-2
-    read8-requires-3
-    read8-requires-4
-    read8-requires-5
-    read8-requires-6
-    less3-requires
+    (λ c κs. tt)  -- read8-requires
+    (λ c κs. tt)  -- read8-requires-2
+    (λ c κs. tt)  -- read8-requires-3
+    (λ c κs. tt)  -- read8-requires-4
+    (λ c κs. tt)  -- read8-requires-5
+    (λ c κs. tt)  -- read8-requires-6
+    (λ c κs. tt)  -- less3-requires
     returns-3
-    lacking-requires
-    enum-told
-    enum-told-2
+    (λ c κs. tt)  -- lacking-requires
+    (λ c. omega arith)  -- enum-told
+    (λ c. omega arith)  -- enum-told-2
     returns-4
     returns-5)

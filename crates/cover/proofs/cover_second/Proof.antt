@@ -8,12 +8,6 @@ use Rattle.cover.proofs.Calls.{cover-second}
 use Rattle.cover.proofs.cover_second.Statement.{statement}
 use Rattle.cover.proofs.cover_second.Tie as tie
 
-open-within-requires : tie.Need-open-within-requires
-open-within-requires c κs = search needs
-
-enum-known-w : tie.Need-enum-known-w
-enum-known-w c = search needs
-
 cover-in-requires : tie.Need-cover-in-requires
 cover-in-requires c κs =
     let a = c .before .before .before .before .before .before .before .before .args in
@@ -23,9 +17,6 @@ cover-in-requires c κs =
       opens-open (a .limits .replicas) (a .limits .ranges) _ _ _
           (opens-within (a .limits .replicas) (a .limits .ranges) _ _ (c .before .before .before .open-within .ensures) b _ (c .before .w .given .1)),
     )
-
-enum-known-n : tie.Need-enum-known-n
-enum-known-n c = search needs
 
 returns : tie.Need-returns
 returns c =
@@ -44,4 +35,10 @@ returns-2 c =
 pub cover-second-spec : {M : Type 1} → statement M
 cover-second-spec =
     tie.close
-    (tie.spec open-within-requires enum-known-w cover-in-requires enum-known-n returns returns-2)
+    (tie.spec
+    (λ c κs. search needs)  -- open-within-requires
+    (λ c. search needs)  -- enum-known-w
+    cover-in-requires
+    (λ c. search needs)  -- enum-known-n
+    returns
+    returns-2)

@@ -8,21 +8,12 @@ use Rattle.cover.proofs.Calls.{cover-first}
 use Rattle.cover.proofs.cover_within.Statement.{statement}
 use Rattle.cover.proofs.cover_within.Tie as tie
 
-open-within-requires : tie.Need-open-within-requires
-open-within-requires c κs = search needs
-
-enum-known-v : tie.Need-enum-known-v
-enum-known-v c = search needs
-
 cover-second-requires : tie.Need-cover-second-requires
 cover-second-requires c κs =
     let a = c .before .before .before .before .before .before .before .before .args in
     let b : Bytes (a .knowledge .now) =
     record { below = λ i. omega (arith, c .before .before .before .before .before .before .before .shared-slice-known .given i) } in
     opens-within (a .limits .replicas) (a .limits .ranges) _ _ (c .before .before .before .open-within .ensures) b _ (c .before .v .given .1)
-
-enum-known-n : tie.Need-enum-known-n
-enum-known-n c = search needs
 
 returns : tie.Need-returns
 returns c = c .cover-second .ensures
@@ -36,4 +27,10 @@ returns-2 c =
 pub cover-within-spec : {M : Type 1} → statement M
 cover-within-spec =
     tie.close
-    (tie.spec open-within-requires enum-known-v cover-second-requires enum-known-n returns returns-2)
+    (tie.spec
+    (λ c κs. search needs)  -- open-within-requires
+    (λ c. search needs)  -- enum-known-v
+    cover-second-requires
+    (λ c. search needs)  -- enum-known-n
+    returns
+    returns-2)

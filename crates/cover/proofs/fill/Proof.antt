@@ -7,9 +7,6 @@ use Rattle.cover.proofs.fill.Tie as tie
 returns : tie.Need-returns
 returns c = filled-same _ _ _ _ (c .if1 .taken)
 
-clear-requires : tie.Need-clear-requires
-clear-requires c κs = tt
-
 write-row-requires : tie.Need-write-row-requires
 write-row-requires c κs = (c .before .before .before .clear .ensures .is)
 
@@ -21,4 +18,9 @@ returns-2 : tie.Need-returns-2
 returns-2 c = filled-anew _ _ _ _ _ _ (c .before .before .before .before .before .before .clear .ensures) (c .before .before .write-row .ensures)
 
 pub fill-spec : {M : Type 1} → statement M
-fill-spec = tie.close (tie.spec returns clear-requires write-row-requires same-length returns-2)
+fill-spec = tie.close (tie.spec
+    returns
+    (λ c κs. tt)  -- clear-requires
+    write-row-requires
+    same-length
+    returns-2)

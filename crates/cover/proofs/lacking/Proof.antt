@@ -3,12 +3,6 @@ use Rattle.cover.proofs.Walking.{laid-parts, lacks-first, lacks-second,
 use Rattle.cover.proofs.lacking.Statement.{statement}
 use Rattle.cover.proofs.lacking.Tie as tie
 
-laid-out-requires : tie.Need-laid-out-requires
-laid-out-requires c κs = tt
-
-laid-out-requires-2 : tie.Need-laid-out-requires-2
-laid-out-requires-2 c κs = tt
-
 search-requires : tie.Need-search-requires
 search-requires c κs = (
   laid-parts _ _ _ _ (c .before .before .before .laid-out .ensures) (c .before .before .if1 .taken),
@@ -29,4 +23,10 @@ returns-3 : tie.Need-returns-3
 returns-3 c = lacks-first _ _ _ _ _ _ _ _ _ (c .before .laid-out .ensures) (c .if1 .left)
 
 pub lacking-spec : {M : Type 1} → statement M
-lacking-spec = tie.close (tie.spec laid-out-requires laid-out-requires-2 search-requires returns returns-2 returns-3)
+lacking-spec = tie.close (tie.spec
+    (λ c κs. tt)  -- laid-out-requires
+    (λ c κs. tt)  -- laid-out-requires-2
+    search-requires
+    returns
+    returns-2
+    returns-3)

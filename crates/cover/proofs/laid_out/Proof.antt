@@ -8,33 +8,25 @@ use Rattle.cover.proofs.laid_out.Tie as tie
 returns : tie.Need-returns
 returns c = laid-many _ _ _ (omega arith)
 
-cast-if2 : tie.Need-cast-if2
-cast-if2 c = omega arith
-
-mul-if2 : tie.Need-mul-if2
-mul-if2 c = omega arith
-
-add-if2 : tie.Need-add-if2
-add-if2 c = omega arith
-
 returns-2 : tie.Need-returns-2
 returns-2 c = laid-ids _ _ _ (omega arith) (omega arith)
 
 returns-3 : tie.Need-returns-3
 returns-3 c = laid-before _ _ _ (omega arith) (omega arith) (omega arith)
 
-cast-result : tie.Need-cast-result
-cast-result c = omega arith
-
-mul-result : tie.Need-mul-result
-mul-result c = omega arith
-
-sub-result : tie.Need-sub-result
-sub-result c = omega arith
-
 returns-4 : tie.Need-returns-4
 returns-4 c = laid-ranges _ _ _ (omega arith) (omega arith) (omega arith) _ refl
 
 pub laid-out-spec : {M : Type 1} → statement M
 laid-out-spec =
-    tie.close (tie.spec returns cast-if2 mul-if2 add-if2 returns-2 returns-3 cast-result mul-result sub-result returns-4)
+    tie.close (tie.spec
+    returns
+    (λ c. omega arith)  -- cast-if2
+    (λ c. omega arith)  -- mul-if2
+    (λ c. omega arith)  -- add-if2
+    returns-2
+    returns-3
+    (λ c. omega arith)  -- cast-result
+    (λ c. omega arith)  -- mul-result
+    (λ c. omega arith)  -- sub-result
+    returns-4)

@@ -4,17 +4,8 @@ use native.Mathlib.Omega.{arith}
 use Rattle.cover.proofs.lesser.Statement.{statement}
 use Rattle.cover.proofs.lesser.Tie as tie
 
-enum-known-best : tie.Need-enum-known-best
-enum-known-best c = omega arith
-
-enum-told : tie.Need-enum-told
-enum-told c = omega arith
-
 returns : tie.Need-returns
 returns c = lesser-nothing _ _ (c .enum-told .given .1)
-
-less2-requires : tie.Need-less2-requires
-less2-requires c κs = tt
 
 returns-2 : tie.Need-returns-2
 returns-2 c = lesser-new _ _ _ (c .before .before .before .best .given .1) _ (c .before .less2 .ensures) (c .if1 .taken)
@@ -24,4 +15,10 @@ returns-3 c = lesser-old _ _ _ (c .before .before .before .best .given .1) _ (c 
 
 pub lesser-spec : {M : Type 1} → statement M
 lesser-spec =
-    tie.close (tie.spec enum-known-best enum-told returns less2-requires returns-2 returns-3)
+    tie.close (tie.spec
+    (λ c. omega arith)  -- enum-known-best
+    (λ c. omega arith)  -- enum-told
+    returns
+    (λ c κs. tt)  -- less2-requires
+    returns-2
+    returns-3)

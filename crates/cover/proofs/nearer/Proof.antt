@@ -4,26 +4,11 @@ use native.Mathlib.Omega.{arith}
 use Rattle.cover.proofs.nearer.Statement.{statement}
 use Rattle.cover.proofs.nearer.Tie as tie
 
-enum-known-a : tie.Need-enum-known-a
-enum-known-a c = omega arith
-
-enum-told : tie.Need-enum-told
-enum-told c = omega arith
-
 returns : tie.Need-returns
 returns c = nearer-second _ _ (c .enum-told .given .1)
 
-enum-known-b : tie.Need-enum-known-b
-enum-known-b c = omega arith
-
-enum-told-2 : tie.Need-enum-told-2
-enum-told-2 c = omega arith
-
 returns-2 : tie.Need-returns-2
 returns-2 c = nearer-first _ _ _ (c .before .before .before .a .given .1) (c .enum-told2 .given .1)
-
-less3-requires : tie.Need-less3-requires
-less3-requires c κs = tt
 
 returns-3 : tie.Need-returns-3
 returns-3 c =
@@ -41,12 +26,12 @@ pub nearer-spec : {M : Type 1} → statement M
 nearer-spec =
     tie.close
     (tie.spec
-    enum-known-a
-    enum-told
+    (λ c. omega arith)  -- enum-known-a
+    (λ c. omega arith)  -- enum-told
     returns
-    enum-known-b
-    enum-told-2
+    (λ c. omega arith)  -- enum-known-b
+    (λ c. omega arith)  -- enum-told-2
     returns-2
-    less3-requires
+    (λ c κs. tt)  -- less3-requires
     returns-3
     returns-4)

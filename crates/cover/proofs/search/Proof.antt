@@ -6,25 +6,16 @@ use native.Mathlib.Omega.{arith}
 use Rattle.cover.proofs.search.Statement.{statement}
 use Rattle.cover.proofs.search.Tie as tie
 
-slice-aggregate-keys-of : tie.Need-slice-aggregate-keys-of
-slice-aggregate-keys-of c = omega arith
-
 keys-of-requires : tie.Need-keys-of-requires
 keys-of-requires c κs =
     let q = c .before .before .before .pre .1 in
     (q .ids, omega (arith, q .small))
-
-cast-keys : tie.Need-cast-keys
-cast-keys c = omega arith
 
 array-share-prefix-keys : tie.Need-array-share-prefix-keys
 array-share-prefix-keys c = omega (arith, c .before .before .before .before .before .pre .1 .small)
 
 slice-aggregate-walk : tie.Need-slice-aggregate-walk
 slice-aggregate-walk c = keyed-length _ _ _ _ _ (c .before .before .keys-of .ensures)
-
-slice-aggregate-walk-2 : tie.Need-slice-aggregate-walk-2
-slice-aggregate-walk-2 c = omega arith
 
 walk-requires : tie.Need-walk-requires
 walk-requires c κs =
@@ -45,11 +36,11 @@ pub search-spec : {M : Type 1} → statement M
 search-spec =
     tie.close
     (tie.spec
-    slice-aggregate-keys-of
+    (λ c. omega arith)  -- slice-aggregate-keys-of
     keys-of-requires
-    cast-keys
+    (λ c. omega arith)  -- cast-keys
     array-share-prefix-keys
     slice-aggregate-walk
-    slice-aggregate-walk-2
+    (λ c. omega arith)  -- slice-aggregate-walk-2
     walk-requires
     returns)

@@ -6,9 +6,6 @@ use borrow.Author.Needs.{needs}
 use Rattle.edit.proofs.change_item.Statement.{statement}
 use Rattle.edit.proofs.change_item.Tie as tie
 
-largest-from-requires : tie.Need-largest-from-requires
-largest-from-requires c κs = search needs
-
 returns : tie.Need-returns
 returns c =
     let a = c .before .before .before .before .before .args in
@@ -16,20 +13,8 @@ returns c =
     change-20 (a .limits .replicas) (a .limits .ranges) (a .limits .records) (a .store .now) bytes (a .k .now) (a .own) (a .found) (a .what)
     (c .before .before .before .before .before .pre) _ (c .before .largest-from .ensures) (a .out .now) (c .if1 .taken)
 
-read8-requires : tie.Need-read8-requires
-read8-requires c κs = search needs
-
-add-read8 : tie.Need-add-read8
-add-read8 c = search needs
-
-read8-requires-2 : tie.Need-read8-requires-2
-read8-requires-2 c κs = search needs
-
 add-tick : tie.Need-add-tick
 add-tick c = omega (arith, c .before .before .if1 .left)
-
-changed-record-requires : tie.Need-changed-record-requires
-changed-record-requires c κs = search needs
 
 put-changed-requires : tie.Need-put-changed-requires
 put-changed-requires c κs =
@@ -39,9 +24,6 @@ put-changed-requires c κs =
     let bytes : Bytes (a .store .now) = record { below = λ i. omega (arith, b3 .before .before .before .before .before .shared-slice-known .given i) } in
     change-raises (a .limits .replicas) (a .limits .ranges) (a .limits .records) (a .store .now) bytes (a .k .now) (a .own) (a .found) (a .what)
     (b9 .pre) _ _ _ _ (c .before .changed-record .ensures .1) (b3 .read8 .ensures .1) (c .before .before .read82 .ensures .1)
-
-same-length : tie.Need-same-length
-same-length c = search needs
 
 returns-2 : tie.Need-returns-2
 returns-2 c =
@@ -60,13 +42,13 @@ pub change-item-spec : {M : Type 1} → statement M
 change-item-spec =
     tie.close
     (tie.spec
-    largest-from-requires
+    (λ c κs. search needs)  -- largest-from-requires
     returns
-    read8-requires
-    add-read8
-    read8-requires-2
+    (λ c κs. search needs)  -- read8-requires
+    (λ c. search needs)  -- add-read8
+    (λ c κs. search needs)  -- read8-requires-2
     add-tick
-    changed-record-requires
+    (λ c κs. search needs)  -- changed-record-requires
     put-changed-requires
-    same-length
+    (λ c. search needs)  -- same-length
     returns-2)

@@ -5,18 +5,6 @@ use borrow.Author.Needs.{needs}
 use Rattle.edit.proofs.changed_record.Statement.{statement}
 use Rattle.edit.proofs.changed_record.Tie as tie
 
-enum-known-found : tie.Need-enum-known-found
-enum-known-found c = search needs
-
-create-replica-requires : tie.Need-create-replica-requires
-create-replica-requires c κs = search needs
-
-create-tick-requires : tie.Need-create-tick-requires
-create-tick-requires c κs = search needs
-
-enum-told : tie.Need-enum-told
-enum-told c = search needs
-
 returns : tie.Need-returns
 returns c =
     let a = c .before .before .before .before .before .before .before .before .args in (
@@ -34,9 +22,9 @@ pub changed-record-spec : {M : Type 1} → statement M
 changed-record-spec =
     tie.close
     (tie.spec
-    enum-known-found
-    create-replica-requires
-    create-tick-requires
-    enum-told
+    (λ c. search needs)  -- enum-known-found
+    (λ c κs. search needs)  -- create-replica-requires
+    (λ c κs. search needs)  -- create-tick-requires
+    (λ c. search needs)  -- enum-told
     returns
     returns-2)

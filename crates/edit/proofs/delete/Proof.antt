@@ -5,12 +5,6 @@ use borrow.Author.Needs.{needs}
 use Rattle.edit.proofs.delete.Statement.{statement}
 use Rattle.edit.proofs.delete.Tie as tie
 
-delete-within-requires : tie.Need-delete-within-requires
-delete-within-requires c κs = search needs
-
-same-length : tie.Need-same-length
-same-length c = search needs
-
 returns : tie.Need-returns
 returns c =
     let a = c .before .before .before .before .before .before .before .args in
@@ -20,6 +14,6 @@ pub delete-spec : {M : Type 1} → statement M
 delete-spec =
     tie.close
     (tie.spec
-    delete-within-requires
-    same-length
+    (λ c κs. search needs)  -- delete-within-requires
+    (λ c. search needs)  -- same-length
     returns)

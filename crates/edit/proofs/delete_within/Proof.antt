@@ -6,15 +6,6 @@ use borrow.Author.Needs.{needs}
 use Rattle.edit.proofs.delete_within.Statement.{statement}
 use Rattle.edit.proofs.delete_within.Tie as tie
 
-open-store-requires : tie.Need-open-store-requires
-open-store-requires c κs = search needs
-
-enum-known-opened : tie.Need-enum-known-opened
-enum-known-opened c = search needs
-
-enum-told : tie.Need-enum-told
-enum-told c = search needs
-
 returns : tie.Need-returns
 returns c =
     let b4 = c .before .before .before .before in
@@ -44,12 +35,6 @@ add-end c =
     (b4 .before .before .open-store .ensures) (a .item .now) (a .out .now) bytes _ _ (b4 .opened .given .1) in
     omega (arith, end)
 
-place-of-requires : tie.Need-place-of-requires
-place-of-requires c κs = search needs
-
-gone-requires : tie.Need-gone-requires
-gone-requires c κs = search needs
-
 returns-3 : tie.Need-returns-3
 returns-3 c =
     let b4 = c .before .before .before .before in
@@ -62,12 +47,6 @@ returns-3 c =
     (a .item .now) (a .out .now) bytes _ _ (b4 .before .before .before .opened .given .1) octets (b4 .before .if1 .left) _
     (b4 .item-words .ensures) _ (c .before .before .place-of .ensures)
     _ (c .before .gone .ensures) (c .if2 .taken)
-
-sub-change-item : tie.Need-sub-change-item
-sub-change-item c = search needs
-
-part-change-item-start : tie.Need-part-change-item-start
-part-change-item-start c = search needs
 
 part-change-item-end : tie.Need-part-change-item-end
 part-change-item-end c =
@@ -92,9 +71,6 @@ change-item-requires c κs =
     (b8 .before .before .before .open-store .ensures) (a .item .now) (a .out .now) bytes _ _ (b8 .before .opened .given .1) octets
     (b4 .before .before .before .if1 .left) _ (b4 .before .before .item-words .ensures) _ (b4 .place-of .ensures) _ zero-tag
 
-same-length : tie.Need-same-length
-same-length c = search needs
-
 returns-4 : tie.Need-returns-4
 returns-4 c =
     let b4 = c .before .before .before .before in
@@ -113,19 +89,19 @@ pub delete-within-spec : {M : Type 1} → statement M
 delete-within-spec =
     tie.close
     (tie.spec
-    open-store-requires
-    enum-known-opened
-    enum-told
+    (λ c κs. search needs)  -- open-store-requires
+    (λ c. search needs)  -- enum-known-opened
+    (λ c. search needs)  -- enum-told
     returns
     returns-2
     item-words-requires
     add-end
-    place-of-requires
-    gone-requires
+    (λ c κs. search needs)  -- place-of-requires
+    (λ c κs. search needs)  -- gone-requires
     returns-3
-    sub-change-item
-    part-change-item-start
+    (λ c. search needs)  -- sub-change-item
+    (λ c. search needs)  -- part-change-item-start
     part-change-item-end
     change-item-requires
-    same-length
+    (λ c. search needs)  -- same-length
     returns-4)

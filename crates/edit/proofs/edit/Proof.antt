@@ -6,12 +6,6 @@ use borrow.Author.Needs.{needs}
 use Rattle.edit.proofs.edit.Statement.{statement}
 use Rattle.edit.proofs.edit.Tie as tie
 
-edit-within-requires : tie.Need-edit-within-requires
-edit-within-requires c κs = search needs
-
-same-length : tie.Need-same-length
-same-length c = search needs
-
 returns : tie.Need-returns
 returns c =
     let a = c .before .before .before .before .before .before .before .before .args in
@@ -21,6 +15,6 @@ pub edit-spec : {M : Type 1} → statement M
 edit-spec =
     tie.close
     (tie.spec
-    edit-within-requires
-    same-length
+    (λ c κs. search needs)  -- edit-within-requires
+    (λ c. search needs)  -- same-length
     returns)

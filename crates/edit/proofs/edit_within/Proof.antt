@@ -6,15 +6,6 @@ use borrow.Author.Needs.{needs}
 use Rattle.edit.proofs.edit_within.Statement.{statement}
 use Rattle.edit.proofs.edit_within.Tie as tie
 
-open-store-requires : tie.Need-open-store-requires
-open-store-requires c κs = search needs
-
-enum-known-opened : tie.Need-enum-known-opened
-enum-known-opened c = search needs
-
-enum-told : tie.Need-enum-told
-enum-told c = search needs
-
 returns : tie.Need-returns
 returns c =
     let b4 = c .before .before .before .before in
@@ -54,17 +45,8 @@ add-end c =
     (b4 .before .before .before .open-store .ensures) (a .item .now) (a .out .now) bytes _ _ (b4 .before .opened .given .1) in
     omega (arith, end)
 
-place-of-requires : tie.Need-place-of-requires
-place-of-requires c κs = search needs
-
 tag-words-requires : tie.Need-tag-words-requires
 tag-words-requires c κs = c .before .before .before .if2 .left
-
-sub-change-item : tie.Need-sub-change-item
-sub-change-item c = search needs
-
-part-change-item-start : tie.Need-part-change-item-start
-part-change-item-start c = search needs
 
 part-change-item-end : tie.Need-part-change-item-end
 part-change-item-end c =
@@ -92,9 +74,6 @@ change-item-requires c κs =
     (b4 .before .before .before .if1 .left) _ (b4 .before .item-words .ensures) _ (c .before .before .before .place-of .ensures)
     (a .tag .now) tags _ (c .before .before .tag-words .ensures)
 
-same-length : tie.Need-same-length
-same-length c = search needs
-
 returns-4 : tie.Need-returns-4
 returns-4 c =
     let b4 = c .before .before .before .before in
@@ -113,19 +92,19 @@ pub edit-within-spec : {M : Type 1} → statement M
 edit-within-spec =
     tie.close
     (tie.spec
-    open-store-requires
-    enum-known-opened
-    enum-told
+    (λ c κs. search needs)  -- open-store-requires
+    (λ c. search needs)  -- enum-known-opened
+    (λ c. search needs)  -- enum-told
     returns
     returns-2
     returns-3
     item-words-requires
     add-end
-    place-of-requires
+    (λ c κs. search needs)  -- place-of-requires
     tag-words-requires
-    sub-change-item
-    part-change-item-start
+    (λ c. search needs)  -- sub-change-item
+    (λ c. search needs)  -- part-change-item-start
     part-change-item-end
     change-item-requires
-    same-length
+    (λ c. search needs)  -- same-length
     returns-4)

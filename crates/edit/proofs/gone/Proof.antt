@@ -4,15 +4,6 @@ use borrow.Author.Needs.{needs}
 use Rattle.edit.proofs.gone.Statement.{statement}
 use Rattle.edit.proofs.gone.Tie as tie
 
-enum-known-found : tie.Need-enum-known-found
-enum-known-found c = search needs
-
-tombstone-requires : tie.Need-tombstone-requires
-tombstone-requires c κs = search needs
-
-enum-told : tie.Need-enum-told
-enum-told c = search needs
-
 returns : tie.Need-returns
 returns c = gone-at _ _ _ (c .before .before .found .given .1) _ (c .tombstone .ensures)
 
@@ -23,8 +14,8 @@ pub gone-spec : {M : Type 1} → statement M
 gone-spec =
     tie.close
     (tie.spec
-    enum-known-found
-    tombstone-requires
-    enum-told
+    (λ c. search needs)  -- enum-known-found
+    (λ c κs. search needs)  -- tombstone-requires
+    (λ c. search needs)  -- enum-told
     returns
     returns-2)

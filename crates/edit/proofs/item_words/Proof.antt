@@ -4,15 +4,6 @@ use borrow.Author.Needs.{needs}
 use Rattle.edit.proofs.item_words.Statement.{statement}
 use Rattle.edit.proofs.item_words.Tie as tie
 
-read8-requires : tie.Need-read8-requires
-read8-requires c κs = search needs
-
-read8-requires-2 : tie.Need-read8-requires-2
-read8-requires-2 c κs = search needs
-
-read8-requires-3 : tie.Need-read8-requires-3
-read8-requires-3 c κs = search needs
-
 returns : tie.Need-returns
 returns c = item-is _ _ _ _ (c .before .before .before .before .pre) (c .before .before .read8 .ensures .0) (c .before .read82 .ensures .0) (c .read83 .ensures .0)
 
@@ -20,7 +11,7 @@ pub item-words-spec : {M : Type 1} → statement M
 item-words-spec =
     tie.close
     (tie.spec
-    read8-requires
-    read8-requires-2
-    read8-requires-3
+    (λ c κs. search needs)  -- read8-requires
+    (λ c κs. search needs)  -- read8-requires-2
+    (λ c κs. search needs)  -- read8-requires-3
     returns)

@@ -7,26 +7,8 @@ use Rattle.edit.proofs.new.Tie as tie
 returns : tie.Need-returns
 returns c = new-wrong _ _ (c .if1 .taken)
 
-add-if2 : tie.Need-add-if2
-add-if2 c = search needs
-
 returns-2 : tie.Need-returns-2
 returns-2 c = new-short _ _ (c .before .if1 .left) (c .if2 .taken)
-
-replica-of-requires : tie.Need-replica-of-requires
-replica-of-requires c κs = search needs
-
-write-store-header-requires : tie.Need-write-store-header-requires
-write-store-header-requires c κs = search needs
-
-write-empty-requires : tie.Need-write-empty-requires
-write-empty-requires c κs = search needs
-
-add-t4 : tie.Need-add-t4
-add-t4 c = search needs
-
-same-length : tie.Need-same-length
-same-length c = search needs
 
 returns-3 : tie.Need-returns-3
 returns-3 c =
@@ -40,11 +22,11 @@ new-spec =
     tie.close
     (tie.spec
     returns
-    add-if2
+    (λ c. search needs)  -- add-if2
     returns-2
-    replica-of-requires
-    write-store-header-requires
-    write-empty-requires
-    add-t4
-    same-length
+    (λ c κs. search needs)  -- replica-of-requires
+    (λ c κs. search needs)  -- write-store-header-requires
+    (λ c κs. search needs)  -- write-empty-requires
+    (λ c. search needs)  -- add-t4
+    (λ c. search needs)  -- same-length
     returns-3)

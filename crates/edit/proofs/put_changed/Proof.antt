@@ -7,21 +7,6 @@ use borrow.Author.Needs.{needs}
 use Rattle.edit.proofs.put_changed.Statement.{statement}
 use Rattle.edit.proofs.put_changed.Tie as tie
 
-slice-aggregate-write-record : tie.Need-slice-aggregate-write-record
-slice-aggregate-write-record c = search needs
-
-write-record-requires : tie.Need-write-record-requires
-write-record-requires c κs = search needs
-
-slice-aggregate-write-changed : tie.Need-slice-aggregate-write-changed
-slice-aggregate-write-changed c = search needs
-
-write-changed-requires : tie.Need-write-changed-requires
-write-changed-requires c κs = search needs
-
-same-length : tie.Need-same-length
-same-length c = search needs
-
 returns : tie.Need-returns
 returns c =
     let a = c .before .before .before .before .before .before .before .before .before .before .before .before .args in
@@ -32,9 +17,9 @@ pub put-changed-spec : {M : Type 1} → statement M
 put-changed-spec =
     tie.close
     (tie.spec
-    slice-aggregate-write-record
-    write-record-requires
-    slice-aggregate-write-changed
-    write-changed-requires
-    same-length
+    (λ c. search needs)  -- slice-aggregate-write-record
+    (λ c κs. search needs)  -- write-record-requires
+    (λ c. search needs)  -- slice-aggregate-write-changed
+    (λ c κs. search needs)  -- write-changed-requires
+    (λ c. search needs)  -- same-length
     returns)

@@ -4,12 +4,6 @@ use borrow.Author.Needs.{needs}
 use Rattle.edit.proofs.tag_words.Statement.{statement}
 use Rattle.edit.proofs.tag_words.Tie as tie
 
-read8-requires : tie.Need-read8-requires
-read8-requires c κs = search needs
-
-read8-requires-2 : tie.Need-read8-requires-2
-read8-requires-2 c κs = search needs
-
 returns : tie.Need-returns
 returns c = tag-is _ _ _ (c .before .before .before .pre) (c .before .read8 .ensures .0) (c .read82 .ensures .0)
 
@@ -17,6 +11,6 @@ pub tag-words-spec : {M : Type 1} → statement M
 tag-words-spec =
     tie.close
     (tie.spec
-    read8-requires
-    read8-requires-2
+    (λ c κs. search needs)  -- read8-requires
+    (λ c κs. search needs)  -- read8-requires-2
     returns)

@@ -12,39 +12,6 @@ use Rattle.edit.proofs.write_changed.Statement.{statement}
 use Rattle.edit.proofs.write_changed.Tie as tie
 use Rattle.edit.proofs.write_changed.Reads as reads
 
-add-at : tie.Need-add-at
-add-at c = search needs
-
-slice-aggregate-join : tie.Need-slice-aggregate-join
-slice-aggregate-join c = search needs
-
-join-requires : tie.Need-join-requires
-join-requires c κs = search needs
-
-room-in-store-requires : tie.Need-room-in-store-requires
-room-in-store-requires c κs = search needs
-
-sub-raise-opened : tie.Need-sub-raise-opened
-sub-raise-opened c = search needs
-
-part-raise-opened-start : tie.Need-part-raise-opened-start
-part-raise-opened-start c = search needs
-
-part-raise-opened-end : tie.Need-part-raise-opened-end
-part-raise-opened-end c = search needs
-
-raise-opened-requires : tie.Need-raise-opened-requires
-raise-opened-requires c κs = search needs
-
-slice-aggregate-close-store : tie.Need-slice-aggregate-close-store
-slice-aggregate-close-store c = search needs
-
-close-store-requires : tie.Need-close-store-requires
-close-store-requires c κs = search needs
-
-same-length : tie.Need-same-length
-same-length c = search needs
-
 returns : tie.Need-returns
 returns c =
     let b4 = c .before .before .before .before in
@@ -65,15 +32,15 @@ pub write-changed-spec : {M : Type 1} → statement M
 write-changed-spec =
     tie.close
     (tie.spec
-    add-at
-    slice-aggregate-join
-    join-requires
-    room-in-store-requires
-    sub-raise-opened
-    part-raise-opened-start
-    part-raise-opened-end
-    raise-opened-requires
-    slice-aggregate-close-store
-    close-store-requires
-    same-length
+    (λ c. search needs)  -- add-at
+    (λ c. search needs)  -- slice-aggregate-join
+    (λ c κs. search needs)  -- join-requires
+    (λ c κs. search needs)  -- room-in-store-requires
+    (λ c. search needs)  -- sub-raise-opened
+    (λ c. search needs)  -- part-raise-opened-start
+    (λ c. search needs)  -- part-raise-opened-end
+    (λ c κs. search needs)  -- raise-opened-requires
+    (λ c. search needs)  -- slice-aggregate-close-store
+    (λ c κs. search needs)  -- close-store-requires
+    (λ c. search needs)  -- same-length
     returns)

@@ -15,11 +15,11 @@ slice-aggregate-check c =
     let p = c .before .before .pre in
     omega (arith, p .0, p .1, length-take (a .n) (a .buffer .now))
 
-check-requires : tie.Need-check-requires
-check-requires c κs = search needs
-
 returns : tie.Need-returns
 returns c = λ input e. c .check .ensures ∙ (ap (checkedBy basic) (sym e) ∙ prefix-base input)
 
 pub check-front-spec : {M : Type 1} → statement M
-check-front-spec = tie.close (tie.spec slice-aggregate-check check-requires returns)
+check-front-spec = tie.close (tie.spec
+    slice-aggregate-check
+    (λ c κs. search needs)  -- check-requires
+    returns)

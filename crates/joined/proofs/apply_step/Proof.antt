@@ -4,16 +4,13 @@ use borrow.Author.Needs.{needs}
 use Rattle.joined.proofs.apply_step.Statement.{statement}
 use Rattle.joined.proofs.apply_step.Tie as tie
 
-sync-apply-requires : tie.Need-sync-apply-requires
-sync-apply-requires c κs = search needs
-
-same-length : tie.Need-same-length
-same-length c = search needs
-
 returns : tie.Need-returns
 returns c =
     let e = c .before .before .sync-apply .ensures in
     apply-called _ _ _ _ _ _ _ (called-of _ _ _ _ _ _ (e .0) (e .1 .0) (e .1 .1))
 
 pub apply-step-spec : {M : Type 1} → statement M
-apply-step-spec = tie.close (tie.spec sync-apply-requires same-length returns)
+apply-step-spec = tie.close (tie.spec
+    (λ c κs. search needs)  -- sync-apply-requires
+    (λ c. search needs)  -- same-length
+    returns)

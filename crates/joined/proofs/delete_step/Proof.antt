@@ -4,16 +4,13 @@ use borrow.Author.Needs.{needs}
 use Rattle.joined.proofs.delete_step.Statement.{statement}
 use Rattle.joined.proofs.delete_step.Tie as tie
 
-sync-delete-requires : tie.Need-sync-delete-requires
-sync-delete-requires c κs = search needs
-
-same-length : tie.Need-same-length
-same-length c = search needs
-
 returns : tie.Need-returns
 returns c =
     let e = c .before .before .sync-delete .ensures in
     delete-called _ _ _ _ _ _ _ (called-of _ _ _ _ _ _ (e .0) (e .1 .0) (e .1 .1))
 
 pub delete-step-spec : {M : Type 1} → statement M
-delete-step-spec = tie.close (tie.spec sync-delete-requires same-length returns)
+delete-step-spec = tie.close (tie.spec
+    (λ c κs. search needs)  -- sync-delete-requires
+    (λ c. search needs)  -- same-length
+    returns)

@@ -4,16 +4,13 @@ use borrow.Author.Needs.{needs}
 use Rattle.joined.proofs.edit_step.Statement.{statement}
 use Rattle.joined.proofs.edit_step.Tie as tie
 
-sync-edit-requires : tie.Need-sync-edit-requires
-sync-edit-requires c κs = search needs
-
-same-length : tie.Need-same-length
-same-length c = search needs
-
 returns : tie.Need-returns
 returns c =
     let e = c .before .before .sync-edit .ensures in
     edit-called _ _ _ _ _ _ _ _ (called-of _ _ _ _ _ _ (e .0) (e .1 .0) (e .1 .1))
 
 pub edit-step-spec : {M : Type 1} → statement M
-edit-step-spec = tie.close (tie.spec sync-edit-requires same-length returns)
+edit-step-spec = tie.close (tie.spec
+    (λ c κs. search needs)  -- sync-edit-requires
+    (λ c. search needs)  -- same-length
+    returns)

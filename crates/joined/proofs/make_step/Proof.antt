@@ -4,16 +4,13 @@ use borrow.Author.Needs.{needs}
 use Rattle.joined.proofs.make_step.Statement.{statement}
 use Rattle.joined.proofs.make_step.Tie as tie
 
-sync-make-requires : tie.Need-sync-make-requires
-sync-make-requires c κs = search needs
-
-same-length : tie.Need-same-length
-same-length c = search needs
-
 returns : tie.Need-returns
 returns c =
     let e = c .before .before .sync-make .ensures in
     make-called _ _ _ _ _ _ _ _ _ (called-of _ _ _ _ _ _ (e .0) (e .1 .0) (e .1 .1))
 
 pub make-step-spec : {M : Type 1} → statement M
-make-step-spec = tie.close (tie.spec sync-make-requires same-length returns)
+make-step-spec = tie.close (tie.spec
+    (λ c κs. search needs)  -- sync-make-requires
+    (λ c. search needs)  -- same-length
+    returns)

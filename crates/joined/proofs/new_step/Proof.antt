@@ -4,16 +4,13 @@ use borrow.Author.Needs.{needs}
 use Rattle.joined.proofs.new_step.Statement.{statement}
 use Rattle.joined.proofs.new_step.Tie as tie
 
-sync-new-requires : tie.Need-sync-new-requires
-sync-new-requires c κs = search needs
-
-same-length : tie.Need-same-length
-same-length c = search needs
-
 returns : tie.Need-returns
 returns c =
     let e = c .before .before .sync-new .ensures in
     new-called _ _ _ _ _ _ (called-of _ _ _ _ _ _ (e .0) (e .1 .0) (e .1 .1))
 
 pub new-step-spec : {M : Type 1} → statement M
-new-step-spec = tie.close (tie.spec sync-new-requires same-length returns)
+new-step-spec = tie.close (tie.spec
+    (λ c κs. search needs)  -- sync-new-requires
+    (λ c. search needs)  -- same-length
+    returns)

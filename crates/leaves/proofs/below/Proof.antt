@@ -9,18 +9,12 @@ use Rattle.leaves.proofs.below.Tie as tie
 returns : tie.Need-returns
 returns c = below-missing _ _ (omega arith)
 
-octet-requires : tie.Need-octet-requires
-octet-requires c κs = search needs
-
 returns-2 : tie.Need-returns-2
 returns-2 c =
     let b : Bytes (c .before .before .before .before .before .before .args .w .now) =
     record { below = λ i. omega (arith, c .before .before .before .before .before .shared-slice-known .given i) } in
     below-there _ _ (omega arith) _
     (bound-first _ 0 _ _ _ _ (c .before .before .before .octet .ensures .0) b (omega arith) (omega arith) (c .before .if2 .taken))
-
-octet-requires-2 : tie.Need-octet-requires-2
-octet-requires-2 c κs = search needs
 
 returns-3 : tie.Need-returns-3
 returns-3 c =
@@ -30,9 +24,6 @@ returns-3 c =
     below-there _ _ (omega arith) _
     (bound-second _ 0 _ _ _ _ (b5 .before .octet .ensures .0) _ (c .before .before .before .octet2 .ensures .0) b (omega arith) (c .before .before .before .before .if2 .left)
     (c .before .if3 .taken))
-
-octet-requires-3 : tie.Need-octet-requires-3
-octet-requires-3 c κs = search needs
 
 returns-4 : tie.Need-returns-4
 returns-4 c =
@@ -46,9 +37,9 @@ below-spec =
     tie.close
     (tie.spec
     returns
-    octet-requires
+    (λ c κs. search needs)  -- octet-requires
     returns-2
-    octet-requires-2
+    (λ c κs. search needs)  -- octet-requires-2
     returns-3
-    octet-requires-3
+    (λ c κs. search needs)  -- octet-requires-3
     returns-4)

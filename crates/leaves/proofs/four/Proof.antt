@@ -8,11 +8,11 @@ use Rattle.leaves.proofs.four.Tie as tie
 returns : tie.Need-returns
 returns c = (sym (read-missing _ 4 0 (omega arith)), omega arith)
 
-quad-requires : tie.Need-quad-requires
-quad-requires c κs = search needs
-
 returns-2 : tie.Need-returns-2
 returns-2 c = (c .quad .ensures .0 ∙ sym (read-there _ 4 0 (omega arith)), omega arith)
 
 pub four-spec : {M : Type 1} → statement M
-four-spec = tie.close (tie.spec returns quad-requires returns-2)
+four-spec = tie.close (tie.spec
+    returns
+    (λ c κs. search needs)  -- quad-requires
+    returns-2)

@@ -6,23 +6,14 @@ use Rattle.leaves.proofs.Compare.{id-differs, id-rest, same-missing, sa
 use Rattle.leaves.proofs.is_replica.Statement.{statement}
 use Rattle.leaves.proofs.is_replica.Tie as tie
 
-same2-requires : tie.Need-same2-requires
-same2-requires c κs = search needs
-
 returns : tie.Need-returns
 returns c = same-missing _ _ (omega arith) _ (c .same2 .ensures)
-
-octet-requires : tie.Need-octet-requires
-octet-requires c κs = search needs
 
 returns-2 : tie.Need-returns-2
 returns-2 c =
     let b : Bytes (c .before .before .before .before .before .args .w .now) = record { below = λ i. omega (arith, c .before .before .before .before .shared-slice-known .given i) } in
     same-there _ _ (omega arith) _
     (id-differs _ 0 _ _ _ (c .before .before .octet .ensures .0) b (omega arith) (c .if2 .taken))
-
-octet-requires-2 : tie.Need-octet-requires-2
-octet-requires-2 c κs = search needs
 
 returns-3 : tie.Need-returns-3
 returns-3 c =
@@ -31,4 +22,10 @@ returns-3 c =
 
 pub is-replica-spec : {M : Type 1} → statement M
 is-replica-spec =
-    tie.close (tie.spec same2-requires returns octet-requires returns-2 octet-requires-2 returns-3)
+    tie.close (tie.spec
+    (λ c κs. search needs)  -- same2-requires
+    returns
+    (λ c κs. search needs)  -- octet-requires
+    returns-2
+    (λ c κs. search needs)  -- octet-requires-2
+    returns-3)

@@ -6,24 +6,12 @@ use borrow.Author.Needs.{needs}
 use Rattle.leaves.proofs.write16.Statement.{statement}
 use Rattle.leaves.proofs.write16.Tie as tie
 
-beyond-requires : tie.Need-beyond-requires
-beyond-requires c κs = search needs
-
 returns : tie.Need-returns
 returns c = no-room _ _ 16 _ (c .before .beyond .ensures .0 (c .if1 .taken))
-
-write8-requires : tie.Need-write8-requires
-write8-requires c κs = search needs
 
 add-write8 : tie.Need-add-write8
 add-write8 c =
     omega (arith, c .before .before .before .before .before .before .beyond .ensures .1 (c .before .before .before .before .before .if1 .left))
-
-write8-requires-2 : tie.Need-write8-requires-2
-write8-requires-2 c κs = search needs
-
-same-length : tie.Need-same-length
-same-length c = search needs
 
 returns-2 : tie.Need-returns-2
 returns-2 c =
@@ -37,10 +25,10 @@ pub write16-spec : {M : Type 1} → statement M
 write16-spec =
     tie.close
     (tie.spec
-    beyond-requires
+    (λ c κs. search needs)  -- beyond-requires
     returns
-    write8-requires
+    (λ c κs. search needs)  -- write8-requires
     add-write8
-    write8-requires-2
-    same-length
+    (λ c κs. search needs)  -- write8-requires-2
+    (λ c. search needs)  -- same-length
     returns-2)

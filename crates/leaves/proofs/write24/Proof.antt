@@ -6,32 +6,17 @@ use borrow.Author.Needs.{needs}
 use Rattle.leaves.proofs.write24.Statement.{statement}
 use Rattle.leaves.proofs.write24.Tie as tie
 
-beyond-requires : tie.Need-beyond-requires
-beyond-requires c κs = search needs
-
 returns : tie.Need-returns
 returns c = no-room _ _ 24 _ (c .before .beyond .ensures .0 (c .if1 .taken))
-
-write8-requires : tie.Need-write8-requires
-write8-requires c κs = search needs
 
 add-write8 : tie.Need-add-write8
 add-write8 c =
     omega (arith, c .before .before .before .before .before .before .beyond .ensures .1 (c .before .before .before .before .before .if1 .left))
 
-write8-requires-2 : tie.Need-write8-requires-2
-write8-requires-2 c κs = search needs
-
 add-write8-2 : tie.Need-add-write8-2
 add-write8-2 c =
     let test = c .before .before .before .before .before .before .before .before .before in
     omega (arith, test .before .beyond .ensures .1 (test .if1 .left))
-
-write8-requires-3 : tie.Need-write8-requires-3
-write8-requires-3 c κs = search needs
-
-same-length : tie.Need-same-length
-same-length c = search needs
 
 returns-2 : tie.Need-returns-2
 returns-2 c =
@@ -47,12 +32,12 @@ pub write24-spec : {M : Type 1} → statement M
 write24-spec =
     tie.close
     (tie.spec
-    beyond-requires
+    (λ c κs. search needs)  -- beyond-requires
     returns
-    write8-requires
+    (λ c κs. search needs)  -- write8-requires
     add-write8
-    write8-requires-2
+    (λ c κs. search needs)  -- write8-requires-2
     add-write8-2
-    write8-requires-3
-    same-length
+    (λ c κs. search needs)  -- write8-requires-3
+    (λ c. search needs)  -- same-length
     returns-2)

@@ -8,23 +8,8 @@ use Rattle.lookup.proofs.advance.Tie as tie
 returns : tie.Need-returns
 returns c = advance-not _ _ _ _ (omega arith)
 
-sub-if2 : tie.Need-sub-if2
-sub-if2 c = omega arith
-
-cast-if2 : tie.Need-cast-if2
-cast-if2 c = omega arith
-
-mul-if2 : tie.Need-mul-if2
-mul-if2 c = omega arith
-
 returns-2 : tie.Need-returns-2
 returns-2 c = advance-not _ _ _ _ (omega arith)
-
-pass-requires : tie.Need-pass-requires
-pass-requires c κs = omega arith
-
-vector-place-requires : tie.Need-vector-place-requires
-vector-place-requires c κs = tt
 
 returns-3 : tie.Need-returns-3
 returns-3 c = advance-is _ _ _ _ _ _ (omega arith) (c .before .before .before .pass .ensures) (c .vector-place .ensures)
@@ -34,10 +19,10 @@ advance-spec =
     tie.close
     (tie.spec
     returns
-    sub-if2
-    cast-if2
-    mul-if2
+    (λ c. omega arith)  -- sub-if2
+    (λ c. omega arith)  -- cast-if2
+    (λ c. omega arith)  -- mul-if2
     returns-2
-    pass-requires
-    vector-place-requires
+    (λ c κs. omega arith)  -- pass-requires
+    (λ c κs. tt)  -- vector-place-requires
     returns-3)

@@ -4,12 +4,6 @@ use Rattle.lookup.proofs.Calls.{difference-fits, difference-exact}
 use Rattle.lookup.proofs.ahead.Statement.{statement}
 use Rattle.lookup.proofs.ahead.Tie as tie
 
-cast-result : tie.Need-cast-result
-cast-result c = search needs
-
-cast-result-2 : tie.Need-cast-result-2
-cast-result-2 c = search needs
-
 sub-result : tie.Need-sub-result
 sub-result c = difference-fits _ _ (c .pre .0) (c .pre .1)
 
@@ -17,4 +11,8 @@ returns : tie.Need-returns
 returns c = difference-exact _ _ (c .pre .0) (c .pre .1)
 
 pub ahead-spec : {M : Type 1} → statement M
-ahead-spec = tie.close (tie.spec cast-result cast-result-2 sub-result returns)
+ahead-spec = tie.close (tie.spec
+    (λ c. search needs)  -- cast-result
+    (λ c. search needs)  -- cast-result-2
+    sub-result
+    returns)

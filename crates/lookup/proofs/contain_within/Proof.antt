@@ -7,12 +7,6 @@ use Rattle.lookup.proofs.Calls.{opens-within, refuses-within, opens-ope
 use Rattle.lookup.proofs.contain_within.Statement.{statement}
 use Rattle.lookup.proofs.contain_within.Tie as tie
 
-open-within-requires : tie.Need-open-within-requires
-open-within-requires c κs = search needs
-
-enum-known-v : tie.Need-enum-known-v
-enum-known-v c = search needs
-
 contain-in-requires : tie.Need-contain-in-requires
 contain-in-requires c κs =
     let a = c .before .before .before .before .before .before .before .args in
@@ -20,9 +14,6 @@ contain-in-requires c κs =
     record { below = λ i. omega (arith, c .before .before .before .before .before .before .shared-slice-known .given i) } in
     opens-open (a .limits .replicas) (a .limits .ranges) _ _ _
     (opens-within (a .limits .replicas) (a .limits .ranges) _ _ (c .before .before .before .open-within .ensures) b _ (c .before .v .given .1))
-
-enum-known-n : tie.Need-enum-known-n
-enum-known-n c = search needs
 
 returns : tie.Need-returns
 returns c =
@@ -41,4 +32,10 @@ returns-2 c =
 pub contain-within-spec : {M : Type 1} → statement M
 contain-within-spec =
     tie.close
-    (tie.spec open-within-requires enum-known-v contain-in-requires enum-known-n returns returns-2)
+    (tie.spec
+    (λ c κs. search needs)  -- open-within-requires
+    (λ c. search needs)  -- enum-known-v
+    contain-in-requires
+    (λ c. search needs)  -- enum-known-n
+    returns
+    returns-2)

@@ -7,12 +7,6 @@ use Rattle.lookup.proofs.Calls.{opens-within, refuses-within, opens-ope
 use Rattle.lookup.proofs.lead_second.Statement.{statement}
 use Rattle.lookup.proofs.lead_second.Tie as tie
 
-open-within-requires : tie.Need-open-within-requires
-open-within-requires c κs = search needs
-
-enum-known-w : tie.Need-enum-known-w
-enum-known-w c = search needs
-
 lead-in-requires : tie.Need-lead-in-requires
 lead-in-requires c κs =
     let a = c .before .before .before .before .before .before .before .before .args in
@@ -22,9 +16,6 @@ lead-in-requires c κs =
       opens-open (a .limits .replicas) (a .limits .ranges) _ _ _
           (opens-within (a .limits .replicas) (a .limits .ranges) _ _ (c .before .before .before .open-within .ensures) b _ (c .before .w .given .1)),
     )
-
-enum-known-n : tie.Need-enum-known-n
-enum-known-n c = search needs
 
 returns : tie.Need-returns
 returns c =
@@ -43,4 +34,10 @@ returns-2 c =
 pub lead-second-spec : {M : Type 1} → statement M
 lead-second-spec =
     tie.close
-    (tie.spec open-within-requires enum-known-w lead-in-requires enum-known-n returns returns-2)
+    (tie.spec
+    (λ c κs. search needs)  -- open-within-requires
+    (λ c. search needs)  -- enum-known-w
+    lead-in-requires
+    (λ c. search needs)  -- enum-known-n
+    returns
+    returns-2)

@@ -7,21 +7,12 @@ use Rattle.lookup.proofs.Calls.{opens-within, refuses-within, lead-refu
 use Rattle.lookup.proofs.lead_within.Statement.{statement}
 use Rattle.lookup.proofs.lead_within.Tie as tie
 
-open-within-requires : tie.Need-open-within-requires
-open-within-requires c κs = search needs
-
-enum-known-v : tie.Need-enum-known-v
-enum-known-v c = search needs
-
 lead-second-requires : tie.Need-lead-second-requires
 lead-second-requires c κs =
     let a = c .before .before .before .before .before .before .before .before .args in
     let b : Bytes (a .first .now) =
     record { below = λ i. omega (arith, c .before .before .before .before .before .before .before .shared-slice-known .given i) } in
     opens-within (a .limits .replicas) (a .limits .ranges) _ _ (c .before .before .before .open-within .ensures) b _ (c .before .v .given .1)
-
-enum-known-n : tie.Need-enum-known-n
-enum-known-n c = search needs
 
 returns : tie.Need-returns
 returns c = c .lead-second .ensures
@@ -35,4 +26,10 @@ returns-2 c =
 pub lead-within-spec : {M : Type 1} → statement M
 lead-within-spec =
     tie.close
-    (tie.spec open-within-requires enum-known-v lead-second-requires enum-known-n returns returns-2)
+    (tie.spec
+    (λ c κs. search needs)  -- open-within-requires
+    (λ c. search needs)  -- enum-known-v
+    lead-second-requires
+    (λ c. search needs)  -- enum-known-n
+    returns
+    returns-2)

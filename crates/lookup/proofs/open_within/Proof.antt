@@ -5,14 +5,11 @@ use Rattle.lookup.proofs.Calls.{checked-opens}
 use Rattle.lookup.proofs.open_within.Statement.{statement}
 use Rattle.lookup.proofs.open_within.Tie as tie
 
-check-within-requires : tie.Need-check-within-requires
-check-within-requires c κs = search needs
-
-from-check-requires : tie.Need-from-check-requires
-from-check-requires c κs = search needs
-
 returns : tie.Need-returns
 returns c = checked-opens (rulesWithin _ _) _ _ _ (c .before .check-within .ensures) (c .from-check .ensures)
 
 pub open-within-spec : {M : Type 1} → statement M
-open-within-spec = tie.close (tie.spec check-within-requires from-check-requires returns)
+open-within-spec = tie.close (tie.spec
+    (λ c κs. search needs)  -- check-within-requires
+    (λ c κs. search needs)  -- from-check-requires
+    returns)

@@ -7,15 +7,6 @@ use Rattle.lookup.proofs.Loops.{tick-beyond, tick-guessed, tick-other}
 use Rattle.lookup.proofs.tick_at.Statement.{statement}
 use Rattle.lookup.proofs.tick_at.Tie as tie
 
-elements-at-requires : tie.Need-elements-at-requires
-elements-at-requires c κs = tt
-
-cast-guess : tie.Need-cast-guess
-cast-guess c = search needs
-
-tick-scan-requires : tie.Need-tick-scan-requires
-tick-scan-requires c κs = search needs
-
 returns : tie.Need-returns
 returns c =
     tick-beyond _ _ _ _ (c .before .before .before .elements-at .ensures .is) _ (c .before .if1 .taken) (c .tick-scan .ensures)
@@ -23,29 +14,14 @@ returns c =
 add-at : tie.Need-add-at
 add-at c = omega (arith, c .before .before .elements-at .ensures .room (omega arith))
 
-mul-at : tie.Need-mul-at
-mul-at c = search needs
-
 add-at-2 : tie.Need-add-at-2
 add-at-2 c = omega (arith, c .before .before .elements-at .ensures .room (omega arith))
 
 add-four : tie.Need-add-four
 add-four c = omega (arith, c .before .before .elements-at .ensures .room (omega arith))
 
-sub-four : tie.Need-sub-four
-sub-four c = omega arith
-
-part-four-start : tie.Need-part-four-start
-part-four-start c = omega arith
-
 part-four-end : tie.Need-part-four-end
 part-four-end c = omega (arith, c .before .before .elements-at .ensures .room (omega arith))
-
-four-requires : tie.Need-four-requires
-four-requires c κs = tt
-
-cast-if2 : tie.Need-cast-if2
-cast-if2 c = search needs
 
 add-eight : tie.Need-add-eight
 add-eight c = omega (arith, c .before .before .before .before .before .before .elements-at .ensures .room (omega arith))
@@ -56,17 +32,8 @@ add-eight-2 c = omega (arith, c .before .before .before .before .before .before 
 add-eight-3 : tie.Need-add-eight-3
 add-eight-3 c = omega (arith, c .before .before .before .before .before .before .elements-at .ensures .room (omega arith))
 
-sub-eight : tie.Need-sub-eight
-sub-eight c = omega arith
-
-part-eight-start : tie.Need-part-eight-start
-part-eight-start c = omega arith
-
 part-eight-end : tie.Need-part-eight-end
 part-eight-end c = omega (arith, c .before .before .before .before .before .before .elements-at .ensures .room (omega arith))
-
-eight-requires : tie.Need-eight-requires
-eight-requires c κs = tt
 
 returns-2 : tie.Need-returns-2
 returns-2 c =
@@ -78,9 +45,6 @@ returns-2 c =
       b8 .elements-at .ensures .room (omega arith),
     ))) _ (c .before .before .if2 .taken)
     (part-is _ _ _ _ (c .eight .ensures .0) (omega (arith, b8 .elements-at .ensures .room (omega arith))))
-
-tick-scan-requires-2 : tie.Need-tick-scan-requires-2
-tick-scan-requires-2 c κs = search needs
 
 returns-3 : tie.Need-returns-3
 returns-3 c =
@@ -96,26 +60,26 @@ pub tick-at-spec : {M : Type 1} → statement M
 tick-at-spec =
     tie.close
     (tie.spec
-    elements-at-requires
-    cast-guess
-    tick-scan-requires
+    (λ c κs. tt)  -- elements-at-requires
+    (λ c. search needs)  -- cast-guess
+    (λ c κs. search needs)  -- tick-scan-requires
     returns
     add-at
-    mul-at
+    (λ c. search needs)  -- mul-at
     add-at-2
     add-four
-    sub-four
-    part-four-start
+    (λ c. omega arith)  -- sub-four
+    (λ c. omega arith)  -- part-four-start
     part-four-end
-    four-requires
-    cast-if2
+    (λ c κs. tt)  -- four-requires
+    (λ c. search needs)  -- cast-if2
     add-eight
     add-eight-2
     add-eight-3
-    sub-eight
-    part-eight-start
+    (λ c. omega arith)  -- sub-eight
+    (λ c. omega arith)  -- part-eight-start
     part-eight-end
-    eight-requires
+    (λ c κs. tt)  -- eight-requires
     returns-2
-    tick-scan-requires-2
+    (λ c κs. search needs)  -- tick-scan-requires-2
     returns-3)

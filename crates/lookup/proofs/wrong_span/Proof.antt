@@ -10,15 +10,6 @@ returns c = wrong-first _ _ (c .if1 .taken)
 returns-2 : tie.Need-returns-2
 returns-2 c = wrong-last _ _ (c .before .if1 .left) (c .if2 .taken)
 
-item-of-requires : tie.Need-item-of-requires
-item-of-requires c κs = search needs
-
-item-of-requires-2 : tie.Need-item-of-requires-2
-item-of-requires-2 c κs = search needs
-
-less3-requires : tie.Need-less3-requires
-less3-requires c κs = search needs
-
 returns-3 : tie.Need-returns-3
 returns-3 c =
     let b4 = c .before .before .before .before in
@@ -28,4 +19,10 @@ returns-3 c =
 pub wrong-span-spec : {M : Type 1} → statement M
 wrong-span-spec =
     tie.close
-    (tie.spec returns returns-2 item-of-requires item-of-requires-2 less3-requires returns-3)
+    (tie.spec
+    returns
+    returns-2
+    (λ c κs. search needs)  -- item-of-requires
+    (λ c κs. search needs)  -- item-of-requires-2
+    (λ c κs. search needs)  -- less3-requires
+    returns-3)

@@ -5,29 +5,11 @@ use native.Mathlib.Omega.{arith}
 use Rattle.lookup_ranges.proofs.before_above.Statement.{statement}
 use Rattle.lookup_ranges.proofs.before_above.Tie as tie
 
-sub-less3 : tie.Need-sub-less3
-sub-less3 c = omega arith
-
-less3-requires : tie.Need-less3-requires
-less3-requires c κs = tt
-
 returns : tie.Need-returns
 returns c = before-low _ _ _ _ _ (c .before .before .if1 .taken) (c .less3 .ensures)
 
-sub-less3-2 : tie.Need-sub-less3-2
-sub-less3-2 c = omega arith
-
-less3-requires-2 : tie.Need-less3-requires-2
-less3-requires-2 c κs = tt
-
 returns-2 : tie.Need-returns-2
 returns-2 c = before-middle _ _ _ _ _ (c .before .before .before .before .if1 .left) (c .before .before .if2 .taken) (c .less32 .ensures)
-
-sub-less3-3 : tie.Need-sub-less3-3
-sub-less3-3 c = omega arith
-
-less3-requires-3 : tie.Need-less3-requires-3
-less3-requires-3 c κs = tt
 
 returns-3 : tie.Need-returns-3
 returns-3 c =
@@ -42,13 +24,13 @@ pub before-above-spec : {M : Type 1} → statement M
 before-above-spec =
     tie.close
     (tie.spec
-    sub-less3
-    less3-requires
+    (λ c. omega arith)  -- sub-less3
+    (λ c κs. tt)  -- less3-requires
     returns
-    sub-less3-2
-    less3-requires-2
+    (λ c. omega arith)  -- sub-less3-2
+    (λ c κs. tt)  -- less3-requires-2
     returns-2
-    sub-less3-3
-    less3-requires-3
+    (λ c. omega arith)  -- sub-less3-3
+    (λ c κs. tt)  -- less3-requires-3
     returns-3
     returns-4)

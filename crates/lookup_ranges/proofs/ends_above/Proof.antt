@@ -4,9 +4,6 @@ use native.Mathlib.Omega.{arith}
 use Rattle.lookup_ranges.proofs.ends_above.Statement.{statement}
 use Rattle.lookup_ranges.proofs.ends_above.Tie as tie
 
-less3-requires : tie.Need-less3-requires
-less3-requires c κs = tt
-
 returns : tie.Need-returns
 returns c = end-top _ _ _ _ _ (c .before .if1 .taken) (c .less3 .ensures)
 
@@ -25,9 +22,6 @@ add-eight-2 c = omega (arith, (c .before .before .if1 .left))
 eight-requires-3 : tie.Need-eight-requires-3
 eight-requires-3 c κs = omega (arith, (c .before .before .if1 .left))
 
-before-above-requires : tie.Need-before-above-requires
-before-above-requires c κs = tt
-
 returns-2 : tie.Need-returns-2
 returns-2 c =
     end-before _ _ _ _ _ _ _ _ (c .before .before .before .eight .ensures .0) (c .before .before .eight2 .ensures .0)
@@ -37,12 +31,12 @@ pub ends-above-spec : {M : Type 1} → statement M
 ends-above-spec =
     tie.close
     (tie.spec
-    less3-requires
+    (λ c κs. tt)  -- less3-requires
     returns
     eight-requires
     add-eight
     eight-requires-2
     add-eight-2
     eight-requires-3
-    before-above-requires
+    (λ c κs. tt)  -- before-above-requires
     returns-2)

@@ -6,12 +6,6 @@ use borrow.Author.Needs.{needs}
 use Rattle.make.proofs.make.Statement.{statement}
 use Rattle.make.proofs.make.Tie as tie
 
-make-within-requires : tie.Need-make-within-requires
-make-within-requires c κs = search needs
-
-same-length : tie.Need-same-length
-same-length c = search needs
-
 returns : tie.Need-returns
 returns c =
     let b2 = c .before .before in
@@ -21,4 +15,7 @@ returns c =
     (b2 .make-within .ensures)
 
 pub make-spec : {M : Type 1} → statement M
-make-spec = tie.close (tie.spec make-within-requires same-length returns)
+make-spec = tie.close (tie.spec
+    (λ c κs. search needs)  -- make-within-requires
+    (λ c. search needs)  -- same-length
+    returns)

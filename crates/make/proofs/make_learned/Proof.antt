@@ -10,36 +10,6 @@ use borrow.Author.Needs.{needs}
 use Rattle.make.proofs.make_learned.Statement.{statement}
 use Rattle.make.proofs.make_learned.Tie as tie
 
-slice-aggregate-select-records : tie.Need-slice-aggregate-select-records
-slice-aggregate-select-records c = search needs
-
-select-records-requires : tie.Need-select-records-requires
-select-records-requires c κs = search needs
-
-room-in-batch-requires : tie.Need-room-in-batch-requires
-room-in-batch-requires c κs = search needs
-
-sub-project-opened : tie.Need-sub-project-opened
-sub-project-opened c = search needs
-
-part-project-opened-start : tie.Need-part-project-opened-start
-part-project-opened-start c = search needs
-
-part-project-opened-end : tie.Need-part-project-opened-end
-part-project-opened-end c = search needs
-
-project-opened-requires : tie.Need-project-opened-requires
-project-opened-requires c κs = search needs
-
-slice-aggregate-close-batch : tie.Need-slice-aggregate-close-batch
-slice-aggregate-close-batch c = search needs
-
-close-batch-requires : tie.Need-close-batch-requires
-close-batch-requires c κs = search needs
-
-same-length : tie.Need-same-length
-same-length c = search needs
-
 returns : tie.Need-returns
 returns c =
     let b2 = c .before .before in
@@ -59,14 +29,14 @@ pub make-learned-spec : {M : Type 1} → statement M
 make-learned-spec =
     tie.close
     (tie.spec
-    slice-aggregate-select-records
-    select-records-requires
-    room-in-batch-requires
-    sub-project-opened
-    part-project-opened-start
-    part-project-opened-end
-    project-opened-requires
-    slice-aggregate-close-batch
-    close-batch-requires
-    same-length
+    (λ c. search needs)  -- slice-aggregate-select-records
+    (λ c κs. search needs)  -- select-records-requires
+    (λ c κs. search needs)  -- room-in-batch-requires
+    (λ c. search needs)  -- sub-project-opened
+    (λ c. search needs)  -- part-project-opened-start
+    (λ c. search needs)  -- part-project-opened-end
+    (λ c κs. search needs)  -- project-opened-requires
+    (λ c. search needs)  -- slice-aggregate-close-batch
+    (λ c κs. search needs)  -- close-batch-requires
+    (λ c. search needs)  -- same-length
     returns)

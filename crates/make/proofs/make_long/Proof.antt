@@ -6,15 +6,6 @@ use borrow.Author.Needs.{needs}
 use Rattle.make.proofs.make_long.Statement.{statement}
 use Rattle.make.proofs.make_long.Tie as tie
 
-slice-aggregate-normalise-opened : tie.Need-slice-aggregate-normalise-opened
-slice-aggregate-normalise-opened c = search needs
-
-normalise-opened-requires : tie.Need-normalise-opened-requires
-normalise-opened-requires c κs = search needs
-
-enum-known-n : tie.Need-enum-known-n
-enum-known-n c = search needs
-
 array-share-prefix-long : tie.Need-array-share-prefix-long
 array-share-prefix-long c =
     let bn = c .before .before in
@@ -46,15 +37,6 @@ make-learned-requires c κs =
       needed-given (a .store .now) (a .mine .now) (a .knowledge .now) (a .w) (ba .pre) _ _ _ (bk .normalise-opened .ensures) _ (bn .n .given .1),
     )
 
-enum-known-n-2 : tie.Need-enum-known-n-2
-enum-known-n-2 c = search needs
-
-same-length : tie.Need-same-length
-same-length c = search needs
-
-returns : tie.Need-returns
-returns c = search needs
-
 returns-2 : tie.Need-returns-2
 returns-2 c =
     let bn = c .before in
@@ -68,13 +50,13 @@ pub make-long-spec : {M : Type 1} → statement M
 make-long-spec =
     tie.close
     (tie.spec
-    slice-aggregate-normalise-opened
-    normalise-opened-requires
-    enum-known-n
+    (λ c. search needs)  -- slice-aggregate-normalise-opened
+    (λ c κs. search needs)  -- normalise-opened-requires
+    (λ c. search needs)  -- enum-known-n
     array-share-prefix-long
     slice-aggregate-make-learned
     make-learned-requires
-    enum-known-n-2
-    same-length
-    returns
+    (λ c. search needs)  -- enum-known-n-2
+    (λ c. search needs)  -- same-length
+    (λ c. search needs)  -- returns
     returns-2)

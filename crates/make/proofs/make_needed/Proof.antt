@@ -6,24 +6,6 @@ use borrow.Author.Needs.{needs}
 use Rattle.make.proofs.make_needed.Statement.{statement}
 use Rattle.make.proofs.make_needed.Tie as tie
 
-make-long-requires : tie.Need-make-long-requires
-make-long-requires c κs = search needs
-
-same-length : tie.Need-same-length
-same-length c = search needs
-
-returns : tie.Need-returns
-returns c = search needs
-
-slice-aggregate-normalise-opened : tie.Need-slice-aggregate-normalise-opened
-slice-aggregate-normalise-opened c = search needs
-
-normalise-opened-requires : tie.Need-normalise-opened-requires
-normalise-opened-requires c κs = search needs
-
-enum-known-n : tie.Need-enum-known-n
-enum-known-n c = search needs
-
 array-share-prefix-short : tie.Need-array-share-prefix-short
 array-share-prefix-short c =
     let bn = c .before .before in
@@ -55,24 +37,6 @@ make-learned-requires c κs =
       needed-given (a .store .now) (a .mine .now) (a .knowledge .now) (a .w) (ba .pre) _ _ _ (bk .normalise-opened .ensures) _ (bn .n .given .1),
     )
 
-enum-known-n-2 : tie.Need-enum-known-n-2
-enum-known-n-2 c = search needs
-
-make-long-requires-2 : tie.Need-make-long-requires-2
-make-long-requires-2 c κs = search needs
-
-same-length-2 : tie.Need-same-length-2
-same-length-2 c = search needs
-
-returns-2 : tie.Need-returns-2
-returns-2 c = search needs
-
-same-length-3 : tie.Need-same-length-3
-same-length-3 c = search needs
-
-returns-3 : tie.Need-returns-3
-returns-3 c = search needs
-
 returns-4 : tie.Need-returns-4
 returns-4 c =
     let bn = c .before .before in
@@ -86,19 +50,19 @@ pub make-needed-spec : {M : Type 1} → statement M
 make-needed-spec =
     tie.close
     (tie.spec
-    make-long-requires
-    same-length
-    returns
-    slice-aggregate-normalise-opened
-    normalise-opened-requires
-    enum-known-n
+    (λ c κs. search needs)  -- make-long-requires
+    (λ c. search needs)  -- same-length
+    (λ c. search needs)  -- returns
+    (λ c. search needs)  -- slice-aggregate-normalise-opened
+    (λ c κs. search needs)  -- normalise-opened-requires
+    (λ c. search needs)  -- enum-known-n
     array-share-prefix-short
     slice-aggregate-make-learned
     make-learned-requires
-    enum-known-n-2
-    make-long-requires-2
-    same-length-2
-    returns-2
-    same-length-3
-    returns-3
+    (λ c. search needs)  -- enum-known-n-2
+    (λ c κs. search needs)  -- make-long-requires-2
+    (λ c. search needs)  -- same-length-2
+    (λ c. search needs)  -- returns-2
+    (λ c. search needs)  -- same-length-3
+    (λ c. search needs)  -- returns-3
     returns-4)

@@ -5,9 +5,6 @@ use borrow.Author.Needs.{needs}
 use Rattle.make.proofs.make_open.Statement.{statement}
 use Rattle.make.proofs.make_open.Tie as tie
 
-wrong-span-requires : tie.Need-wrong-span-requires
-wrong-span-requires c κs = search needs
-
 returns : tie.Need-returns
 returns c =
     let b1 = c .before in
@@ -15,24 +12,6 @@ returns c =
     let a = b7 .args in
     make-no-span (a .limits) (a .store .now) (a .own) (a .knowledge .now) (a .given) (b7 .pre) (a .first .now) (a .last .now) (a .out .now)
     (sym (b1 .wrong-span .ensures) ∙ c .if1 .taken)
-
-item-of-requires : tie.Need-item-of-requires
-item-of-requires c κs = search needs
-
-item-of-requires-2 : tie.Need-item-of-requires-2
-item-of-requires-2 c κs = search needs
-
-add-table : tie.Need-add-table
-add-table c = search needs
-
-sub-make-needed : tie.Need-sub-make-needed
-sub-make-needed c = search needs
-
-part-make-needed-start : tie.Need-part-make-needed-start
-part-make-needed-start c = search needs
-
-part-make-needed-end : tie.Need-part-make-needed-end
-part-make-needed-end c = search needs
 
 make-needed-requires : tie.Need-make-needed-requires
 make-needed-requires c κs =
@@ -45,9 +24,6 @@ make-needed-requires c κs =
     parts (a .limits) (a .store .now) (a .own) (a .knowledge .now) (a .given) (b13 .pre) (a .first .now) (a .last .now) (a .out .now)
     (sym (b7 .wrong-span .ensures) ∙ b6 .if1 .left) _ _ (b5 .item-of .ensures .0) (b4 .item-of2 .ensures .0)
     (b5 .item-of .ensures .1) (b4 .item-of2 .ensures .1) _ refl
-
-same-length : tie.Need-same-length
-same-length c = search needs
 
 returns-2 : tie.Need-returns-2
 returns-2 c =
@@ -66,14 +42,14 @@ pub make-open-spec : {M : Type 1} → statement M
 make-open-spec =
     tie.close
     (tie.spec
-    wrong-span-requires
+    (λ c κs. search needs)  -- wrong-span-requires
     returns
-    item-of-requires
-    item-of-requires-2
-    add-table
-    sub-make-needed
-    part-make-needed-start
-    part-make-needed-end
+    (λ c κs. search needs)  -- item-of-requires
+    (λ c κs. search needs)  -- item-of-requires-2
+    (λ c. search needs)  -- add-table
+    (λ c. search needs)  -- sub-make-needed
+    (λ c. search needs)  -- part-make-needed-start
+    (λ c. search needs)  -- part-make-needed-end
     make-needed-requires
-    same-length
+    (λ c. search needs)  -- same-length
     returns-2)

@@ -6,15 +6,6 @@ use borrow.Author.Needs.{needs}
 use Rattle.make.proofs.make_within.Statement.{statement}
 use Rattle.make.proofs.make_within.Tie as tie
 
-open-store-requires : tie.Need-open-store-requires
-open-store-requires c κs = search needs
-
-enum-known-own : tie.Need-enum-known-own
-enum-known-own c = search needs
-
-enum-told : tie.Need-enum-told
-enum-told c = search needs
-
 returns : tie.Need-returns
 returns c =
     let b2 = c .before .before in
@@ -22,12 +13,6 @@ returns c =
     let a = b8 .args in
     make-not-store (a .limits) (a .store .now) (a .knowledge .now) (a .first .now) (a .last .now) _ (b2 .open-store .ensures) (a .out .now)
     (c .enum-told .given .1)
-
-open-within-requires : tie.Need-open-within-requires
-open-within-requires c κs = search needs
-
-enum-known-given : tie.Need-enum-known-given
-enum-known-given c = search needs
 
 make-open-requires : tie.Need-make-open-requires
 make-open-requires c κs =
@@ -43,12 +28,6 @@ make-open-requires c κs =
     let z : Bytes (a .knowledge .now) = record { below = λ i. omega (arith, b12 .shared-slice-known2 .given i) } in
     make-inputs (a .limits) (a .store .now) (a .knowledge .now) (a .first .now) (a .last .now) _ (b8 .open-store .ensures) (a .out .now)
     y _ _ (b6 .own .given .1) _ (b4 .open-within .ensures) z _ (b2 .given .given .1)
-
-enum-known-n : tie.Need-enum-known-n
-enum-known-n c = search needs
-
-same-length : tie.Need-same-length
-same-length c = search needs
 
 returns-2 : tie.Need-returns-2
 returns-2 c = c .before .before .make-open .ensures
@@ -70,14 +49,14 @@ pub make-within-spec : {M : Type 1} → statement M
 make-within-spec =
     tie.close
     (tie.spec
-    open-store-requires
-    enum-known-own
-    enum-told
+    (λ c κs. search needs)  -- open-store-requires
+    (λ c. search needs)  -- enum-known-own
+    (λ c. search needs)  -- enum-told
     returns
-    open-within-requires
-    enum-known-given
+    (λ c κs. search needs)  -- open-within-requires
+    (λ c. search needs)  -- enum-known-given
     make-open-requires
-    enum-known-n
-    same-length
+    (λ c. search needs)  -- enum-known-n
+    (λ c. search needs)  -- same-length
     returns-2
     returns-3)

@@ -3,14 +3,11 @@ use borrow.Author.Needs.{needs}
 use Rattle.make.proofs.select_records.Statement.{statement}
 use Rattle.make.proofs.select_records.Tie as tie
 
-select-requires : tie.Need-select-requires
-select-requires c κs = tt
-
-same-length : tie.Need-same-length
-same-length c = search needs
-
 returns : tie.Need-returns
 returns c = (c .before .before .select .ensures .0, c .before .before .select .ensures .1)
 
 pub select-records-spec : {M : Type 1} → statement M
-select-records-spec = tie.close (tie.spec select-requires same-length returns)
+select-records-spec = tie.close (tie.spec
+    (λ c κs. tt)  -- select-requires
+    (λ c. search needs)  -- same-length
+    returns)

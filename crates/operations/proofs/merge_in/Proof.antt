@@ -4,24 +4,6 @@ use borrow.Author.Needs.{needs}
 use Rattle.operations.proofs.merge_in.Statement.{statement}
 use Rattle.operations.proofs.merge_in.Tie as tie
 
-fill-two-requires : tie.Need-fill-two-requires
-fill-two-requires c κs = search needs
-
-conclude-requires : tie.Need-conclude-requires
-conclude-requires c κs = search needs
-
-same-length : tie.Need-same-length
-same-length c = search needs
-
-same-length-2 : tie.Need-same-length-2
-same-length-2 c = search needs
-
-same-length-3 : tie.Need-same-length-3
-same-length-3 c = search needs
-
-same-length-4 : tie.Need-same-length-4
-same-length-4 c = search needs
-
 returns : tie.Need-returns
 returns c =
     let f = c .before .before .before .before .before .before .before .before .before .before .before .before .before in
@@ -34,10 +16,10 @@ pub merge-in-spec : {M : Type 1} → statement M
 merge-in-spec =
     tie.close
     (tie.spec
-    fill-two-requires
-    conclude-requires
-    same-length
-    same-length-2
-    same-length-3
-    same-length-4
+    (λ c κs. search needs)  -- fill-two-requires
+    (λ c κs. search needs)  -- conclude-requires
+    (λ c. search needs)  -- same-length
+    (λ c. search needs)  -- same-length-2
+    (λ c. search needs)  -- same-length-3
+    (λ c. search needs)  -- same-length-4
     returns)

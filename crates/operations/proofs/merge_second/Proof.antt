@@ -13,21 +13,6 @@ use borrow.Author.Needs.{needs}
 use Rattle.operations.proofs.merge_second.Statement.{statement}
 use Rattle.operations.proofs.merge_second.Tie as tie
 
-open-within-requires : tie.Need-open-within-requires
-open-within-requires c κs = search needs
-
-enum-known-w : tie.Need-enum-known-w
-enum-known-w c = search needs
-
-merge-opened-requires : tie.Need-merge-opened-requires
-merge-opened-requires c κs = search needs
-
-enum-known-n : tie.Need-enum-known-n
-enum-known-n c = search needs
-
-same-length : tie.Need-same-length
-same-length c = search needs
-
 returns : tie.Need-returns
 returns c =
     let b4 = c .before .before .before .before in
@@ -50,10 +35,10 @@ pub merge-second-spec : {M : Type 1} → statement M
 merge-second-spec =
     tie.close
     (tie.spec
-    open-within-requires
-    enum-known-w
-    merge-opened-requires
-    enum-known-n
-    same-length
+    (λ c κs. search needs)  -- open-within-requires
+    (λ c. search needs)  -- enum-known-w
+    (λ c κs. search needs)  -- merge-opened-requires
+    (λ c. search needs)  -- enum-known-n
+    (λ c. search needs)  -- same-length
     returns
     returns-2)

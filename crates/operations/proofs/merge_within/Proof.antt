@@ -11,26 +11,11 @@ use borrow.Author.Needs.{needs}
 use Rattle.operations.proofs.merge_within.Statement.{statement}
 use Rattle.operations.proofs.merge_within.Tie as tie
 
-open-within-requires : tie.Need-open-within-requires
-open-within-requires c κs = search needs
-
-enum-known-v : tie.Need-enum-known-v
-enum-known-v c = search needs
-
 merge-second-requires : tie.Need-merge-second-requires
 merge-second-requires c κs =
     let a = c .before .before .before .before .before .before .before .before .args in
     let b : Bytes (a .first .now) = record { below = λ i. omega (arith, c .before .before .before .before .before .before .before .shared-slice-known .given i) } in
     opens-within (a .replicas) (a .ranges) _ _ (c .before .before .before .before .open-within .ensures) b _ (c .before .before .v .given .1)
-
-enum-known-n : tie.Need-enum-known-n
-enum-known-n c = search needs
-
-same-length : tie.Need-same-length
-same-length c = search needs
-
-returns : tie.Need-returns
-returns c = search needs
 
 returns-2 : tie.Need-returns-2
 returns-2 c =
@@ -44,10 +29,10 @@ pub merge-within-spec : {M : Type 1} → statement M
 merge-within-spec =
     tie.close
     (tie.spec
-    open-within-requires
-    enum-known-v
+    (λ c κs. search needs)  -- open-within-requires
+    (λ c. search needs)  -- enum-known-v
     merge-second-requires
-    enum-known-n
-    same-length
-    returns
+    (λ c. search needs)  -- enum-known-n
+    (λ c. search needs)  -- same-length
+    (λ c. search needs)  -- returns
     returns-2)

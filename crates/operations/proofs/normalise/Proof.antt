@@ -5,16 +5,13 @@ use Rattle.operations.proofs.Replies.{ended-basic}
 use Rattle.operations.proofs.normalise.Statement.{statement}
 use Rattle.operations.proofs.normalise.Tie as tie
 
-normalise-within-requires : tie.Need-normalise-within-requires
-normalise-within-requires c κs = search needs
-
-same-length : tie.Need-same-length
-same-length c = search needs
-
 returns : tie.Need-returns
 returns c =
     let e = c .before .before .normalise-within .ensures in
     ended-basic (λ R. normaliseReply R (c .before .before .before .before .before .before .args .knowledge .now)) _ _ _ e
 
 pub normalise-spec : {M : Type 1} → statement M
-normalise-spec = tie.close (tie.spec normalise-within-requires same-length returns)
+normalise-spec = tie.close (tie.spec
+    (λ c κs. search needs)  -- normalise-within-requires
+    (λ c. search needs)  -- same-length
+    returns)

@@ -12,21 +12,6 @@ use borrow.Author.Needs.{needs}
 use Rattle.operations.proofs.normalise_within.Statement.{statement}
 use Rattle.operations.proofs.normalise_within.Tie as tie
 
-open-within-requires : tie.Need-open-within-requires
-open-within-requires c κs = search needs
-
-enum-known-v : tie.Need-enum-known-v
-enum-known-v c = search needs
-
-normalise-opened-requires : tie.Need-normalise-opened-requires
-normalise-opened-requires c κs = search needs
-
-enum-known-n : tie.Need-enum-known-n
-enum-known-n c = search needs
-
-same-length : tie.Need-same-length
-same-length c = search needs
-
 returns : tie.Need-returns
 returns c =
     let b4 = c .before .before .before .before in
@@ -49,10 +34,10 @@ pub normalise-within-spec : {M : Type 1} → statement M
 normalise-within-spec =
     tie.close
     (tie.spec
-    open-within-requires
-    enum-known-v
-    normalise-opened-requires
-    enum-known-n
-    same-length
+    (λ c κs. search needs)  -- open-within-requires
+    (λ c. search needs)  -- enum-known-v
+    (λ c κs. search needs)  -- normalise-opened-requires
+    (λ c. search needs)  -- enum-known-n
+    (λ c. search needs)  -- same-length
     returns
     returns-2)

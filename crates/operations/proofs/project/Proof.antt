@@ -5,16 +5,13 @@ use borrow.Author.Needs.{needs}
 use Rattle.operations.proofs.project.Statement.{statement}
 use Rattle.operations.proofs.project.Tie as tie
 
-project-within-requires : tie.Need-project-within-requires
-project-within-requires c κs = search needs
-
-same-length : tie.Need-same-length
-same-length c = search needs
-
 returns : tie.Need-returns
 returns c =
     let a = c .before .before .before .before .before .before .before .before .args in
     ended-basic (λ R. projectReply R (a .knowledge .now) (a .first .now) (a .last .now)) _ _ _ (c .before .before .project-within .ensures)
 
 pub project-spec : {M : Type 1} → statement M
-project-spec = tie.close (tie.spec project-within-requires same-length returns)
+project-spec = tie.close (tie.spec
+    (λ c κs. search needs)  -- project-within-requires
+    (λ c. search needs)  -- same-length
+    returns)

@@ -11,9 +11,6 @@ use borrow.Author.Needs.{needs}
 use Rattle.operations.proofs.project_span.Statement.{statement}
 use Rattle.operations.proofs.project_span.Tie as tie
 
-wrong-span-requires : tie.Need-wrong-span-requires
-wrong-span-requires c κs = search needs
-
 returns : tie.Need-returns
 returns c =
     let a = c .before .before .before .before .before .before .args in
@@ -21,18 +18,6 @@ returns c =
     ended-refused (projectReply R (a .s .now) (a .first .now) (a .last .now)) _ _
     (project-span R (a .s .now) _ _ (decode (a .s .now)) (opened-read R _ _ _ (c .before .before .before .before .before .before .pre)) (sym
     (c .before .wrong-span .ensures) ∙ c .if1 .taken))
-
-item-of-requires : tie.Need-item-of-requires
-item-of-requires c κs = search needs
-
-item-of-requires-2 : tie.Need-item-of-requires-2
-item-of-requires-2 c κs = search needs
-
-project-opened-requires : tie.Need-project-opened-requires
-project-opened-requires c κs = search needs
-
-same-length : tie.Need-same-length
-same-length c = search needs
 
 returns-2 : tie.Need-returns-2
 returns-2 c =
@@ -49,10 +34,10 @@ pub project-span-spec : {M : Type 1} → statement M
 project-span-spec =
     tie.close
     (tie.spec
-    wrong-span-requires
+    (λ c κs. search needs)  -- wrong-span-requires
     returns
-    item-of-requires
-    item-of-requires-2
-    project-opened-requires
-    same-length
+    (λ c κs. search needs)  -- item-of-requires
+    (λ c κs. search needs)  -- item-of-requires-2
+    (λ c κs. search needs)  -- project-opened-requires
+    (λ c. search needs)  -- same-length
     returns-2)

@@ -11,12 +11,6 @@ use borrow.Author.Needs.{needs}
 use Rattle.operations.proofs.project_within.Statement.{statement}
 use Rattle.operations.proofs.project_within.Tie as tie
 
-open-within-requires : tie.Need-open-within-requires
-open-within-requires c κs = search needs
-
-enum-known-v : tie.Need-enum-known-v
-enum-known-v c = search needs
-
 project-span-requires : tie.Need-project-span-requires
 project-span-requires c κs =
     let b4 = c .before .before .before .before in
@@ -24,15 +18,6 @@ project-span-requires c κs =
     let a = b8 .before .args in
     let b : Bytes (a .knowledge .now) = record { below = λ i. omega (arith, b8 .shared-slice-known .given i) } in
     opens-within (a .replicas) (a .ranges) _ _ (b4 .open-within .ensures) b _ (c .before .before .v .given .1)
-
-enum-known-n : tie.Need-enum-known-n
-enum-known-n c = search needs
-
-same-length : tie.Need-same-length
-same-length c = search needs
-
-returns : tie.Need-returns
-returns c = search needs
 
 returns-2 : tie.Need-returns-2
 returns-2 c =
@@ -46,10 +31,10 @@ pub project-within-spec : {M : Type 1} → statement M
 project-within-spec =
     tie.close
     (tie.spec
-    open-within-requires
-    enum-known-v
+    (λ c κs. search needs)  -- open-within-requires
+    (λ c. search needs)  -- enum-known-v
     project-span-requires
-    enum-known-n
-    same-length
-    returns
+    (λ c. search needs)  -- enum-known-n
+    (λ c. search needs)  -- same-length
+    (λ c. search needs)  -- returns
     returns-2)

@@ -8,12 +8,6 @@ use Rattle.records.proofs.behind.Tie as tie
 returns : tie.Need-returns
 returns c = behind-past _ _ (c .if1 .taken)
 
-one-requires : tie.Need-one-requires
-one-requires c κs = search needs
-
-record-length-requires : tie.Need-record-length-requires
-record-length-requires c κs = search needs
-
 add-result : tie.Need-add-result
 add-result c = omega (arith, length-most (c .before .one .result), c .record-length .ensures)
 
@@ -21,4 +15,9 @@ returns-2 : tie.Need-returns-2
 returns-2 c = behind-added _ _ _ _ (c .before .one .ensures .0) (c .record-length .ensures)
 
 pub behind-spec : {M : Type 1} → statement M
-behind-spec = tie.close (tie.spec returns one-requires record-length-requires add-result returns-2)
+behind-spec = tie.close (tie.spec
+    returns
+    (λ c κs. search needs)  -- one-requires
+    (λ c κs. search needs)  -- record-length-requires
+    add-result
+    returns-2)

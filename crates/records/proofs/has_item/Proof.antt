@@ -4,17 +4,12 @@ use borrow.Author.Needs.{needs}
 use Rattle.records.proofs.has_item.Statement.{statement}
 use Rattle.records.proofs.has_item.Tie as tie
 
-add-item-there : tie.Need-add-item-there
-add-item-there c = search needs
-
-item-there-requires : tie.Need-item-there-requires
-item-there-requires c κs = search needs
-
-same3-requires : tie.Need-same3-requires
-same3-requires c κs = search needs
-
 returns : tie.Need-returns
 returns c = same-item _ _ _ _ (c .before .item-there .ensures) _ (c .same3 .ensures)
 
 pub has-item-spec : {M : Type 1} → statement M
-has-item-spec = tie.close (tie.spec add-item-there item-there-requires same3-requires returns)
+has-item-spec = tie.close (tie.spec
+    (λ c. search needs)  -- add-item-there
+    (λ c κs. search needs)  -- item-there-requires
+    (λ c κs. search needs)  -- same3-requires
+    returns)

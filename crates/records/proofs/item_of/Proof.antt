@@ -5,12 +5,6 @@ use borrow.Author.Needs.{needs}
 use Rattle.records.proofs.item_of.Statement.{statement}
 use Rattle.records.proofs.item_of.Tie as tie
 
-add-beyond : tie.Need-add-beyond
-add-beyond c = search needs
-
-beyond-requires : tie.Need-beyond-requires
-beyond-requires c κs = search needs
-
 returns : tie.Need-returns
 returns c = item-missing _ _ (omega (arith, c .before .beyond .ensures .0 (c .if1 .taken)))
 
@@ -28,4 +22,10 @@ returns-2 c =
 pub item-of-spec : {M : Type 1} → statement M
 item-of-spec =
     tie.close
-    (tie.spec add-beyond beyond-requires returns add-item-there item-there-requires returns-2)
+    (tie.spec
+    (λ c. search needs)  -- add-beyond
+    (λ c κs. search needs)  -- beyond-requires
+    returns
+    add-item-there
+    item-there-requires
+    returns-2)

@@ -8,15 +8,6 @@ use Rattle.records.proofs.length_at.Tie as tie
 returns : tie.Need-returns
 returns c = length-past _ _ (c .if1 .taken)
 
-one-requires : tie.Need-one-requires
-one-requires c κs = search needs
-
-record-length-requires : tie.Need-record-length-requires
-record-length-requires c κs = search needs
-
-sub-if2 : tie.Need-sub-if2
-sub-if2 c = search needs
-
 returns-2 : tie.Need-returns-2
 returns-2 c =
     length-cut _ _ _ _ (c .before .before .one .ensures .0) (c .before .record-length .ensures) (omega arith)
@@ -29,4 +20,10 @@ returns-3 c =
 
 pub length-at-spec : {M : Type 1} → statement M
 length-at-spec =
-    tie.close (tie.spec returns one-requires record-length-requires sub-if2 returns-2 returns-3)
+    tie.close (tie.spec
+    returns
+    (λ c κs. search needs)  -- one-requires
+    (λ c κs. search needs)  -- record-length-requires
+    (λ c. search needs)  -- sub-if2
+    returns-2
+    returns-3)

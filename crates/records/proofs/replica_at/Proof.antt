@@ -6,12 +6,6 @@ use borrow.Author.Needs.{needs}
 use Rattle.records.proofs.replica_at.Statement.{statement}
 use Rattle.records.proofs.replica_at.Tie as tie
 
-add-beyond : tie.Need-add-beyond
-add-beyond c = search needs
-
-beyond-requires : tie.Need-beyond-requires
-beyond-requires c κs = search needs
-
 returns : tie.Need-returns
 returns c = replica-missing _ _ (omega (arith, c .before .beyond .ensures .0 (c .if1 .taken)))
 
@@ -24,17 +18,8 @@ add-eight-2 c = omega (arith, c .before .beyond .ensures .1 (c .if1 .left))
 add-eight-3 : tie.Need-add-eight-3
 add-eight-3 c = omega (arith, c .before .beyond .ensures .1 (c .if1 .left))
 
-sub-eight : tie.Need-sub-eight
-sub-eight c = search needs
-
-part-eight-start : tie.Need-part-eight-start
-part-eight-start c = search needs
-
 part-eight-end : tie.Need-part-eight-end
 part-eight-end c = omega (arith, c .before .beyond .ensures .1 (c .if1 .left))
-
-eight-requires : tie.Need-eight-requires
-eight-requires c κs = search needs
 
 add-eight-4 : tie.Need-add-eight-4
 add-eight-4 c = omega (arith, c .before .before .before .beyond .ensures .1 (c .before .before .if1 .left))
@@ -51,17 +36,8 @@ add-eight-7 c = omega (arith, c .before .before .before .beyond .ensures .1 (c .
 add-eight-8 : tie.Need-add-eight-8
 add-eight-8 c = omega (arith, c .before .before .before .beyond .ensures .1 (c .before .before .if1 .left))
 
-sub-eight-2 : tie.Need-sub-eight-2
-sub-eight-2 c = search needs
-
-part-eight-start-2 : tie.Need-part-eight-start-2
-part-eight-start-2 c = search needs
-
 part-eight-end-2 : tie.Need-part-eight-end-2
 part-eight-end-2 c = omega (arith, c .before .before .before .beyond .ensures .1 (c .before .before .if1 .left))
-
-eight-requires-2 : tie.Need-eight-requires-2
-eight-requires-2 c κs = search needs
 
 returns-2 : tie.Need-returns-2
 returns-2 c =
@@ -73,23 +49,23 @@ pub replica-at-spec : {M : Type 1} → statement M
 replica-at-spec =
     tie.close
     (tie.spec
-    add-beyond
-    beyond-requires
+    (λ c. search needs)  -- add-beyond
+    (λ c κs. search needs)  -- beyond-requires
     returns
     add-eight
     add-eight-2
     add-eight-3
-    sub-eight
-    part-eight-start
+    (λ c. search needs)  -- sub-eight
+    (λ c. search needs)  -- part-eight-start
     part-eight-end
-    eight-requires
+    (λ c κs. search needs)  -- eight-requires
     add-eight-4
     add-eight-5
     add-eight-6
     add-eight-7
     add-eight-8
-    sub-eight-2
-    part-eight-start-2
+    (λ c. search needs)  -- sub-eight-2
+    (λ c. search needs)  -- part-eight-start-2
     part-eight-end-2
-    eight-requires-2
+    (λ c κs. search needs)  -- eight-requires-2
     returns-2)

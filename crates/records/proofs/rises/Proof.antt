@@ -4,9 +4,6 @@ use borrow.Author.Needs.{needs}
 use Rattle.records.proofs.rises.Statement.{statement}
 use Rattle.records.proofs.rises.Tie as tie
 
-less3-requires : tie.Need-less3-requires
-less3-requires c κs = search needs
-
 returns : tie.Need-returns
 returns c = rises-above _ _ _ _ _ (c .before .if1 .taken) _ (c .less3 .ensures)
 
@@ -14,4 +11,7 @@ returns-2 : tie.Need-returns-2
 returns-2 c = rises-first _ _ _ _ _ (c .if1 .left)
 
 pub rises-spec : {M : Type 1} → statement M
-rises-spec = tie.close (tie.spec less3-requires returns returns-2)
+rises-spec = tie.close (tie.spec
+    (λ c κs. search needs)  -- less3-requires
+    returns
+    returns-2)

@@ -8,12 +8,6 @@ use borrow.Author.Needs.{needs}
 use Rattle.records.proofs.tick_at.Statement.{statement}
 use Rattle.records.proofs.tick_at.Tie as tie
 
-add-beyond : tie.Need-add-beyond
-add-beyond c = search needs
-
-beyond-requires : tie.Need-beyond-requires
-beyond-requires c κs = search needs
-
 returns : tie.Need-returns
 returns c = sym (read-missing _ 8 _ (omega (arith, c .before .beyond .ensures .0 (c .if1 .taken))))
 
@@ -26,17 +20,8 @@ add-eight-2 c = omega (arith, c .before .beyond .ensures .1 (c .if1 .left))
 add-eight-3 : tie.Need-add-eight-3
 add-eight-3 c = omega (arith, c .before .beyond .ensures .1 (c .if1 .left))
 
-sub-eight : tie.Need-sub-eight
-sub-eight c = search needs
-
-part-eight-start : tie.Need-part-eight-start
-part-eight-start c = search needs
-
 part-eight-end : tie.Need-part-eight-end
 part-eight-end c = omega (arith, c .before .beyond .ensures .1 (c .if1 .left))
-
-eight-requires : tie.Need-eight-requires
-eight-requires c κs = search needs
 
 returns-2 : tie.Need-returns-2
 returns-2 c =
@@ -47,14 +32,14 @@ pub tick-at-spec : {M : Type 1} → statement M
 tick-at-spec =
     tie.close
     (tie.spec
-    add-beyond
-    beyond-requires
+    (λ c. search needs)  -- add-beyond
+    (λ c κs. search needs)  -- beyond-requires
     returns
     add-eight
     add-eight-2
     add-eight-3
-    sub-eight
-    part-eight-start
+    (λ c. search needs)  -- sub-eight
+    (λ c. search needs)  -- part-eight-start
     part-eight-end
-    eight-requires
+    (λ c κs. search needs)  -- eight-requires
     returns-2)

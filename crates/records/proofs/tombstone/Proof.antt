@@ -4,11 +4,10 @@ use borrow.Author.Needs.{needs}
 use Rattle.records.proofs.tombstone.Statement.{statement}
 use Rattle.records.proofs.tombstone.Tie as tie
 
-read1-requires : tie.Need-read1-requires
-read1-requires c κs = search needs
-
 returns : tie.Need-returns
 returns c = deleted-read _ _ _ (c .read1 .ensures .0)
 
 pub tombstone-spec : {M : Type 1} → statement M
-tombstone-spec = tie.close (tie.spec read1-requires returns)
+tombstone-spec = tie.close (tie.spec
+    (λ c κs. search needs)  -- read1-requires
+    returns)

@@ -4,21 +4,6 @@ use borrow.Author.Needs.{needs}
 use Rattle.records.proofs.wins.Statement.{statement}
 use Rattle.records.proofs.wins.Tie as tie
 
-change-tick-requires : tie.Need-change-tick-requires
-change-tick-requires c κs = search needs
-
-change-tick-requires-2 : tie.Need-change-tick-requires-2
-change-tick-requires-2 c κs = search needs
-
-change-replica-requires : tie.Need-change-replica-requires
-change-replica-requires c κs = search needs
-
-change-replica-requires-2 : tie.Need-change-replica-requires-2
-change-replica-requires-2 c κs = search needs
-
-less2-requires : tie.Need-less2-requires
-less2-requires c κs = search needs
-
 returns : tie.Need-returns
 returns c =
     wins-by-replica _ _ _ _ _ _ (c .before .before .before .before .before .change-tick .ensures)
@@ -33,10 +18,10 @@ pub wins-spec : {M : Type 1} → statement M
 wins-spec =
     tie.close
     (tie.spec
-    change-tick-requires
-    change-tick-requires-2
-    change-replica-requires
-    change-replica-requires-2
-    less2-requires
+    (λ c κs. search needs)  -- change-tick-requires
+    (λ c κs. search needs)  -- change-tick-requires-2
+    (λ c κs. search needs)  -- change-replica-requires
+    (λ c κs. search needs)  -- change-replica-requires-2
+    (λ c κs. search needs)  -- less2-requires
     returns
     returns-2)

@@ -5,31 +5,10 @@ use Rattle.records_join.proofs.Copies.{first-copied, later-copied}
 use Rattle.records_join.proofs.copy_from.Statement.{statement}
 use Rattle.records_join.proofs.copy_from.Tie as tie
 
-copy-record-requires : tie.Need-copy-record-requires
-copy-record-requires c κs = search needs
-
-length-at-requires : tie.Need-length-at-requires
-length-at-requires c κs = search needs
-
-same-length : tie.Need-same-length
-same-length c = search needs
-
 returns : tie.Need-returns
 returns c =
     first-copied _ _ _ _ _ _ _ (c .before .before .before .before .before .if1 .taken) (c .length-at .ensures)
     (c .before .before .before .copy-record .ensures)
-
-sub-b : tie.Need-sub-b
-sub-b c = search needs
-
-copy-record-requires-2 : tie.Need-copy-record-requires-2
-copy-record-requires-2 c κs = search needs
-
-length-at-requires-2 : tie.Need-length-at-requires-2
-length-at-requires-2 c κs = search needs
-
-same-length-2 : tie.Need-same-length-2
-same-length-2 c = search needs
 
 returns-2 : tie.Need-returns-2
 returns-2 c = later-copied _ _ _ _ _ _ _ (omega arith) (c .length-at2 .ensures) (c .before .before .before .copy-record2 .ensures)
@@ -38,12 +17,12 @@ pub copy-from-spec : {M : Type 1} → statement M
 copy-from-spec =
     tie.close
     (tie.spec
-    copy-record-requires
-    length-at-requires
-    same-length
+    (λ c κs. search needs)  -- copy-record-requires
+    (λ c κs. search needs)  -- length-at-requires
+    (λ c. search needs)  -- same-length
     returns
-    sub-b
-    copy-record-requires-2
-    length-at-requires-2
-    same-length-2
+    (λ c. search needs)  -- sub-b
+    (λ c κs. search needs)  -- copy-record-requires-2
+    (λ c κs. search needs)  -- length-at-requires-2
+    (λ c. search needs)  -- same-length-2
     returns-2)

@@ -6,12 +6,6 @@ use Rattle.records_join.proofs.Steps.{steps-none, steps-first, steps-se
 use Rattle.records_join.proofs.merge_step.Statement.{statement}
 use Rattle.records_join.proofs.merge_step.Tie as tie
 
-length-at-requires : tie.Need-length-at-requires
-length-at-requires c κs = search needs
-
-length-at-requires-2 : tie.Need-length-at-requires-2
-length-at-requires-2 c κs = search needs
-
 returns : tie.Need-returns
 returns c =
     steps-none _ _ _ _ _ _ (c .before .before .before .length-at .ensures) (c .before .before .length-at2 .ensures) (c .if2 .taken)
@@ -46,15 +40,12 @@ merge-step-both-requires c κs = (
   length-inside _ _ _ (c .before .before .length-at2 .ensures) (c .before .if1 .left),
 )
 
-returns-4 : tie.Need-returns-4
-returns-4 c = search needs
-
 pub merge-step-spec : {M : Type 1} → statement M
 merge-step-spec =
     tie.close
     (tie.spec
-    length-at-requires
-    length-at-requires-2
+    (λ c κs. search needs)  -- length-at-requires
+    (λ c κs. search needs)  -- length-at-requires-2
     returns
     add-t9
     returns-2
@@ -62,4 +53,4 @@ merge-step-spec =
     add-t12
     returns-3
     merge-step-both-requires
-    returns-4)
+    (λ c. search needs))  -- returns-4

@@ -7,17 +7,10 @@ use Rattle.records_join.proofs.put.Tie as tie
 returns : tie.Need-returns
 returns c = put-past _ _ _ (c .if1 .taken)
 
-mul-l : tie.Need-mul-l
-mul-l c = search needs
-
-slice-write-l : tie.Need-slice-write-l
-slice-write-l c = search needs
-
-same-length : tie.Need-same-length
-same-length c = search needs
-
-returns-2 : tie.Need-returns-2
-returns-2 c = search needs
-
 pub put-spec : {M : Type 1} → statement M
-put-spec = tie.close (tie.spec returns mul-l slice-write-l same-length returns-2)
+put-spec = tie.close (tie.spec
+    returns
+    (λ c. search needs)  -- mul-l
+    (λ c. search needs)  -- slice-write-l
+    (λ c. search needs)  -- same-length
+    (λ c. search needs))  -- returns-2

@@ -5,25 +5,13 @@ use borrow.Author.Needs.{needs}
 use Rattle.records_join.proofs.write_record.Statement.{statement}
 use Rattle.records_join.proofs.write_record.Tie as tie
 
-beyond-requires : tie.Need-beyond-requires
-beyond-requires c κs = search needs
-
 returns : tie.Need-returns
 returns c = record-out _ _ _ (c .before .beyond .ensures .0 (c .if1 .taken))
-
-kind-of-requires : tie.Need-kind-of-requires
-kind-of-requires c κs = search needs
-
-write1-requires : tie.Need-write1-requires
-write1-requires c κs = search needs
 
 add-write-item : tie.Need-add-write-item
 add-write-item c =
     let test = c .before .before .before .before .before .before in
     omega (arith, test .before .beyond .ensures .1 (test .if1 .left))
-
-write-item-requires : tie.Need-write-item-requires
-write-item-requires c κs = search needs
 
 add-write-versions : tie.Need-add-write-versions
 add-write-versions c =
@@ -40,12 +28,6 @@ add-write16 c =
     let test = c .before .before .before .before .before .before .before .before .before .before .before .before .before .before in
     omega (arith, test .before .beyond .ensures .1 (test .if1 .left))
 
-write16-requires : tie.Need-write16-requires
-write16-requires c κs = search needs
-
-same-length : tie.Need-same-length
-same-length c = search needs
-
 returns-2 : tie.Need-returns-2
 returns-2 c =
     let tag = c .before .before in
@@ -60,15 +42,15 @@ pub write-record-spec : {M : Type 1} → statement M
 write-record-spec =
     tie.close
     (tie.spec
-    beyond-requires
+    (λ c κs. search needs)  -- beyond-requires
     returns
-    kind-of-requires
-    write1-requires
+    (λ c κs. search needs)  -- kind-of-requires
+    (λ c κs. search needs)  -- write1-requires
     add-write-item
-    write-item-requires
+    (λ c κs. search needs)  -- write-item-requires
     add-write-versions
     write-versions-requires
     add-write16
-    write16-requires
-    same-length
+    (λ c κs. search needs)  -- write16-requires
+    (λ c. search needs)  -- same-length
     returns-2)

@@ -4,15 +4,6 @@ use Rattle.records_select.proofs.Picking.{select-count, select-size, se
 use Rattle.records_select.proofs.select.Statement.{statement}
 use Rattle.records_select.proofs.select.Tie as tie
 
-from-first-requires : tie.Need-from-first-requires
-from-first-requires c κs = search needs
-
-all-lacking-requires : tie.Need-all-lacking-requires
-all-lacking-requires c κs = search needs
-
-same-length : tie.Need-same-length
-same-length c = search needs
-
 returns : tie.Need-returns
 returns c =
     let f = (c .before .before .before .before .from-first .ensures) in
@@ -22,4 +13,8 @@ returns c =
     )
 
 pub select-spec : {M : Type 1} → statement M
-select-spec = tie.close (tie.spec from-first-requires all-lacking-requires same-length returns)
+select-spec = tie.close (tie.spec
+    (λ c κs. search needs)  -- from-first-requires
+    (λ c κs. search needs)  -- all-lacking-requires
+    (λ c. search needs)  -- same-length
+    returns)

@@ -5,24 +5,12 @@ use Rattle.records_versions.proofs.Versions.{version-in-is, both-in-is,
 use Rattle.records_versions.proofs.carried_in.Statement.{statement}
 use Rattle.records_versions.proofs.carried_in.Tie as tie
 
-change-replica-requires : tie.Need-change-replica-requires
-change-replica-requires c κs = tt
-
-change-tick-requires : tie.Need-change-tick-requires
-change-tick-requires c κs = tt
-
-tick-in-requires : tie.Need-tick-in-requires
-tick-in-requires c κs = tt
-
 returns : tie.Need-returns
 returns c =
     let a = c .before .before .before .before .before .before .before .args in
     carried-has _ _ _ _ _ _ _ _ _
     (version-in-is _ _ _ _ (a .at + changeReplicaPlace) (a .at + changeTickPlace) _ _ _ _ (c .before .before .before .change-replica .ensures)
     (c .before .before .change-tick .ensures) (c .before .tick-in .ensures)) (c .if1 .taken)
-
-with-create-requires : tie.Need-with-create-requires
-with-create-requires c κs = tt
 
 returns-2 : tie.Need-returns-2
 returns-2 c =
@@ -36,9 +24,9 @@ pub carried-in-spec : {M : Type 1} → statement M
 carried-in-spec =
     tie.close
     (tie.spec
-    change-replica-requires
-    change-tick-requires
-    tick-in-requires
+    (λ c κs. tt)  -- change-replica-requires
+    (λ c κs. tt)  -- change-tick-requires
+    (λ c κs. tt)  -- tick-in-requires
     returns
-    with-create-requires
+    (λ c κs. tt)  -- with-create-requires
     returns-2)

@@ -5,15 +5,6 @@ use Rattle.records_versions.proofs.Versions.{version-in-is}
 use Rattle.records_versions.proofs.change_in.Statement.{statement}
 use Rattle.records_versions.proofs.change_in.Tie as tie
 
-change-replica-requires : tie.Need-change-replica-requires
-change-replica-requires c κs = tt
-
-change-tick-requires : tie.Need-change-tick-requires
-change-tick-requires c κs = tt
-
-tick-in-requires : tie.Need-tick-in-requires
-tick-in-requires c κs = tt
-
 returns : tie.Need-returns
 returns c = let a = c .before .before .before .before .before .args in
     version-in-is _ _ _ _ (a .at + changeReplicaPlace) (a .at + changeTickPlace) _ _ _ _
@@ -22,4 +13,8 @@ returns c = let a = c .before .before .before .before .before .args in
 
 pub change-in-spec : {M : Type 1} → statement M
 change-in-spec =
-    tie.close (tie.spec change-replica-requires change-tick-requires tick-in-requires returns)
+    tie.close (tie.spec
+    (λ c κs. tt)  -- change-replica-requires
+    (λ c κs. tt)  -- change-tick-requires
+    (λ c κs. tt)  -- tick-in-requires
+    returns)

@@ -4,9 +4,6 @@ use Rattle.records_versions.proofs.Versions.{no-later-same, no-later-ot
 use Rattle.records_versions.proofs.no_later.Statement.{statement}
 use Rattle.records_versions.proofs.no_later.Tie as tie
 
-same2-requires : tie.Need-same2-requires
-same2-requires c κs = tt
-
 returns : tie.Need-returns
 returns c =
     let a = c .before .before .args in
@@ -18,4 +15,7 @@ returns-2 c =
     no-later-other (replicaOf (a .p)) (replicaOf (a .q)) (a .tick) (a .t) _ (c .before .same2 .ensures) (c .if1 .left)
 
 pub no-later-spec : {M : Type 1} → statement M
-no-later-spec = tie.close (tie.spec same2-requires returns returns-2)
+no-later-spec = tie.close (tie.spec
+    (λ c κs. tt)  -- same2-requires
+    returns
+    returns-2)

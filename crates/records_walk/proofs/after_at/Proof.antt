@@ -5,9 +5,6 @@ use borrow.Author.Needs.{needs}
 use Rattle.records_walk.proofs.after_at.Statement.{statement}
 use Rattle.records_walk.proofs.after_at.Tie as tie
 
-length-at-requires : tie.Need-length-at-requires
-length-at-requires c κs = search needs
-
 add-result : tie.Need-add-result
 add-result c = omega (arith, after-fits _ _ _ (c .length-at .ensures))
 
@@ -15,4 +12,7 @@ returns : tie.Need-returns
 returns c = (later-added _ _ _ (c .length-at .ensures), after-added _ _ _ (c .length-at .ensures))
 
 pub after-at-spec : {M : Type 1} → statement M
-after-at-spec = tie.close (tie.spec length-at-requires add-result returns)
+after-at-spec = tie.close (tie.spec
+    (λ c κs. search needs)  -- length-at-requires
+    add-result
+    returns)

@@ -8,18 +8,6 @@ use borrow.Author.Needs.{needs}
 use Rattle.records_walk.proofs.part_at.Statement.{statement}
 use Rattle.records_walk.proofs.part_at.Tie as tie
 
-length-at-requires : tie.Need-length-at-requires
-length-at-requires c κs = search needs
-
-sub-result : tie.Need-sub-result
-sub-result c = search needs
-
-part-result-start : tie.Need-part-result-start
-part-result-start c = search needs
-
-part-result-end : tie.Need-part-result-end
-part-result-end c = search needs
-
 returns : tie.Need-returns
 returns c = (
   part-none _ _ _ (c .before .before .length-at .ensures) (c .before .if1 .taken),
@@ -30,12 +18,6 @@ returns c = (
 
 add-result : tie.Need-add-result
 add-result c = omega (arith, length-inside _ _ _ (c .before .length-at .ensures) (c .if1 .left))
-
-sub-result-2 : tie.Need-sub-result-2
-sub-result-2 c = search needs
-
-part-result-start-2 : tie.Need-part-result-start-2
-part-result-start-2 c = search needs
 
 part-result-end-2 : tie.Need-part-result-end-2
 part-result-end-2 c = length-inside _ _ _ (c .before .length-at .ensures) (c .if1 .left)
@@ -52,13 +34,13 @@ pub part-at-spec : {M : Type 1} → statement M
 part-at-spec =
     tie.close
     (tie.spec
-    length-at-requires
-    sub-result
-    part-result-start
-    part-result-end
+    (λ c κs. search needs)  -- length-at-requires
+    (λ c. search needs)  -- sub-result
+    (λ c. search needs)  -- part-result-start
+    (λ c. search needs)  -- part-result-end
     returns
     add-result
-    sub-result-2
-    part-result-start-2
+    (λ c. search needs)  -- sub-result-2
+    (λ c. search needs)  -- part-result-start-2
     part-result-end-2
     returns-2)

@@ -7,21 +7,6 @@ use Rattle.store_headers.proofs.write_batch_header.Tie as tie
 returns : tie.Need-returns
 returns c = batch-head-short _ _ _ _ _ _ (c .if1 .taken)
 
-write1-requires : tie.Need-write1-requires
-write1-requires c κs = search needs
-
-write-span-requires : tie.Need-write-span-requires
-write-span-requires c κs = search needs
-
-write-sizes-requires : tie.Need-write-sizes-requires
-write-sizes-requires c κs = search needs
-
-write4-requires : tie.Need-write4-requires
-write4-requires c κs = search needs
-
-same-length : tie.Need-same-length
-same-length c = search needs
-
 returns-2 : tie.Need-returns-2
 returns-2 c =
     let count = c .before .before in
@@ -36,9 +21,9 @@ write-batch-header-spec =
     tie.close
     (tie.spec
     returns
-    write1-requires
-    write-span-requires
-    write-sizes-requires
-    write4-requires
-    same-length
+    (λ c κs. search needs)  -- write1-requires
+    (λ c κs. search needs)  -- write-span-requires
+    (λ c κs. search needs)  -- write-sizes-requires
+    (λ c κs. search needs)  -- write4-requires
+    (λ c. search needs)  -- same-length
     returns-2)

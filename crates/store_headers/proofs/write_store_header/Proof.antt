@@ -7,18 +7,6 @@ use Rattle.store_headers.proofs.write_store_header.Tie as tie
 returns : tie.Need-returns
 returns c = store-head-short _ _ _ _ (c .if1 .taken)
 
-write1-requires : tie.Need-write1-requires
-write1-requires c κs = search needs
-
-write-replica-requires : tie.Need-write-replica-requires
-write-replica-requires c κs = search needs
-
-write-sizes-requires : tie.Need-write-sizes-requires
-write-sizes-requires c κs = search needs
-
-same-length : tie.Need-same-length
-same-length c = search needs
-
 returns-2 : tie.Need-returns-2
 returns-2 c =
     let sizes = c .before .before in
@@ -32,8 +20,8 @@ write-store-header-spec =
     tie.close
     (tie.spec
     returns
-    write1-requires
-    write-replica-requires
-    write-sizes-requires
-    same-length
+    (λ c κs. search needs)  -- write1-requires
+    (λ c κs. search needs)  -- write-replica-requires
+    (λ c κs. search needs)  -- write-sizes-requires
+    (λ c. search needs)  -- same-length
     returns-2)

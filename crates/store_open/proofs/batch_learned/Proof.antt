@@ -8,15 +8,6 @@ use borrow.Author.Tests.{not-true, not-false}
 use Rattle.store_open.proofs.batch_learned.Statement.{statement}
 use Rattle.store_open.proofs.batch_learned.Tie as tie
 
-normal-part-requires : tie.Need-normal-part-requires
-normal-part-requires c κs = tt
-
-enum-known-learned : tie.Need-enum-known-learned
-enum-known-learned c = search needs
-
-enum-told : tie.Need-enum-told
-enum-told c = search needs
-
 returns : tie.Need-returns
 returns c =
     let c5 = c .before .before .before .before .before in
@@ -81,9 +72,9 @@ pub batch-learned-spec : {M : Type 1} → statement M
 batch-learned-spec =
     tie.close
     (tie.spec
-    normal-part-requires
-    enum-known-learned
-    enum-told
+    (λ c κs. tt)  -- normal-part-requires
+    (λ c. search needs)  -- enum-known-learned
+    (λ c. search needs)  -- enum-told
     returns
     inside-span-requires
     returns-2

@@ -4,15 +4,6 @@ use borrow.Author.Needs.{needs}
 use Rattle.store_open.proofs.batch_needed.Statement.{statement}
 use Rattle.store_open.proofs.batch_needed.Tie as tie
 
-normal-part-requires : tie.Need-normal-part-requires
-normal-part-requires c κs = tt
-
-enum-known-needed : tie.Need-enum-known-needed
-enum-known-needed c = search needs
-
-enum-told : tie.Need-enum-told
-enum-told c = search needs
-
 returns : tie.Need-returns
 returns c =
     let c5 = c .before .before .before .before .before in
@@ -30,9 +21,9 @@ pub batch-needed-spec : {M : Type 1} → statement M
 batch-needed-spec =
     tie.close
     (tie.spec
-    normal-part-requires
-    enum-known-needed
-    enum-told
+    (λ c κs. tt)  -- normal-part-requires
+    (λ c. search needs)  -- enum-known-needed
+    (λ c. search needs)  -- enum-told
     returns
     batch-learned-requires
     returns-2)

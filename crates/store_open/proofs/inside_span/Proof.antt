@@ -10,12 +10,13 @@ item-id-requires c κs = omega (arith, c .before .before .pre)
 item-id-requires-2 : tie.Need-item-id-requires-2
 item-id-requires-2 c κs = omega (arith, c .before .before .before .pre)
 
-inside-requires : tie.Need-inside-requires
-inside-requires c κs = tt
-
 returns : tie.Need-returns
 returns c =
     span-inside _ _ _ _ _ _ _ (c .before .before .item-id .ensures) (c .before .item-id2 .ensures) _ _ _ (c .inside .ensures)
 
 pub inside-span-spec : {M : Type 1} → statement M
-inside-span-spec = tie.close (tie.spec item-id-requires item-id-requires-2 inside-requires returns)
+inside-span-spec = tie.close (tie.spec
+    item-id-requires
+    item-id-requires-2
+    (λ c κs. tt)  -- inside-requires
+    returns)

@@ -8,15 +8,6 @@ use borrow.Author.Tests.{not-true, not-false}
 use Rattle.store_open.proofs.normal_part.Statement.{statement}
 use Rattle.store_open.proofs.normal_part.Tie as tie
 
-check-within-requires : tie.Need-check-within-requires
-check-within-requires c κs = tt
-
-enum-known-r : tie.Need-enum-known-r
-enum-known-r c = search needs
-
-enum-told : tie.Need-enum-told
-enum-told c = search needs
-
 returns : tie.Need-returns
 returns c = refused-other _ _ _ _ (c .before .before .check-within .ensures) _ (c .enum-told .given .1)
 
@@ -52,9 +43,6 @@ cast-g c = omega (
       (c .before .r .given .1),
 )
 
-normal-in-requires : tie.Need-normal-in-requires
-normal-in-requires c κs = tt
-
 returns-2 : tie.Need-returns-2
 returns-2 c =
     let c5 = c .before .before .before .before .before in
@@ -64,9 +52,6 @@ returns-2 c =
           (arith, c5 .before .shared-slice-known .given i);
     })
     (c .before .before .before .r .given .1) _ (c .before .normal-in .ensures) n (not-true _ (c .if1 .taken))
-
-start-requires : tie.Need-start-requires
-start-requires c κs = tt
 
 returns-3 : tie.Need-returns-3
 returns-3 c =
@@ -81,15 +66,15 @@ pub normal-part-spec : {M : Type 1} → statement M
 normal-part-spec =
     tie.close
     (tie.spec
-    check-within-requires
-    enum-known-r
-    enum-told
+    (λ c κs. tt)  -- check-within-requires
+    (λ c. search needs)  -- enum-known-r
+    (λ c. search needs)  -- enum-told
     returns
     cast-r
     cast-v
     cast-e
     cast-g
-    normal-in-requires
+    (λ c κs. tt)  -- normal-in-requires
     returns-2
-    start-requires
+    (λ c κs. tt)  -- start-requires
     returns-3)

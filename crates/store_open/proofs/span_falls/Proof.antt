@@ -10,11 +10,12 @@ item-id-requires c κs = omega (arith, c .before .pre)
 item-id-requires-2 : tie.Need-item-id-requires-2
 item-id-requires-2 c κs = omega (arith, c .before .before .pre)
 
-less3-requires : tie.Need-less3-requires
-less3-requires c κs = tt
-
 returns : tie.Need-returns
 returns c = span-less _ _ _ _ _ _ _ (c .before .before .item-id .ensures) (c .before .item-id2 .ensures) _ (c .less3 .ensures)
 
 pub span-falls-spec : {M : Type 1} → statement M
-span-falls-spec = tie.close (tie.spec item-id-requires item-id-requires-2 less3-requires returns)
+span-falls-spec = tie.close (tie.spec
+    item-id-requires
+    item-id-requires-2
+    (λ c κs. tt)  -- less3-requires
+    returns)

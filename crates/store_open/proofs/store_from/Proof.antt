@@ -7,31 +7,10 @@ use borrow.Author.Tests.{not-true, not-false}
 use Rattle.store_open.proofs.store_from.Statement.{statement}
 use Rattle.store_open.proofs.store_from.Tie as tie
 
-normal-part-requires : tie.Need-normal-part-requires
-normal-part-requires c κs = tt
-
-enum-known-own : tie.Need-enum-known-own
-enum-known-own c = search needs
-
-enum-told : tie.Need-enum-told
-enum-told c = search needs
-
 returns : tie.Need-returns
 returns c =
     let c5 = c .before .before .before .before .before in
     λ m few. store-other _ _ m _ _ _ (c5 .pre) few _ (c .before .before .normal-part .ensures m) (c .enum-told .given .1)
-
-read8-requires : tie.Need-read8-requires
-read8-requires c κs = tt
-
-add-read8 : tie.Need-add-read8
-add-read8 c = search needs
-
-read8-requires-2 : tie.Need-read8-requires-2
-read8-requires-2 c κs = tt
-
-own-alike-requires : tie.Need-own-alike-requires
-own-alike-requires c κs = tt
 
 returns-2 : tie.Need-returns-2
 returns-2 c =
@@ -41,9 +20,6 @@ returns-2 c =
     store-unlike _ _ m _ _ _ (c10 .pre) few _ (c5 .before .before .normal-part .ensures m .normal _ (c5 .own .given .1)) _ _
     (c .before .before .before .read8 .ensures .0)
     (c .before .before .read82 .ensures .0) _ (c .before .own-alike .ensures) (not-true _ (c .if1 .taken))
-
-add-each-contained : tie.Need-add-each-contained
-add-each-contained c = search needs
 
 each-contained-requires : tie.Need-each-contained-requires
 each-contained-requires c κs =
@@ -79,16 +55,16 @@ pub store-from-spec : {M : Type 1} → statement M
 store-from-spec =
     tie.close
     (tie.spec
-    normal-part-requires
-    enum-known-own
-    enum-told
+    (λ c κs. tt)  -- normal-part-requires
+    (λ c. search needs)  -- enum-known-own
+    (λ c. search needs)  -- enum-told
     returns
-    read8-requires
-    add-read8
-    read8-requires-2
-    own-alike-requires
+    (λ c κs. tt)  -- read8-requires
+    (λ c. search needs)  -- add-read8
+    (λ c κs. tt)  -- read8-requires-2
+    (λ c κs. tt)  -- own-alike-requires
     returns-2
-    add-each-contained
+    (λ c. search needs)  -- add-each-contained
     each-contained-requires
     returns-3
     returns-4)

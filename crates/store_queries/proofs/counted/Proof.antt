@@ -4,9 +4,6 @@ use borrow.Author.Needs.{needs}
 use Rattle.store_queries.proofs.counted.Statement.{statement}
 use Rattle.store_queries.proofs.counted.Tie as tie
 
-change-in-requires : tie.Need-change-in-requires
-change-in-requires c κs = search needs
-
 returns : tie.Need-returns
 returns c = tally-yes _ _ (c .before .change-in .ensures) (c .if1 .taken)
 
@@ -14,4 +11,7 @@ returns-2 : tie.Need-returns-2
 returns-2 c = tally-no _ _ (c .before .change-in .ensures) (c .if1 .left)
 
 pub counted-spec : {M : Type 1} → statement M
-counted-spec = tie.close (tie.spec change-in-requires returns returns-2)
+counted-spec = tie.close (tie.spec
+    (λ c κs. search needs)  -- change-in-requires
+    returns
+    returns-2)

@@ -4,11 +4,10 @@ use borrow.Author.Needs.{needs}
 use Rattle.store_queries.proofs.coverage.Statement.{statement}
 use Rattle.store_queries.proofs.coverage.Tie as tie
 
-coverage-within-requires : tie.Need-coverage-within-requires
-coverage-within-requires c κs = search needs
-
 returns : tie.Need-returns
 returns c = coverage-basic _ _ _ (c .coverage-within .ensures)
 
 pub coverage-spec : {M : Type 1} → statement M
-coverage-spec = tie.close (tie.spec coverage-within-requires returns)
+coverage-spec = tie.close (tie.spec
+    (λ c κs. search needs)  -- coverage-within-requires
+    returns)

@@ -7,25 +7,10 @@ use borrow.Author.Needs.{needs}
 use Rattle.store_queries.proofs.coverage_within.Statement.{statement}
 use Rattle.store_queries.proofs.coverage_within.Tie as tie
 
-open-store-requires : tie.Need-open-store-requires
-open-store-requires c κs = search needs
-
-enum-known-own : tie.Need-enum-known-own
-enum-known-own c = search needs
-
-enum-told : tie.Need-enum-told
-enum-told c = search needs
-
 returns : tie.Need-returns
 returns c =
     let a = c .before .before .before .before .before .args in
     coverage-not-store (a .limits .replicas) (a .limits .ranges) (a .limits .records) _ _ _ (c .before .before .open-store .ensures) (c .enum-told .given .1)
-
-open-within-requires : tie.Need-open-within-requires
-open-within-requires c κs = search needs
-
-enum-known-v : tie.Need-enum-known-v
-enum-known-v c = search needs
 
 add-count-in : tie.Need-add-count-in
 add-count-in c =
@@ -54,18 +39,6 @@ count-in-requires c κs =
           (b4 .open-within .ensures) z _ (c .before .before .v .given .1),
       coverage-shaped (a .limits .replicas) (a .limits .ranges) (a .limits .records) _ (a .knowledge .now) _ (b8 .open-store .ensures) y _ _ (b6 .own .given .1),
     )
-
-cast-t16 : tie.Need-cast-t16
-cast-t16 c = search needs
-
-cast-t17 : tie.Need-cast-t17
-cast-t17 c = search needs
-
-thousandths-requires : tie.Need-thousandths-requires
-thousandths-requires c κs = search needs
-
-enum-known-n : tie.Need-enum-known-n
-enum-known-n c = search needs
 
 returns-2 : tie.Need-returns-2
 returns-2 c =
@@ -98,17 +71,17 @@ pub coverage-within-spec : {M : Type 1} → statement M
 coverage-within-spec =
     tie.close
     (tie.spec
-    open-store-requires
-    enum-known-own
-    enum-told
+    (λ c κs. search needs)  -- open-store-requires
+    (λ c. search needs)  -- enum-known-own
+    (λ c. search needs)  -- enum-told
     returns
-    open-within-requires
-    enum-known-v
+    (λ c κs. search needs)  -- open-within-requires
+    (λ c. search needs)  -- enum-known-v
     add-count-in
     count-in-requires
-    cast-t16
-    cast-t17
-    thousandths-requires
-    enum-known-n
+    (λ c. search needs)  -- cast-t16
+    (λ c. search needs)  -- cast-t17
+    (λ c κs. search needs)  -- thousandths-requires
+    (λ c. search needs)  -- enum-known-n
     returns-2
     returns-3)

@@ -4,11 +4,10 @@ use borrow.Author.Needs.{needs}
 use Rattle.store_queries.proofs.knowledge_part.Statement.{statement}
 use Rattle.store_queries.proofs.knowledge_part.Tie as tie
 
-knowledge-within-requires : tie.Need-knowledge-within-requires
-knowledge-within-requires c κs = search needs
-
 returns : tie.Need-returns
 returns c = knowledge-base _ _ (c .knowledge-within .ensures)
 
 pub knowledge-part-spec : {M : Type 1} → statement M
-knowledge-part-spec = tie.close (tie.spec knowledge-within-requires returns)
+knowledge-part-spec = tie.close (tie.spec
+    (λ c κs. search needs)  -- knowledge-within-requires
+    returns)

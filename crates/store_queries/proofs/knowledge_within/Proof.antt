@@ -6,15 +6,6 @@ use borrow.Author.Needs.{needs}
 use Rattle.store_queries.proofs.knowledge_within.Statement.{statement}
 use Rattle.store_queries.proofs.knowledge_within.Tie as tie
 
-open-store-requires : tie.Need-open-store-requires
-open-store-requires c κs = search needs
-
-enum-known-own : tie.Need-enum-known-own
-enum-known-own c = search needs
-
-enum-told : tie.Need-enum-told
-enum-told c = search needs
-
 returns : tie.Need-returns
 returns c =
     let b3 = c .before .before .before in
@@ -31,4 +22,9 @@ returns-2 c =
 
 pub knowledge-within-spec : {M : Type 1} → statement M
 knowledge-within-spec =
-    tie.close (tie.spec open-store-requires enum-known-own enum-told returns returns-2)
+    tie.close (tie.spec
+    (λ c κs. search needs)  -- open-store-requires
+    (λ c. search needs)  -- enum-known-own
+    (λ c. search needs)  -- enum-told
+    returns
+    returns-2)

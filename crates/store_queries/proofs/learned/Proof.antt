@@ -6,9 +6,6 @@ use borrow.Author.Needs.{needs}
 use Rattle.store_queries.proofs.learned.Statement.{statement}
 use Rattle.store_queries.proofs.learned.Tie as tie
 
-learned-part-requires : tie.Need-learned-part-requires
-learned-part-requires c κs = search needs
-
 part-of-requires : tie.Need-part-of-requires
 part-of-requires c κs = learned-inside base _ _ (c .before .learned-part .ensures)
 
@@ -16,4 +13,7 @@ returns : tie.Need-returns
 returns c = handed-as _ _ (c .before .before .learned-part .ensures) _ _ _ _ (c .part-of .ensures)
 
 pub learned-spec : {M : Type 1} → statement M
-learned-spec = tie.close (tie.spec learned-part-requires part-of-requires returns)
+learned-spec = tie.close (tie.spec
+    (λ c κs. search needs)  -- learned-part-requires
+    part-of-requires
+    returns)

@@ -4,11 +4,10 @@ use borrow.Author.Needs.{needs}
 use Rattle.store_queries.proofs.learned_part.Statement.{statement}
 use Rattle.store_queries.proofs.learned_part.Tie as tie
 
-learned-within-requires : tie.Need-learned-within-requires
-learned-within-requires c κs = search needs
-
 returns : tie.Need-returns
 returns c = learned-base _ _ (c .learned-within .ensures)
 
 pub learned-part-spec : {M : Type 1} → statement M
-learned-part-spec = tie.close (tie.spec learned-within-requires returns)
+learned-part-spec = tie.close (tie.spec
+    (λ c κs. search needs)  -- learned-within-requires
+    returns)

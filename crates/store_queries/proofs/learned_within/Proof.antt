@@ -6,12 +6,6 @@ use borrow.Author.Needs.{needs}
 use Rattle.store_queries.proofs.learned_within.Statement.{statement}
 use Rattle.store_queries.proofs.learned_within.Tie as tie
 
-open-batch-requires : tie.Need-open-batch-requires
-open-batch-requires c κs = search needs
-
-enum-known-needed : tie.Need-enum-known-needed
-enum-known-needed c = search needs
-
 add-t9 : tie.Need-add-t9
 add-t9 c =
     let b4 = c .before .before .before .before in
@@ -22,9 +16,6 @@ add-t9 c =
     let inside = learned-place (a .limits .replicas) (a .limits .ranges) (a .limits .records) _ _ (b4 .open-batch .ensures) z _ _ _
     (c .before .before .needed .given .1) in
     omega (arith, inside)
-
-enum-told : tie.Need-enum-told
-enum-told c = search needs
 
 returns : tie.Need-returns
 returns c =
@@ -42,4 +33,10 @@ returns-2 c =
 
 pub learned-within-spec : {M : Type 1} → statement M
 learned-within-spec =
-    tie.close (tie.spec open-batch-requires enum-known-needed add-t9 enum-told returns returns-2)
+    tie.close (tie.spec
+    (λ c κs. search needs)  -- open-batch-requires
+    (λ c. search needs)  -- enum-known-needed
+    add-t9
+    (λ c. search needs)  -- enum-told
+    returns
+    returns-2)

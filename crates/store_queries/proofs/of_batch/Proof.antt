@@ -4,14 +4,11 @@ use borrow.Author.Needs.{needs}
 use Rattle.store_queries.proofs.of_batch.Statement.{statement}
 use Rattle.store_queries.proofs.of_batch.Tie as tie
 
-read1-requires : tie.Need-read1-requires
-read1-requires c κs = search needs
-
-record-length-requires : tie.Need-record-length-requires
-record-length-requires c κs = search needs
-
 returns : tie.Need-returns
 returns c = batch-record _ _ _ _ (c .before .read1 .ensures .0) (c .record-length .ensures)
 
 pub of-batch-spec : {M : Type 1} → statement M
-of-batch-spec = tie.close (tie.spec read1-requires record-length-requires returns)
+of-batch-spec = tie.close (tie.spec
+    (λ c κs. search needs)  -- read1-requires
+    (λ c κs. search needs)  -- record-length-requires
+    returns)

@@ -6,9 +6,6 @@ use borrow.Author.Needs.{needs}
 use Rattle.store_queries.proofs.own_knowledge.Statement.{statement}
 use Rattle.store_queries.proofs.own_knowledge.Tie as tie
 
-knowledge-part-requires : tie.Need-knowledge-part-requires
-knowledge-part-requires c κs = search needs
-
 part-of-requires : tie.Need-part-of-requires
 part-of-requires c κs = knowledge-inside base _ _ (c .before .knowledge-part .ensures)
 
@@ -16,4 +13,7 @@ returns : tie.Need-returns
 returns c = handed-as _ _ (c .before .before .knowledge-part .ensures) _ _ _ _ (c .part-of .ensures)
 
 pub own-knowledge-spec : {M : Type 1} → statement M
-own-knowledge-spec = tie.close (tie.spec knowledge-part-requires part-of-requires returns)
+own-knowledge-spec = tie.close (tie.spec
+    (λ c κs. search needs)  -- knowledge-part-requires
+    part-of-requires
+    returns)

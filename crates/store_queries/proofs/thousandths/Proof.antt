@@ -7,20 +7,14 @@ use Rattle.store_queries.proofs.thousandths.Tie as tie
 returns : tie.Need-returns
 returns c = rate-none _ _ (c .if1 .taken)
 
-mul-result : tie.Need-mul-result
-mul-result c = search needs
-
-add-result : tie.Need-add-result
-add-result c = search needs
-
-mul-result-2 : tie.Need-mul-result-2
-mul-result-2 c = search needs
-
-div-result : tie.Need-div-result
-div-result c = search needs
-
 returns-2 : tie.Need-returns-2
 returns-2 c = rate-some _ _ (c .if1 .left)
 
 pub thousandths-spec : {M : Type 1} → statement M
-thousandths-spec = tie.close (tie.spec returns mul-result add-result mul-result-2 div-result returns-2)
+thousandths-spec = tie.close (tie.spec
+    returns
+    (λ c. search needs)  -- mul-result
+    (λ c. search needs)  -- add-result
+    (λ c. search needs)  -- mul-result-2
+    (λ c. search needs)  -- div-result
+    returns-2)

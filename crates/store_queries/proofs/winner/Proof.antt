@@ -6,9 +6,6 @@ use borrow.Author.Needs.{needs}
 use Rattle.store_queries.proofs.winner.Statement.{statement}
 use Rattle.store_queries.proofs.winner.Tie as tie
 
-winner-part-requires : tie.Need-winner-part-requires
-winner-part-requires c κs = search needs
-
 part-of-requires : tie.Need-part-of-requires
 part-of-requires c κs =
     let b5 = c .before .before .before .before .before in
@@ -18,4 +15,7 @@ returns : tie.Need-returns
 returns c = handed-as _ _ (c .before .before .winner-part .ensures) _ _ _ _ (c .part-of .ensures)
 
 pub winner-spec : {M : Type 1} → statement M
-winner-spec = tie.close (tie.spec winner-part-requires part-of-requires returns)
+winner-spec = tie.close (tie.spec
+    (λ c κs. search needs)  -- winner-part-requires
+    part-of-requires
+    returns)

@@ -4,24 +4,6 @@ use borrow.Author.Needs.{needs}
 use Rattle.store_queries.proofs.winner_in.Statement.{statement}
 use Rattle.store_queries.proofs.winner_in.Tie as tie
 
-place-of-requires : tie.Need-place-of-requires
-place-of-requires c κs = search needs
-
-place-of-requires-2 : tie.Need-place-of-requires-2
-place-of-requires-2 c κs = search needs
-
-enum-known-mine : tie.Need-enum-known-mine
-enum-known-mine c = search needs
-
-enum-known-theirs : tie.Need-enum-known-theirs
-enum-known-theirs c = search needs
-
-wins-requires : tie.Need-wins-requires
-wins-requires c κs = search needs
-
-of-batch-requires : tie.Need-of-batch-requires
-of-batch-requires c κs = search needs
-
 returns : tie.Need-returns
 returns c =
     let b4 = c .before .before .before .before in
@@ -30,27 +12,6 @@ returns c =
     let b10 = b9 .before in
     winner-wins _ _ _ _ _ _ _ (b10 .place-of .ensures) (b9 .place-of2 .ensures) _ (b7 .mine .given .1) _ _ (b4 .theirs .given .1) _
     (c .before .before .wins .ensures) (c .before .if1 .taken) (c .of-batch .ensures)
-
-of-store-requires : tie.Need-of-store-requires
-of-store-requires c κs = search needs
-
-enum-told : tie.Need-enum-told
-enum-told c = search needs
-
-of-store-requires-2 : tie.Need-of-store-requires-2
-of-store-requires-2 c κs = search needs
-
-enum-told-2 : tie.Need-enum-told-2
-enum-told-2 c = search needs
-
-enum-known-theirs-2 : tie.Need-enum-known-theirs-2
-enum-known-theirs-2 c = search needs
-
-of-batch-requires-2 : tie.Need-of-batch-requires-2
-of-batch-requires-2 c κs = search needs
-
-enum-told-3 : tie.Need-enum-told-3
-enum-told-3 c = search needs
 
 returns-2 : tie.Need-returns-2
 returns-2 c =
@@ -88,20 +49,20 @@ pub winner-in-spec : {M : Type 1} → statement M
 winner-in-spec =
     tie.close
     (tie.spec
-    place-of-requires
-    place-of-requires-2
-    enum-known-mine
-    enum-known-theirs
-    wins-requires
-    of-batch-requires
+    (λ c κs. search needs)  -- place-of-requires
+    (λ c κs. search needs)  -- place-of-requires-2
+    (λ c. search needs)  -- enum-known-mine
+    (λ c. search needs)  -- enum-known-theirs
+    (λ c κs. search needs)  -- wins-requires
+    (λ c κs. search needs)  -- of-batch-requires
     returns
-    of-store-requires
-    enum-told
-    of-store-requires-2
-    enum-told-2
-    enum-known-theirs-2
-    of-batch-requires-2
-    enum-told-3
+    (λ c κs. search needs)  -- of-store-requires
+    (λ c. search needs)  -- enum-told
+    (λ c κs. search needs)  -- of-store-requires-2
+    (λ c. search needs)  -- enum-told-2
+    (λ c. search needs)  -- enum-known-theirs-2
+    (λ c κs. search needs)  -- of-batch-requires-2
+    (λ c. search needs)  -- enum-told-3
     returns-2
     returns-3
     returns-4

@@ -4,11 +4,10 @@ use borrow.Author.Needs.{needs}
 use Rattle.store_queries.proofs.winner_part.Statement.{statement}
 use Rattle.store_queries.proofs.winner_part.Tie as tie
 
-winner-within-requires : tie.Need-winner-within-requires
-winner-within-requires c κs = search needs
-
 returns : tie.Need-returns
 returns c = winner-base _ _ _ _ (c .winner-within .ensures)
 
 pub winner-part-spec : {M : Type 1} → statement M
-winner-part-spec = tie.close (tie.spec winner-within-requires returns)
+winner-part-spec = tie.close (tie.spec
+    (λ c κs. search needs)  -- winner-within-requires
+    returns)

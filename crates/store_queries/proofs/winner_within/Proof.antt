@@ -6,28 +6,10 @@ use borrow.Author.Needs.{needs}
 use Rattle.store_queries.proofs.winner_within.Statement.{statement}
 use Rattle.store_queries.proofs.winner_within.Tie as tie
 
-open-store-requires : tie.Need-open-store-requires
-open-store-requires c κs = search needs
-
-enum-known-own : tie.Need-enum-known-own
-enum-known-own c = search needs
-
-enum-told : tie.Need-enum-told
-enum-told c = search needs
-
 returns : tie.Need-returns
 returns c =
     let a = c .before .before .before .before .before .before .args in
     winner-not-store (a .limits .replicas) (a .limits .ranges) (a .limits .records) _ _ _ _ (c .before .before .open-store .ensures) (c .enum-told .given .1)
-
-open-batch-requires : tie.Need-open-batch-requires
-open-batch-requires c κs = search needs
-
-enum-known-needed : tie.Need-enum-known-needed
-enum-known-needed c = search needs
-
-enum-told-2 : tie.Need-enum-told-2
-enum-told-2 c = search needs
 
 returns-2 : tie.Need-returns-2
 returns-2 c =
@@ -53,9 +35,6 @@ returns-3 c =
     let z : Bytes (a .batch .now) = record { below = λ i. omega (arith, b10 .shared-slice-known2 .given i) } in
     winner-no-item (a .limits .replicas) (a .limits .ranges) (a .limits .records) _ _ _ _ (b8 .open-store .ensures) y _ _ (b6 .own .given .1) _
     (b4 .open-batch .ensures) z _ _ _ (c .before .before .needed .given .1) (c .if1 .taken)
-
-item-of-requires : tie.Need-item-of-requires
-item-of-requires c κs = tt
 
 add-x : tie.Need-add-x
 add-x c =
@@ -92,9 +71,6 @@ add-y-2 c =
     (b10 .own .given .1) _ (b5 .before .before .before .open-batch .ensures) z _ _ _ (b5 .before .needed .given .1) .1 in
     omega (arith, h .0, h .1)
 
-winner-in-requires : tie.Need-winner-in-requires
-winner-in-requires c κs = search needs
-
 returns-4 : tie.Need-returns-4
 returns-4 c =
     let b5 = c .before .before .before .before .before in
@@ -111,18 +87,18 @@ pub winner-within-spec : {M : Type 1} → statement M
 winner-within-spec =
     tie.close
     (tie.spec
-    open-store-requires
-    enum-known-own
-    enum-told
+    (λ c κs. search needs)  -- open-store-requires
+    (λ c. search needs)  -- enum-known-own
+    (λ c. search needs)  -- enum-told
     returns
-    open-batch-requires
-    enum-known-needed
-    enum-told-2
+    (λ c κs. search needs)  -- open-batch-requires
+    (λ c. search needs)  -- enum-known-needed
+    (λ c. search needs)  -- enum-told-2
     returns-2
     returns-3
-    item-of-requires
+    (λ c κs. tt)  -- item-of-requires
     add-x
     add-y
     add-y-2
-    winner-in-requires
+    (λ c κs. search needs)  -- winner-in-requires
     returns-4)

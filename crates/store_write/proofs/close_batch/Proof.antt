@@ -5,18 +5,6 @@ use borrow.Author.Needs.{needs}
 use Rattle.store_write.proofs.close_batch.Statement.{statement}
 use Rattle.store_write.proofs.close_batch.Tie as tie
 
-enum-known-a : tie.Need-enum-known-a
-enum-known-a c = search needs
-
-put-batch-around-requires : tie.Need-put-batch-around-requires
-put-batch-around-requires c κs = search needs
-
-enum-known-a-2 : tie.Need-enum-known-a-2
-enum-known-a-2 c = search needs
-
-same-length : tie.Need-same-length
-same-length c = search needs
-
 returns : tie.Need-returns
 returns c =
     let b2 = c .before .before in
@@ -29,4 +17,10 @@ returns-2 c = closed-fits _ _ _ _ _ _ _ (c .before .a2 .given .1) refl
 pub close-batch-spec : {M : Type 1} → statement M
 close-batch-spec =
     tie.close
-    (tie.spec enum-known-a put-batch-around-requires enum-known-a-2 same-length returns returns-2)
+    (tie.spec
+    (λ c. search needs)  -- enum-known-a
+    (λ c κs. search needs)  -- put-batch-around-requires
+    (λ c. search needs)  -- enum-known-a-2
+    (λ c. search needs)  -- same-length
+    returns
+    returns-2)

@@ -8,21 +8,6 @@ use borrow.Author.Needs.{needs}
 use Rattle.store_write.proofs.close_store.Statement.{statement}
 use Rattle.store_write.proofs.close_store.Tie as tie
 
-enum-known-a : tie.Need-enum-known-a
-enum-known-a c = search needs
-
-put-around-requires : tie.Need-put-around-requires
-put-around-requires c κs = search needs
-
-enum-known-a-2 : tie.Need-enum-known-a-2
-enum-known-a-2 c = search needs
-
-clamp-requires : tie.Need-clamp-requires
-clamp-requires c κs = search needs
-
-cast-most : tie.Need-cast-most
-cast-most c = search needs
-
 returns : tie.Need-returns
 returns c =
     let b2 = c .before .before in
@@ -32,9 +17,6 @@ returns c =
 
 returns-2 : tie.Need-returns-2
 returns-2 c = closed-other _ _ _ _ _ _ _ (c .before .before .before .before .before .a2 .given .1) (c .if2 .taken)
-
-same-length : tie.Need-same-length
-same-length c = search needs
 
 returns-3 : tie.Need-returns-3
 returns-3 c =
@@ -52,13 +34,13 @@ pub close-store-spec : {M : Type 1} → statement M
 close-store-spec =
     tie.close
     (tie.spec
-    enum-known-a
-    put-around-requires
-    enum-known-a-2
-    clamp-requires
-    cast-most
+    (λ c. search needs)  -- enum-known-a
+    (λ c κs. search needs)  -- put-around-requires
+    (λ c. search needs)  -- enum-known-a-2
+    (λ c κs. search needs)  -- clamp-requires
+    (λ c. search needs)  -- cast-most
     returns
     returns-2
-    same-length
+    (λ c. search needs)  -- same-length
     returns-3
     returns-4)

@@ -11,9 +11,6 @@ use borrow.Author.Needs.{needs}
 use Rattle.store_write.proofs.put_around.Statement.{statement}
 use Rattle.store_write.proofs.put_around.Tie as tie
 
-beyond-requires : tie.Need-beyond-requires
-beyond-requires c κs = search needs
-
 returns : tie.Need-returns
 returns c =
     let b1 = c .before in
@@ -23,9 +20,6 @@ returns c =
 add-end : tie.Need-add-end
 add-end c = omega (arith, c .before .beyond .ensures .1 (c .if1 .left))
 
-beyond-requires-2 : tie.Need-beyond-requires-2
-beyond-requires-2 c κs = search needs
-
 returns-2 : tie.Need-returns-2
 returns-2 c =
     let b1 = c .before in
@@ -34,15 +28,6 @@ returns-2 c =
 
 add-total : tie.Need-add-total
 add-total c = omega (arith, c .before .before .beyond2 .ensures .1 (c .before .if2 .left))
-
-write-store-header-requires : tie.Need-write-store-header-requires
-write-store-header-requires c κs = search needs
-
-copy-picked-requires : tie.Need-copy-picked-requires
-copy-picked-requires c κs = search needs
-
-same-length : tie.Need-same-length
-same-length c = search needs
 
 returns-3 : tie.Need-returns-3
 returns-3 c =
@@ -59,13 +44,13 @@ pub put-around-spec : {M : Type 1} → statement M
 put-around-spec =
     tie.close
     (tie.spec
-    beyond-requires
+    (λ c κs. search needs)  -- beyond-requires
     returns
     add-end
-    beyond-requires-2
+    (λ c κs. search needs)  -- beyond-requires-2
     returns-2
     add-total
-    write-store-header-requires
-    copy-picked-requires
-    same-length
+    (λ c κs. search needs)  -- write-store-header-requires
+    (λ c κs. search needs)  -- copy-picked-requires
+    (λ c. search needs)  -- same-length
     returns-3)

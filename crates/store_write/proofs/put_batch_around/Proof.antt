@@ -9,21 +9,12 @@ use borrow.Author.Needs.{needs}
 use Rattle.store_write.proofs.put_batch_around.Statement.{statement}
 use Rattle.store_write.proofs.put_batch_around.Tie as tie
 
-beyond-requires : tie.Need-beyond-requires
-beyond-requires c κs = search needs
-
 returns : tie.Need-returns
 returns c =
     let b1 = c .before in
     let a = b1 .before .before .before .before .before .args in
     put-short (batchNeeded + length (a .needed .now) + a .n + a .e .length) (a .out .now) _
     (omega (arith, b1 .beyond .ensures .0 (c .if1 .taken)))
-
-add-middle : tie.Need-add-middle
-add-middle c = search needs
-
-beyond-requires-2 : tie.Need-beyond-requires-2
-beyond-requires-2 c κs = search needs
 
 returns-2 : tie.Need-returns-2
 returns-2 c =
@@ -35,9 +26,6 @@ returns-2 c =
 add-end : tie.Need-add-end
 add-end c = omega (arith, c .before .beyond2 .ensures .1 (c .if2 .left))
 
-beyond-requires-3 : tie.Need-beyond-requires-3
-beyond-requires-3 c κs = search needs
-
 returns-3 : tie.Need-returns-3
 returns-3 c =
     let b1 = c .before in
@@ -47,18 +35,6 @@ returns-3 c =
 
 add-total : tie.Need-add-total
 add-total c = omega (arith, c .before .before .beyond3 .ensures .1 (c .before .if3 .left))
-
-write-batch-header-requires : tie.Need-write-batch-header-requires
-write-batch-header-requires c κs = search needs
-
-copy-part-requires : tie.Need-copy-part-requires
-copy-part-requires c κs = search needs
-
-copy-picked-requires : tie.Need-copy-picked-requires
-copy-picked-requires c κs = search needs
-
-same-length : tie.Need-same-length
-same-length c = search needs
 
 returns-4 : tie.Need-returns-4
 returns-4 c =
@@ -76,17 +52,17 @@ pub put-batch-around-spec : {M : Type 1} → statement M
 put-batch-around-spec =
     tie.close
     (tie.spec
-    beyond-requires
+    (λ c κs. search needs)  -- beyond-requires
     returns
-    add-middle
-    beyond-requires-2
+    (λ c. search needs)  -- add-middle
+    (λ c κs. search needs)  -- beyond-requires-2
     returns-2
     add-end
-    beyond-requires-3
+    (λ c κs. search needs)  -- beyond-requires-3
     returns-3
     add-total
-    write-batch-header-requires
-    copy-part-requires
-    copy-picked-requires
-    same-length
+    (λ c κs. search needs)  -- write-batch-header-requires
+    (λ c κs. search needs)  -- copy-part-requires
+    (λ c κs. search needs)  -- copy-picked-requires
+    (λ c. search needs)  -- same-length
     returns-4)

@@ -7,9 +7,6 @@ use borrow.Author.Needs.{needs}
 use Rattle.store_write.proofs.room_in_batch.Statement.{statement}
 use Rattle.store_write.proofs.room_in_batch.Tie as tie
 
-beyond-requires : tie.Need-beyond-requires
-beyond-requires c κs = search needs
-
 returns : tie.Need-returns
 unfolding batchRoom
 returns c =
@@ -17,9 +14,6 @@ returns c =
 
 add-from : tie.Need-add-from
 add-from c = omega (arith, c .before .beyond .ensures .1 (c .if1 .left))
-
-beyond-requires-2 : tie.Need-beyond-requires-2
-beyond-requires-2 c κs = search needs
 
 returns-2 : tie.Need-returns-2
 unfolding batchRoom
@@ -38,4 +32,11 @@ returns-3 c =
 pub room-in-batch-spec : {M : Type 1} → statement M
 room-in-batch-spec =
     tie.close
-    (tie.spec beyond-requires returns add-from beyond-requires-2 returns-2 sub-t7 returns-3)
+    (tie.spec
+    (λ c κs. search needs)  -- beyond-requires
+    returns
+    add-from
+    (λ c κs. search needs)  -- beyond-requires-2
+    returns-2
+    sub-t7
+    returns-3)

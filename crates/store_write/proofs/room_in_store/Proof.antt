@@ -9,12 +9,6 @@ use borrow.Author.Needs.{needs}
 use Rattle.store_write.proofs.room_in_store.Statement.{statement}
 use Rattle.store_write.proofs.room_in_store.Tie as tie
 
-clamp-requires : tie.Need-clamp-requires
-clamp-requires c κs = search needs
-
-cast-most : tie.Need-cast-most
-cast-most c = search needs
-
 returns : tie.Need-returns
 unfolding storeRoom
 returns c =
@@ -22,9 +16,6 @@ returns c =
     let a = b2 .before .args in
     let over = lt-leb (a .e .count) (clamp (a .records) largestRecords) (omega (arith, b2 .clamp .ensures, c .if1 .taken)) in
     (room-not _ _ _ _ over, (omega arith, omega arith))
-
-beyond-requires : tie.Need-beyond-requires
-beyond-requires c κs = search needs
 
 returns-2 : tie.Need-returns-2
 unfolding storeRoom
@@ -51,4 +42,11 @@ returns-3 c =
 pub room-in-store-spec : {M : Type 1} → statement M
 room-in-store-spec =
     tie.close
-    (tie.spec clamp-requires cast-most returns beyond-requires returns-2 sub-t8 returns-3)
+    (tie.spec
+    (λ c κs. search needs)  -- clamp-requires
+    (λ c. search needs)  -- cast-most
+    returns
+    (λ c κs. search needs)  -- beyond-requires
+    returns-2
+    sub-t8
+    returns-3)
