@@ -1,10 +1,10 @@
 -- Comparing from what was opened on, by any rules that accept both knowledges. The place that is looked for from how far both are alike to
--- three full words is the first of all ids (`place-found`); it is written as seven words, one behind the other, with the ticks that lookup
--- finds there (`entry-some`, `entry-wrote`); and each way that the call goes has its three equations, of the answer, the buffer and the
+-- three full words is the first of all ids (`place-found`); it is written with the ticks that lookup finds there, one behind the other
+-- (`lack-wrote`), and the second's behind the first's; and each way that the call goes has its three equations, of the answer, the buffer and the
 -- order (`ends-first` to `ends-written`). Document 01's rules are those of its two numbers (`ends-basic`).
 use Prim.Native.Nat.{ℕ, _+_, _^_, _≤_, _<_}
 use mathlib.Core.Path.{_≡_, refl, sym, ap, ap₂, _∙_, subst}
-use mathlib.Core.List.{List, [], _++_, append-assoc}
+use mathlib.Core.List.{List, []}
 use native.Mathlib.Omega.{arith}
 use lib.ListN.{length}
 use Rattle.codec.specs.Number.{put}
@@ -12,13 +12,12 @@ use Rattle.codec.specs.Part.{placed, bytes}
 use Rattle.codec.specs.Reply.{gives, refuses, answer}
 use Rattle.codec.specs.declared.Answer.{Answer}
 use Rattle.codec.specs.declared.Answer.the-variants as A
-use Rattle.codec.specs.Words.{words2, words3}
+use Rattle.codec.specs.Words.{words3}
+use Rattle.codec.specs.MethodWritten.{Wrote}
 use Rattle.codec.specs.declared.Item.{Item}
 use Rattle.codec.specs.Ids.{itemOf, replicaOf}
 use Rattle.codec.proofs.Calls.{refused-answer, refused-after, short-answer, short-after, written-answer, written-after}
-use Rattle.codec.proofs.Numbers.{put-length, put-append}
-use Rattle.codec.proofs.Words.{put-words2, put-words3}
-use Rattle.codec.proofs.Writing.{placed-append, placed-length, placed-out, nothing}
+use Rattle.codec.proofs.Written.{wrote-then, wrote-to, wrote-by, wrote-all, wrote-number}
 use Rattle.layout.specs.Knowledge.{Rules, basic, base, Knowledge}
 use Rattle.layout.specs.Permitted.{rulesWithin}
 use Rattle.layout.specs.Decode.{decode}
@@ -41,9 +40,7 @@ use Rattle.cover.specs.Method.{lackingBy, lackOf}
 use Rattle.cover.proofs.FirstLacking.{lacking-is}
 use Rattle.compare.specs.declared.Alike.{Alike}
 use Rattle.compare.specs.declared.Alike.the-variants as L
-use Rattle.compare.specs.declared.Entry.{Entry}
-use Rattle.compare.specs.declared.Entry.the-variants as E
-use Rattle.compare.specs.Method.{Reached, sizeOf, putEntry, Compared}
+use Rattle.compare.specs.Method.{Reached, sizeOf, Compared}
 
 -- ---- the places
 
@@ -102,121 +99,46 @@ size-small x k e = omega (arith, size-most (lackOf x))
 
 -- ---- a place with both ticks
 
-pub entry-none : (s t : List ℕ) (x : Place) (u : List ℕ) → x ≡ O.Nowhere → putEntry E.Nothing u ≡ putLack (decode s) (decode t) (lackOf x) u
-unfolding putEntry putLack lackOf
-entry-none s t x u e = ap (λ (i : Place). putLack (decode s) (decode t) (lackOf i) u) (sym e)
+module _ (s : List ℕ) (r : ℕ) (c : Cursor) (t : List ℕ) (m : ℕ) (d : Cursor) (x : Place) where
+  -- what is written for a side
+  abbrev side : List ℕ → List ℕ
+  side = putLack (decode s) (decode t) (lackOf x)
 
-module _ (s : List ℕ) (r : ℕ) (c : Cursor) (t : List ℕ) (m : ℕ) (d : Cursor) (x : Place) (u : List ℕ) where
-  pub entry-some : (l : D.Lack) (a b : ℕ) → x ≡ O.Here l → Open s r c → Open t m d
-      → a ≡ tickFrom s r c (itemOf (l .item)) (replicaOf (l .replica))
-      → b ≡ tickFrom t m d (itemOf (l .item)) (replicaOf (l .replica))
-      → putEntry (E.At l a b) u ≡ putLack (decode s) (decode t) (lackOf x) u
-  unfolding putEntry putLack putPlace lackOf
-  entry-some l a b e o q f g =
-      let i = itemOf (l .item) in
-      let p = replicaOf (l .replica) in
-      ap₂ (λ (j k : ℕ). put 24 i (put 16 p (put 8 j (put 8 k u))))
-      (f ∙ leaf-known (o .rules) s r c (o .opens) i p) (g ∙ leaf-known (q .rules) t m d (q .opens) i p)
-      ∙ ap (λ (k : Place). putLack (decode s) (decode t) (lackOf k) u) (sym e)
+  pub lack-nothing : (out : List ℕ) (at : ℕ) → x ≡ O.Nowhere → Wrote out at side out (at + sizeOf (lackOf x))
+  unfolding putLack lackOf sizeOf
+  lack-nothing out at e =
+      subst (λ (y : Place). Wrote out at (putLack (decode s) (decode t) (lackOf y)) out (at + sizeOf (lackOf y))) (sym e)
+      (record { same = refl; size = λ u. omega arith; is = λ u h. ap (λ (n : ℕ). placed out n u) (omega arith) })
 
--- ---- writing it
+  module _ (out : List ℕ) (at : ℕ) (l : D.Lack) (a b : ℕ) (e f g u : List ℕ) where
+    abbrev i : ℕ
+    i = itemOf (l .item)
 
-pub entry-nothing : (out : List ℕ) (at : ℕ) (e : Entry) → e ≡ E.Nothing → out ≡ placed out at (putEntry e [])
-unfolding putEntry
-entry-nothing out at e f = nothing out at ∙ ap (λ (x : Entry). placed out at (putEntry x [])) (sym f)
+    abbrev p : ℕ
+    p = replicaOf (l .replica)
 
--- a word, and what is written behind it
-word-then : (d u w : List ℕ) (p q x : ℕ) (t : List ℕ) → u ≡ placed d p (bytes 8 x) → q ≡ p + 8 → w ≡ placed u q t
-    → q + length t ≤ length d → w ≡ placed d p (put 8 x t)
-unfolding bytes
-word-then d u w p q x t e f g h =
-    let size : length (put 8 x []) ≡ 8 = put-length 8 x [] in
-    let place : q ≡ p + length (put 8 x []) = omega (arith, size) in
-    let whole : length (put 8 x [] ++ t) ≡ 8 + length t = ap length (sym (put-append 8 x t)) ∙ put-length 8 x t in
-    g ∙ ap₂ (λ (l : List ℕ) (n : ℕ). placed l n t) e place
-    ∙ placed-append d p (put 8 x []) t (omega arith)
-    ∙ ap (placed d p) (sym (put-append 8 x t))
+    -- an id, an id, a tick and a tick, one behind the other
+    fields : e ≡ placed out at (bytes 24 i) → f ≡ placed e (at + 24) (bytes 16 p) → g ≡ placed f (at + 40) (bytes 8 a)
+        → u ≡ placed g (at + 48) (bytes 8 b) → Wrote out at (λ z. put 24 i (put 16 p (put 8 a (put 8 b z)))) u (at + 56)
+    fields h₁ h₂ h₃ h₄ =
+        wrote-then (wrote-number out e at 24 i h₁)
+        (wrote-then (wrote-to (omega arith) (wrote-number e f (at + 24) 16 p h₂))
+        (wrote-then (wrote-to (omega arith) (wrote-number f g (at + 40) 8 a h₃))
+        (wrote-to (omega arith) (wrote-number g u (at + 48) 8 b h₄))))
 
--- seven words, one behind the other
-module _ (d : List ℕ) (at : ℕ) (l : D.Lack) (m n : ℕ) where
-  abbrev i0 : ℕ
-  i0 = l .item .high
-
-  abbrev i1 : ℕ
-  i1 = l .item .middle
-
-  abbrev i2 : ℕ
-  i2 = l .item .low
-
-  abbrev p0 : ℕ
-  p0 = l .replica .high
-
-  abbrev p1 : ℕ
-  p1 = l .replica .low
-
-  abbrev rest : List ℕ
-  rest = put 8 m (put 8 n [])
-
-  rest-length : length rest ≡ 16
-  rest-length = omega (arith, put-length 8 m (put 8 n []), put-length 8 n [])
-
-  words-length : length (put 24 (words3 i0 i1 i2) (put 16 (words2 p0 p1) rest)) ≡ 56
-  words-length = omega (arith, put-length 24 (words3 i0 i1 i2) (put 16 (words2 p0 p1) rest), put-length 16 (words2 p0 p1) rest, rest-length)
-
-  pub entry-short : (e : Entry) → e ≡ E.At l m n → length d < at + 56 → d ≡ placed d at (putEntry e [])
-  unfolding putEntry
-  entry-short e f h =
-      placed-out d at (put 24 (words3 i0 i1 i2) (put 16 (words2 p0 p1) rest)) (omega (arith, words-length))
-      ∙ ap (λ (x : Entry). placed d at (putEntry x [])) (sym f)
-
-  pub entry-wrote : (a b c e f g h : List ℕ) (y : Entry) → y ≡ E.At l m n
-      → i1 < 2 ^ 64 → i2 < 2 ^ 64 → p1 < 2 ^ 64 → at + 56 ≤ length d
-      → a ≡ placed d at (bytes 8 i0) → b ≡ placed a (at + 8) (bytes 8 i1) → c ≡ placed b (at + 16) (bytes 8 i2)
-      → e ≡ placed c (at + 24) (bytes 8 p0) → f ≡ placed e (at + 32) (bytes 8 p1) → g ≡ placed f (at + 40) (bytes 8 m)
-      → h ≡ placed g (at + 48) (bytes 8 n) → h ≡ placed d at (putEntry y [])
-  unfolding bytes putEntry
-  entry-wrote a b c e f g h y is s₁ s₂ s₃ room h₁ h₂ h₃ h₄ h₅ h₆ h₇ =
-      let na : length a ≡ length d = ap length h₁ ∙ placed-length d at (bytes 8 i0) in
-      let nb : length b ≡ length a = ap length h₂ ∙ placed-length a (at + 8) (bytes 8 i1) in
-      let nc : length c ≡ length b = ap length h₃ ∙ placed-length b (at + 16) (bytes 8 i2) in
-      let ne : length e ≡ length c = ap length h₄ ∙ placed-length c (at + 24) (bytes 8 p0) in
-      let nf : length f ≡ length e = ap length h₅ ∙ placed-length e (at + 32) (bytes 8 p1) in
-      let t₅ = put 8 p1 rest in
-      let t₄ = put 8 p0 t₅ in
-      let t₃ = put 8 i2 t₄ in
-      let t₂ = put 8 i1 t₃ in
-      let l₅ : length t₅ ≡ 24 = omega (arith, put-length 8 p1 rest, rest-length) in
-      let l₄ : length t₄ ≡ 32 = omega (arith, put-length 8 p0 t₅, l₅) in
-      let l₃ : length t₃ ≡ 40 = omega (arith, put-length 8 i2 t₄, l₄) in
-      let l₂ : length t₂ ≡ 48 = omega (arith, put-length 8 i1 t₃, l₃) in
-      let w₆ = word-then f g h (at + 40) (at + 48) m (put 8 n []) h₆ (omega arith) h₇ (omega (arith, put-length 8 n [])) in
-      let w₅ = word-then e f h (at + 32) (at + 40) p1 rest h₅ (omega arith) w₆ (omega (arith, rest-length)) in
-      let w₄ = word-then c e h (at + 24) (at + 32) p0 t₅ h₄ (omega arith) w₅ (omega arith) in
-      let w₃ = word-then b c h (at + 16) (at + 24) i2 t₄ h₃ (omega arith) w₄ (omega arith) in
-      let w₂ = word-then a b h (at + 8) (at + 16) i1 t₃ h₂ (omega arith) w₃ (omega arith) in
-      word-then d a h at (at + 8) i0 t₂ h₁ (omega arith) w₂ (omega arith)
-      ∙ ap (placed d at)
-      (sym (put-words3 i0 i1 i2 (put 16 (words2 p0 p1) rest) s₁ s₂
-      ∙ ap (λ (z : List ℕ). put 8 i0 (put 8 i1 (put 8 i2 z))) (put-words2 p0 p1 rest s₃)))
-      ∙ ap (λ (x : Entry). placed d at (putEntry x [])) (sym is)
+    pub lack-wrote : x ≡ O.Here l → Open s r c → Open t m d → a ≡ tickFrom s r c i p → b ≡ tickFrom t m d i p
+        → e ≡ placed out at (bytes 24 i) → f ≡ placed e (at + 24) (bytes 16 p) → g ≡ placed f (at + 40) (bytes 8 a)
+        → u ≡ placed g (at + 48) (bytes 8 b) → Wrote out at side u (at + sizeOf (lackOf x))
+    unfolding putLack putPlace lackOf sizeOf
+    lack-wrote is o q ea eb h₁ h₂ h₃ h₄ =
+        subst (λ (y : Place). Wrote out at (putLack (decode s) (decode t) (lackOf y)) u (at + sizeOf (lackOf y))) (sym is)
+        (wrote-by
+        (λ (z : List ℕ).
+        ap₂ (λ (j k : ℕ). put 24 i (put 16 p (put 8 j (put 8 k z))))
+        (ea ∙ leaf-known (o .rules) s r c (o .opens) i p) (eb ∙ leaf-known (q .rules) t m d (q .opens) i p))
+        (fields h₁ h₂ h₃ h₄))
 
 -- ---- how the call ends
-
--- bytes in front of others
-put-before : (n x : ℕ) (t z : List ℕ) → put n x t ++ z ≡ put n x (t ++ z)
-put-before n x t z =
-    ap (λ (l : List ℕ). l ++ z) (put-append n x t) ∙ append-assoc (put n x []) t z ∙ sym (put-append n x (t ++ z))
-
-lack-append : (a b : Knowledge) (i : Lack) (z : List ℕ) → putLack a b i [] ++ z ≡ putLack a b i z
-unfolding putLack putPlace
-lack-append a b nowhere z = refl
-lack-append a b (here i p) z =
-    let m = known a i p in
-    let n = known b i p in
-    put-before 24 i (put 16 p (put 8 m (put 8 n []))) z
-    ∙ ap (put 24 i)
-    (put-before 16 p (put 8 m (put 8 n [])) z
-    ∙ ap (put 16 p) (put-before 8 m (put 8 n []) z ∙ ap (put 8 m) (put-before 8 n [] z)))
 
 -- where the reply refuses, nothing changes
 module _ (R : Rules) (s t out : List ℕ) (old : ℕ) where
@@ -275,22 +197,10 @@ module _ (R : Rules) (s t out : List ℕ) (old : ℕ) where
               order = sym (order-stays R s t _ 14 old (sym e));
             }
 
-        module _ (u w : List ℕ) (f g : Entry) (n : ℕ) (ef : (z : List ℕ) → putEntry f z ≡ putLack a b (lackOf x) z)
-            (eg : (z : List ℕ) → putEntry g z ≡ putLack a b (lackOf y) z) (first : u ≡ placed out 0 (putEntry f []))
-            (second : w ≡ placed u k (putEntry g [])) (is : n ≡ orderOf (lackOf x) (lackOf y)) where
-          whole : putLack a b (lackOf x) [] ++ putLack a b (lackOf y) [] ≡ both
-          whole = lack-append a b (lackOf x) (putLack a b (lackOf y) [])
-
+        module _ (u w : List ℕ) (n : ℕ) (first : Wrote out 0 (putLack a b (lackOf x)) u (0 + sizeOf (lackOf x)))
+            (second : Wrote u k (putLack a b (lackOf y)) w (k + sizeOf (lackOf y))) (is : n ≡ orderOf (lackOf x) (lackOf y)) where
           wrote : k + l ≤ length out → w ≡ placed out 0 both
-          wrote h =
-              let px = putLack a b (lackOf x) [] in
-              let py = putLack a b (lackOf y) [] in
-              let place : k ≡ 0 + length px = omega (arith, lack-length (lackOf x) []) in
-              let room : 0 + length (px ++ py) ≤ length out = omega (arith, ap length whole, both-length) in
-              second ∙ ap₂ (λ (v : List ℕ) (i : ℕ). placed v i (putEntry g [])) (first ∙ ap (placed out 0) (ef [])) place
-              ∙ ap (placed (placed out 0 px) (0 + length px)) (eg [])
-              ∙ placed-append out 0 px py room
-              ∙ ap (placed out 0) whole
+          wrote h = wrote-all (wrote-then (wrote-to (omega arith) first) second) (omega arith)
 
           pub ends-written : k + l ≤ length out → Compared R s t out w old n (A.Written (k + l))
           unfolding order orderValue

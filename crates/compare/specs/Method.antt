@@ -1,10 +1,10 @@
 -- The method of comparing, by words: nothing here is to be believed. The laws show that what is written is what is defined.
 use Rattle.codec.specs.Prelude.{ℕ, _≤_, _<_, _≡_, List, length}
-use Rattle.codec.specs.Number.{beAt, put}
+use Rattle.codec.specs.Number.{beAt}
 use Rattle.codec.specs.Reply.{answer, after}
 use Rattle.codec.specs.declared.Answer.{Answer}
 use Rattle.codec.specs.declared.Item.{Item}
-use Rattle.codec.specs.Ids.{itemOf, replicaOf}
+use Rattle.codec.specs.Ids.{itemOf}
 use Rattle.layout.specs.Knowledge.{Rules, Knowledge}
 use Rattle.ticks.specs.Meaning.{highest}
 use Rattle.ticks.specs.Operations.{Lack, nowhere, here, lacking}
@@ -15,8 +15,6 @@ use Rattle.compare.specs.declared.Alike.{Alike}
 use Rattle.compare.specs.declared.Alike.the-variants as L
 use Rattle.compare.specs.declared.Next.{Next}
 use Rattle.compare.specs.declared.Next.the-variants as N
-use Rattle.compare.specs.declared.Entry.{Entry}
-use Rattle.compare.specs.declared.Entry.the-variants as E
 
 -- How far both are alike
 
@@ -42,11 +40,6 @@ pub record GoesOn (s : List ℕ) (c : Cursor) (t : List ℕ) (d : Cursor) (e : N
 unfoldable pub sizeOf : Lack → ℕ
 sizeOf nowhere = 0
 sizeOf (here i p) = 56
-
--- what is written for a side, in front of t
-unfoldable pub putEntry : Entry → List ℕ → List ℕ
-putEntry E.Nothing t = t
-putEntry (E.At l m n) t = put 24 (itemOf (l .item)) (put 16 (replicaOf (l .replica)) (put 8 m (put 8 n t)))
 
 -- how the call ends: its answer, and the buffer and the order after it from those before
 pub record Compared (R : Rules) (s t out left : List ℕ) (old new : ℕ) (a : Answer) : Type 0 where

@@ -4,7 +4,6 @@
 use codec::Answer;
 use codec::Item;
 use codec::Span;
-use cover::Lack;
 use cover::Place;
 use layout::Limits;
 use lookup::Cursor;
@@ -12,11 +11,10 @@ use lookup::Opened;
 use lookup::View;
 ghost use mathlib.Core.Path.{_≡_};
 ghost use mathlib.Core.Bool.{true};
-ghost use mathlib.Core.List.{List, []};
 ghost use Prim.Native.Nat.{ℕ, _+_, _*_, _^_, _≤_, _<_};
 ghost use lib.ListN.{length, getD};
 ghost use Rattle.codec.specs.Number.{beAt};
-ghost use Rattle.codec.specs.Part.{placed};
+ghost use Rattle.codec.specs.MethodWritten.{Wrote};
 ghost use Rattle.codec.specs.Reply.{answer, after};
 ghost use Rattle.layout.specs.Knowledge.{Rules, basic};
 ghost use Rattle.layout.specs.Decode.{idsAt, decode};
@@ -27,13 +25,13 @@ ghost use Rattle.ticks.specs.Operations.{lacking};
 ghost use Rattle.ticks.specs.Compare.{orderOf, putLack, compareReply, orderValue};
 ghost use Rattle.lookup.specs.Method.{elementsHere, Opens, Open};
 ghost use Rattle.cover.specs.Method.{lackOf};
-ghost use Rattle.compare.specs.Method.{Reached, SameBound, GoesOn, sizeOf, putEntry, Compared};
+ghost use Rattle.compare.specs.Method.{Reached, SameBound, GoesOn, sizeOf, Compared};
 
 // a word that is full: the top item id is three of them
 const TOP: u64 = 18446744073709551615;
 
 // the length of what is written for a side that lacks something
-const ENTRY: usize = 56;
+const LACK: usize = 56;
 
 // How far two knowledges are alike: from the first item on nothing lacks, either way.
 enum Alike {
@@ -51,14 +49,6 @@ enum Next {
     Unlike,
     // the vectors are the same, and this is the next bound of both
     At(Item),
-}
-
-// What is written for a side.
-enum Entry {
-    // it lacks nothing
-    Nothing,
-    // the place, the first knowledge's tick there and the second's
-    At(Lack, u64, u64),
 }
 
 // ---- numbers that are there
@@ -266,41 +256,24 @@ fn size_of(x: Place) -> usize
     let Place::Here(_) = x else {
         return 0;
     };
-    ENTRY
+    LACK
 }
 
 // ---- what is written
 
-// A place with both ticks there.
-fn with_ticks(s: &[u8], v: View, t: &[u8], w: View, x: Place) -> Entry
-    requires { ⌜ (Open (now s) (v .r) (v .start)) × (Open (now t) (w .r) (w .start)) ⌝ }
-    ensures { λ e. ⌜ ((u : List ℕ) → putEntry e u ≡ putLack (decode (now (s .entry))) (decode (now (t .entry))) (lackOf x) u) ⌝ }
+// The place with both ticks there, from a place of the buffer on; nothing for a side that lacks nothing.
+fn put_lack(s: &[u8], v: View, t: &[u8], w: View, x: Place, out: &mut [u8], at: usize)
+    requires { ⌜ (Open (now s) (v .r) (v .start)) × (Open (now t) (w .r) (w .start)) × (at ≤ 56) ⌝ }
+    ensures { λ _. ⌜ Wrote (now (out .entry)) at (putLack (decode (now (s .entry))) (decode (now (t .entry))) (lackOf x))
+        (now (out .exit)) (at + sizeOf (lackOf x)) ⌝ }
 {
     let Place::Here(l) = x else {
-        return Entry::Nothing;
+        return;
     };
     let a = lookup::known_tick(s, v, l.item, l.replica);
     let b = lookup::known_tick(t, w, l.item, l.replica);
-    Entry::At(l, a, b)
-}
-
-// Seven words from a place of the buffer on, where there is room for them; none for a side that lacks nothing.
-fn put_entry(out: &mut [u8], at: usize, e: Entry)
-    ensures { λ _. ⌜ now (out .exit) ≡ placed (now (out .entry)) at (putEntry e []) ⌝ }
-{
-    let Entry::At(l, a, b) = e else {
-        return;
-    };
-    if codec::beyond(out.len(), at, ENTRY) {
-        return;
-    }
-    let i = l.item;
-    let p = l.replica;
-    codec::write8(out, at, i.high);
-    codec::write8(out, at + 8, i.middle);
-    codec::write8(out, at + 16, i.low);
-    codec::write8(out, at + 24, p.high);
-    codec::write8(out, at + 32, p.low);
+    leaves::write_item(out, at, l.item);
+    leaves::write_replica(out, at + 24, l.replica);
     codec::write8(out, at + 40, a);
     codec::write8(out, at + 48, b);
 }
@@ -321,8 +294,8 @@ fn compare_in(s: &[u8], v: View, t: &[u8], w: View, order: &mut u32, out: &mut [
     if out.len() < length {
         return Answer::Refused(14);
     }
-    put_entry(out, 0, with_ticks(s, v, t, w, x));
-    put_entry(out, second, with_ticks(s, v, t, w, y));
+    put_lack(s, v, t, w, x, out, 0);
+    put_lack(s, v, t, w, y, out, second);
     *order = order_of(x, y);
     Answer::Written(length)
 }

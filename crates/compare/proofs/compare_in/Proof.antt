@@ -15,17 +15,21 @@ returns c =
     ends-short R _ _ _ _ _ _ o _ _ q _ _ (y .before .lacking-place .ensures) (y .lacking-place2 .ensures) _ _
     (c .before .before .size-of .ensures) (c .before .size-of2 .ensures) (c .if1 .taken)
 
+put-lack-requires-2 : tie.Need-put-lack-requires-2
+put-lack-requires-2 c κs =
+    let size = c .before .before .before .before .before .before in
+    (search needs, search needs, omega (arith, size-small _ _ (size .before .size-of .ensures)))
+
 returns-2 : tie.Need-returns-2
 returns-2 c =
     λ R o q.
-    let g = c .before .before .before .before in
-    let f = g .before .before .before .before .before in
-    let room = f .before .before in
+    let second = c .before .before .before in
+    let first = second .before .before .before .before in
+    let room = first .before .before in
     let y = room .before .before .before in
     ends-written R _ _ _ _ _ _ o _ _ q _ _ (y .before .lacking-place .ensures) (y .lacking-place2 .ensures) _ _
-    (room .before .before .size-of .ensures) (room .before .size-of2 .ensures) _ _ _ _ _ (f .with-ticks .ensures) (g .with-ticks2 .ensures)
-    (g .before .before .before .before .put-entry .ensures) (c .before .before .before .put-entry2 .ensures) (c .order-of .ensures)
-    (room .if1 .left)
+    (room .before .before .size-of .ensures) (room .before .size-of2 .ensures) _ _ _ (first .put-lack .ensures)
+    (second .put-lack2 .ensures) (c .order-of .ensures) (room .if1 .left)
 
 pub compare-in-spec : {M : Type 1} → statement M
 compare-in-spec =
@@ -38,10 +42,8 @@ compare-in-spec =
     (λ c κs. search needs)  -- size-of-requires-2
     add-length
     returns
-    (λ c κs. search needs)  -- with-ticks-requires
-    (λ c κs. search needs)  -- put-entry-requires
-    (λ c κs. search needs)  -- with-ticks-requires-2
-    (λ c κs. search needs)  -- put-entry-requires-2
+    (λ c κs. search needs)  -- put-lack-requires
+    put-lack-requires-2
     (λ c κs. search needs)  -- order-of-requires
     (λ c. search needs)  -- same-length
     returns-2)
