@@ -56,7 +56,7 @@ use Rattle.store_open.proofs.Opened.{StoreOpen, BatchOpen, store-open, store-cl
 use Rattle.store_open.proofs.Opened.{store-place, store-room, store-slice, store-lookup}
 use Rattle.store_open.proofs.Opened.{batch-place, batch-fits, needed-slice, learned-slice, needed-lookup, learned-lookup}
 use Rattle.layout.specs.declared.Limits as R
-use Rattle.operations.specs.MethodOpened.{limitsOf, Reads}
+use Rattle.results.specs.MethodOpened.{limitsOf, Reads}
 use Rattle.store_write.specs.MethodClosing.{knowledgeReply, RoomFor, withPart, Inside}
 use Rattle.store_write.proofs.Closing.{joined-inside}
 use Rattle.apply.specs.Method.{ownCovered, appliedReply, BothValid, Merges}

@@ -22,7 +22,7 @@ ghost use Rattle.ticks.specs.Operations.{covers, ownAlike};
 ghost use Rattle.replication.specs.OpenBatch.{firstId, lastId, batchNeeded};
 ghost use Rattle.replication.specs.Calls.{applyReply};
 ghost use Rattle.lookup.specs.Method.{Open};
-ghost use Rattle.operations.specs.MethodOpened.{limitsOf};
+ghost use Rattle.results.specs.MethodOpened.{limitsOf};
 ghost use Rattle.codec.specs.MethodEnded.{Ended};
 ghost use Rattle.apply.specs.Method.{ownCovered, appliedReply, BothValid, Merges};
 
@@ -126,7 +126,7 @@ fn write_applied(
     let room = store_write::room_in_store(out.len(), limits.records, e);
     let from = room.from;
     let to = room.to;
-    let a = operations::merge_opened(k, own.view, l, learned.view, limits, &mut out[from..to]);
+    let a = results::merge_opened(k, own.view, l, learned.view, limits, &mut out[from..to]);
     store_write::close_store(out, id, a, limits.records, store, batch, &picks, e)
 }
 

@@ -76,7 +76,7 @@ use Rattle.store_open.specs.Method.{storeOpened}
 use Rattle.store_open.proofs.Opened.{StoreOpen, store-open, store-closed, store-place, store-room, store-slice}
 use Rattle.lookup.specs.declared.View.{View}
 use Rattle.layout.specs.declared.Limits as R
-use Rattle.operations.specs.MethodOpened.{limitsOf, Reads}
+use Rattle.results.specs.MethodOpened.{limitsOf, Reads}
 use Rattle.store_write.specs.MethodClosing.{knowledgeReply, RoomFor, withPart, Inside}
 use Rattle.store_write.proofs.Closing.{joined-inside}
 use Rattle.edit.specs.declared.Change.{Change}

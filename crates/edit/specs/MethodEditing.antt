@@ -13,7 +13,7 @@ use Rattle.replication.specs.OpenStore.{storeKnowledge}
 use Rattle.replication.specs.Queries.{places, placeOf}
 use Rattle.replication.specs.MethodTable.{tableAt}
 use Rattle.lookup.specs.declared.View.{View}
-use Rattle.operations.specs.MethodOpened.{Reads}
+use Rattle.results.specs.MethodOpened.{Reads}
 use Rattle.records.specs.declared.Found.{Found}
 use Rattle.records.specs.declared.Found.the-variants as F
 use Rattle.records.specs.Method.{readRec, foundPlace}

@@ -28,7 +28,7 @@ ghost use Rattle.replication.specs.Call.{brings};
 ghost use Rattle.replication.specs.MethodReplies.{changeReply, storeReply};
 ghost use Rattle.replication.specs.Calls.{gone, editReply, deleteReply};
 ghost use Rattle.records_join.specs.MethodWritten.{recordOf};
-ghost use Rattle.operations.specs.MethodOpened.{limitsOf};
+ghost use Rattle.results.specs.MethodOpened.{limitsOf};
 ghost use Rattle.codec.specs.MethodEnded.{Ended};
 ghost use Rattle.replication.specs.Calls.{newReply};
 ghost use Rattle.edit.specs.MethodEditing.{itemOf, contentOf, versionReplica, foundRead, Becomes, Raises, Asked};
@@ -141,7 +141,7 @@ fn write_changed(
     let from = room.from;
     let to = room.to;
     let own = change.replica;
-    let a = operations::raise_opened(k, v, own, change.tick, limits, &mut out[from..to]);
+    let a = results::raise_opened(k, v, own, change.tick, limits, &mut out[from..to]);
     store_write::close_store(out, own, a, limits.records, store, one, &picks, e)
 }
 

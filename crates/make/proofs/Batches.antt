@@ -37,8 +37,8 @@ use Rattle.replication.specs.MethodOpening.{storeAt}
 use Rattle.replication.proofs.Opening.Calls.{batch-needed-result}
 use Rattle.records_join.specs.MethodJoin.{copied, sizeFrom, fronted}
 use Rattle.records_select.proofs.SelectedTables.{selected-count, selected-size, selected-copied}
-use Rattle.operations.specs.MethodOpened.{limitsOf, resultOf, normalisedEnd, projectedEnd}
-use Rattle.operations.proofs.Opened.{normalise-opened, project-opened}
+use Rattle.results.specs.MethodOpened.{limitsOf, resultOf, normalisedEnd, projectedEnd}
+use Rattle.results.proofs.Opened.{normalise-opened, project-opened}
 use Rattle.store_write.specs.MethodStoring.{Chosen}
 use Rattle.store_write.specs.MethodClosing.{RoomBehind, withPart, InsideBatch}
 use Rattle.make.specs.declared.Task.{Task}

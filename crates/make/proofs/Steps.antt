@@ -49,7 +49,7 @@ use Rattle.replication.proofs.Opening.Calls.{make-left}
 use Rattle.replication.proofs.Refusals.Make.{make-store, make-own, make-17}
 use Rattle.replication.proofs.Refusals.Tests.{means-span}
 use Rattle.records_select.proofs.SelectedTables.{selected-needed, selected-fewer}
-use Rattle.operations.specs.MethodOpened.{limitsOf}
+use Rattle.results.specs.MethodOpened.{limitsOf}
 use Rattle.store_open.specs.declared.KnowledgePart.{KnowledgePart}
 use Rattle.store_open.specs.declared.OpenedStore.{OpenedStore}
 use Rattle.store_open.specs.declared.OpenedStore.the-variants as S

@@ -23,7 +23,7 @@ use Rattle.replication.specs.MethodReplies.{batchReply}
 use Rattle.store_open.specs.declared.KnowledgePart.{KnowledgePart}
 use Rattle.store_open.specs.Method.{ownBytes}
 use Rattle.records_select.specs.MethodSelect.{selectPlaces}
-use Rattle.operations.specs.MethodOpened.{limitsOf, resultOf}
+use Rattle.results.specs.MethodOpened.{limitsOf, resultOf}
 use Rattle.make.specs.declared.Task.{Task}
 
 -- ---- inputs that are accepted

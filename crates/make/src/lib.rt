@@ -18,7 +18,7 @@ ghost use Rattle.codec.specs.MethodEnded.{Ended};
 ghost use Rattle.layout.specs.Knowledge.{anyId, basic};
 ghost use Rattle.replication.specs.Calls.{makeReply};
 ghost use Rattle.records_join.specs.MethodJoin.{sizeFrom, fronted};
-ghost use Rattle.operations.specs.MethodOpened.{limitsOf};
+ghost use Rattle.results.specs.MethodOpened.{limitsOf};
 ghost use Rattle.make.specs.Method.{Inputs, Parts, chosenPlaces, neededReply, madeReply};
 
 // the place of a store's knowledge
@@ -80,7 +80,7 @@ fn make_learned(
     let to = room.to;
     let first = w.span.first;
     let last = w.span.last;
-    let a = operations::project_opened(mine, w.own, w.span, w.limits, &mut out[from..to]);
+    let a = results::project_opened(mine, w.own, w.span, w.limits, &mut out[from..to]);
     store_write::close_batch(out, first, last, a, needed, store, &picks, e)
 }
 
@@ -92,7 +92,7 @@ fn make_long(out: &mut [u8], w: Task, store: &[u8], mine: &[u8], knowledge: &[u8
     ensures { λ a. ⌜ Ended (madeReply (now (store .entry)) (now (knowledge .entry)) w) (now (out .entry)) (now (out .exit)) a ⌝ }
 {
     let mut long = [0u8; LONGEST];
-    match operations::normalise_opened(knowledge, w.given, w.limits, &mut long) {
+    match results::normalise_opened(knowledge, w.given, w.limits, &mut long) {
         Answer::Written(n) => make_learned(out, w, &long[..n], store, mine, knowledge),
         Answer::Refused(n) => Answer::Refused(n),
     }
@@ -107,7 +107,7 @@ fn make_needed(out: &mut [u8], w: Task, store: &[u8], mine: &[u8], knowledge: &[
         return make_long(out, w, store, mine, knowledge);
     }
     let mut short = [0u8; SHORT];
-    match operations::normalise_opened(knowledge, w.given, w.limits, &mut short) {
+    match results::normalise_opened(knowledge, w.given, w.limits, &mut short) {
         Answer::Written(n) => make_learned(out, w, &short[..n], store, mine, knowledge),
         Answer::Refused(n) => {
             if n == 14 {

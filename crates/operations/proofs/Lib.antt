@@ -1,4 +1,2 @@
--- The laws of the operations.
-pub mod Opened
+-- The laws of the calls.
 pub mod Replies
-pub mod TableWords

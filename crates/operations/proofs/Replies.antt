@@ -22,8 +22,8 @@ use Rattle.lookup.specs.Method.{Opens}
 use Rattle.loading.proofs.Closing.{result-is, normalise-accepted, merge-accepted, project-accepted}
 use Rattle.sampling.proofs.Opening.{opened-read}
 use Rattle.preparing.proofs.Ready.{first-item, last-item, span-rises}
-use Rattle.operations.specs.MethodOpened.{Reads, resultOf, mergedEnd, normalisedEnd, projectedEnd}
-use Rattle.operations.proofs.Opened.{merge-opened, normalise-opened, project-opened}
+use Rattle.results.specs.MethodOpened.{Reads, resultOf, mergedEnd, normalisedEnd, projectedEnd}
+use Rattle.results.proofs.Opened.{merge-opened, normalise-opened, project-opened}
 
 module _ (replicas ranges : ℕ) where
   abbrev R : Rules

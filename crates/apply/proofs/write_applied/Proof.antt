@@ -4,8 +4,8 @@ use Rattle.layout.specs.Permitted.{largestRecords}
 use Rattle.replication.specs.Operate.{applied}
 use Rattle.replication.specs.MethodOpening.{storeAt, batchAt}
 use Rattle.codec.proofs.Writing.{zeros-length}
-use Rattle.operations.specs.MethodOpened.{limitsOf}
-use Rattle.operations.proofs.Opened.{merge-opened}
+use Rattle.results.specs.MethodOpened.{limitsOf}
+use Rattle.results.proofs.Opened.{merge-opened}
 use Rattle.store_write.proofs.Closing.{store-room, close-store}
 use Rattle.apply.proofs.Applying.{apply-inside, mine-reads, theirs-reads}
 use borrow.Author.Needs.{needs}

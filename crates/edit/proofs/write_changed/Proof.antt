@@ -3,8 +3,8 @@ use native.Mathlib.Omega.{arith}
 use Rattle.codec.specs.Number.{Bytes}
 use Rattle.layout.specs.Permitted.{largestRecords}
 use Rattle.codec.proofs.Writing.{zeros-length}
-use Rattle.operations.specs.MethodOpened.{limitsOf}
-use Rattle.operations.proofs.Opened.{raise-opened}
+use Rattle.results.specs.MethodOpened.{limitsOf}
+use Rattle.results.proofs.Opened.{raise-opened}
 use Rattle.store_write.proofs.Closing.{store-room, close-store}
 use Rattle.edit.proofs.Changing.{change-inside}
 use borrow.Author.Needs.{needs}

@@ -2,7 +2,7 @@
 use native.Mathlib.Omega.{arith}
 use Rattle.codec.proofs.Writing.{zeros-length}
 use Rattle.layout.specs.Permitted.{largestRecords}
-use Rattle.operations.specs.MethodOpened.{limitsOf}
+use Rattle.results.specs.MethodOpened.{limitsOf}
 use Rattle.store_write.proofs.ClosingBatch.{batch-room, close-batch}
 use Rattle.make.specs.Method.{madeOf}
 use Rattle.make.proofs.Batches.{made-inside}

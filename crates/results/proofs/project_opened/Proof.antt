@@ -1,9 +1,9 @@
--- `operations::project_opened` meets its contract: it works in the scratch for the last row that the table may have.
-use Rattle.operations.specs.declared.Size.the-variants as Z
-use Rattle.operations.proofs.Opened.{projected-sized}
+-- `results::project_opened` meets its contract: it works in the scratch for the last row that the table may have.
+use Rattle.results.specs.declared.Size.the-variants as Z
+use Rattle.results.proofs.Opened.{projected-sized}
 use borrow.Author.Needs.{needs}
-use Rattle.operations.proofs.project_opened.Statement.{statement}
-use Rattle.operations.proofs.project_opened.Tie as tie
+use Rattle.results.proofs.project_opened.Statement.{statement}
+use Rattle.results.proofs.project_opened.Tie as tie
 
 returns : tie.Need-returns
 returns c =

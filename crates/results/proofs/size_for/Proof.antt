@@ -1,7 +1,7 @@
--- `operations::size_for` meets its contract: by the rows of small and of middle scratch.
-use Rattle.operations.proofs.Opened.{small-size, middle-size, large-size}
-use Rattle.operations.proofs.size_for.Statement.{statement}
-use Rattle.operations.proofs.size_for.Tie as tie
+-- `results::size_for` meets its contract: by the rows of small and of middle scratch.
+use Rattle.results.proofs.Opened.{small-size, middle-size, large-size}
+use Rattle.results.proofs.size_for.Statement.{statement}
+use Rattle.results.proofs.size_for.Tie as tie
 
 returns : tie.Need-returns
 returns c = small-size (c .before .args .row) (c .if1 .taken)

@@ -17,8 +17,8 @@ use Rattle.tables.specs.MethodWords.{stride, mostRows}
 use Rattle.sampling.specs.MethodTables.{Table, oneTable, twoTable, spanTable, raisedTable}
 use Rattle.codec.specs.MethodEnded.{End}
 use Rattle.preparing.specs.MethodPrepared.{concluded}
-use Rattle.operations.specs.declared.Size.{Size}
-use Rattle.operations.specs.declared.Size.the-variants as Z
+use Rattle.results.specs.declared.Size.{Size}
+use Rattle.results.specs.declared.Size.the-variants as Z
 
 -- What a caller has and gets
 

@@ -1,22 +1,22 @@
--- `operations::raise_in` meets its contract: the end of the table that was filled.
-use Rattle.operations.proofs.Opened.{end-filled}
+-- `results::normalise_in` meets its contract: the end of the table that was filled.
+use Rattle.results.proofs.Opened.{end-filled}
 use borrow.Author.Needs.{needs}
-use Rattle.operations.proofs.raise_in.Statement.{statement}
-use Rattle.operations.proofs.raise_in.Tie as tie
+use Rattle.results.proofs.normalise_in.Statement.{statement}
+use Rattle.results.proofs.normalise_in.Tie as tie
 
 returns : tie.Need-returns
 returns c =
     let f = c .before .before .before .before .before .before .before .before .before .before .before .before .before in
     end-filled
     (f .before .before .before .before .before .before .before .before .before .args .limits) _ _ _ _ _ _ _
-    (f .fill-raised .ensures)
+    (f .fill-one .ensures)
     (c .before .before .conclude .ensures)
 
-pub raise-in-spec : {M : Type 1} → statement M
-raise-in-spec =
+pub normalise-in-spec : {M : Type 1} → statement M
+normalise-in-spec =
     tie.close
     (tie.spec
-    (λ c κs. search needs)  -- fill-raised-requires
+    (λ c κs. search needs)  -- fill-one-requires
     (λ c κs. search needs)  -- conclude-requires
     (λ c. search needs)  -- same-length
     (λ c. search needs)  -- same-length-2

@@ -1,8 +1,8 @@
--- `operations::merge_in` meets its contract: the end of the table that was filled.
-use Rattle.operations.proofs.Opened.{end-filled}
+-- `results::merge_in` meets its contract: the end of the table that was filled.
+use Rattle.results.proofs.Opened.{end-filled}
 use borrow.Author.Needs.{needs}
-use Rattle.operations.proofs.merge_in.Statement.{statement}
-use Rattle.operations.proofs.merge_in.Tie as tie
+use Rattle.results.proofs.merge_in.Statement.{statement}
+use Rattle.results.proofs.merge_in.Tie as tie
 
 returns : tie.Need-returns
 returns c =

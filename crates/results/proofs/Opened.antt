@@ -29,11 +29,11 @@ use Rattle.sampling.proofs.Opening.{scratch-replicas, scratch-ranges}
 use Rattle.sampling.proofs.Scratch.{table-room}
 use Rattle.preparing.specs.MethodPrepared.{concluded, Sheet}
 use Rattle.preparing.proofs.Ready.{normalise-sheet, merge-sheet, project-sheet, raise-sheet, sheet-ended}
-use Rattle.operations.specs.MethodOpened.{Reads, resultOf, smallRows, middleRows, oneRows, sizeFor, rowsOf, Fill, zeroed, lent, tableEnd}
-use Rattle.operations.specs.MethodOpened.{mergedEnd, raisedEnd, normalisedEnd, projectedEnd}
-use Rattle.operations.specs.declared.Size.{Size}
-use Rattle.operations.specs.declared.Size.the-variants as Z
-use Rattle.operations.proofs.TableWords.{TableWords, words-zeros, one-words, raised-words, span-words, two-words}
+use Rattle.results.specs.MethodOpened.{Reads, resultOf, smallRows, middleRows, oneRows, sizeFor, rowsOf, Fill, zeroed, lent, tableEnd}
+use Rattle.results.specs.MethodOpened.{mergedEnd, raisedEnd, normalisedEnd, projectedEnd}
+use Rattle.results.specs.declared.Size.{Size}
+use Rattle.results.specs.declared.Size.the-variants as Z
+use Rattle.results.proofs.TableWords.{TableWords, words-zeros, one-words, raised-words, span-words, two-words}
 
 -- ---- the end that a function computes
 

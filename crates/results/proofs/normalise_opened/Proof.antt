@@ -1,9 +1,9 @@
--- `operations::normalise_opened` meets its contract: it works in the scratch for the last row that the table may have.
-use Rattle.operations.specs.declared.Size.the-variants as Z
-use Rattle.operations.proofs.Opened.{normalised-sized}
+-- `results::normalise_opened` meets its contract: it works in the scratch for the last row that the table may have.
+use Rattle.results.specs.declared.Size.the-variants as Z
+use Rattle.results.proofs.Opened.{normalised-sized}
 use borrow.Author.Needs.{needs}
-use Rattle.operations.proofs.normalise_opened.Statement.{statement}
-use Rattle.operations.proofs.normalise_opened.Tie as tie
+use Rattle.results.proofs.normalise_opened.Statement.{statement}
+use Rattle.results.proofs.normalise_opened.Tie as tie
 
 returns : tie.Need-returns
 returns c =

@@ -1,0 +1,3 @@
+-- The laws of the results.
+pub mod Opened
+pub mod TableWords
