@@ -1,2 +1,3 @@
 -- The laws that the reader's functions are proved by.
 pub mod Answers
+pub mod Packed

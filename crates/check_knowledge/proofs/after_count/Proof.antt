@@ -24,5 +24,6 @@ after-count-spec =
     (λ c. omega arith)  -- enum-known-e
     (λ c κs. tt)  -- after-vectors-requires
     (λ c. omega arith)  -- enum-known-n
+    (λ c. omega arith)  -- cast-result
     returns
     returns-2)

@@ -24,5 +24,6 @@ after-map-spec =
     (λ c. omega arith)  -- enum-known-v
     (λ c κs. tt)  -- after-count-requires
     (λ c. omega arith)  -- enum-known-n
+    (λ c. omega arith)  -- cast-result
     returns
     returns-2)

@@ -24,5 +24,6 @@ after-vectors-spec =
     (λ c. omega arith)  -- enum-known-g
     (λ c κs. tt)  -- after-ranges-requires
     (λ c. omega arith)  -- enum-known-n
+    (λ c. omega arith)  -- cast-result
     returns
     returns-2)

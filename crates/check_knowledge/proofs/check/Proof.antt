@@ -1,16 +1,19 @@
 -- `check_knowledge::check` meets its contract. Document 01's limits are within the largest.
-use mathlib.Core.Path.{refl}
+use native.Mathlib.Omega.{arith}
 use Rattle.check_knowledge.proofs.Answers.{check-base}
+use Rattle.check_knowledge.proofs.Packed.{basic-unpacked}
 use Rattle.check_knowledge.proofs.check.Statement.{statement}
 use Rattle.check_knowledge.proofs.check.Tie as tie
 
-check-within-requires : tie.Need-check-within-requires
-check-within-requires c κs =
-    tt
-
 returns : tie.Need-returns
 returns c =
-    check-base _ _ _ _ (c .check-within .ensures) refl refl
+    let bytes = c .before .before .shared-slice-known .given in
+    basic-unpacked _ (record { below = λ i. omega (arith, bytes i) }) _ _ (check-base _ _ (c .before .check-whole .ensures)) (c .unpack .ensures)
 
 pub check-spec : {M : Type 1} → statement M
-check-spec = tie.close (tie.spec check-within-requires returns)
+check-spec =
+    tie.close
+    (tie.spec
+    (λ c κs. tt)  -- check-whole-requires
+    (λ c κs. tt)  -- unpack-requires
+    returns)

@@ -6,7 +6,7 @@ use Rattle.check_knowledge.proofs.check_whole.Tie as tie
 
 returns : tie.Need-returns
 returns c =
-    check-on _ _ _ _ (c .before .before .before .before .replica-map .ensures) _ _ (c .before .before .r .given .1) _ (c .after-map .ensures)
+    check-on _ _ _ _ (c .before .before .before .before .replica-map .ensures) _ _ _ (c .before .before .r .given .1) (c .after-map .ensures)
 
 returns-2 : tie.Need-returns-2
 returns-2 c =
@@ -20,5 +20,6 @@ check-whole-spec =
     (λ c. omega arith)  -- enum-known-r
     (λ c κs. tt)  -- after-map-requires
     (λ c. omega arith)  -- enum-known-n
+    (λ c. omega arith)  -- cast-result
     returns
     returns-2)
