@@ -5,21 +5,9 @@ use native.Mathlib.Omega.{arith}
 use Rattle.check_parts.proofs.next_vector.Statement.{statement}
 use Rattle.check_parts.proofs.next_vector.Tie as tie
 
-vector-by-fields-requires : tie.Need-vector-by-fields-requires
-vector-by-fields-requires c κs =
-    tt
-
 returns : tie.Need-returns
 returns c =
     c .vector-by-fields .ensures
-
-beyond-requires : tie.Need-beyond-requires
-beyond-requires c κs =
-    tt
-
-vector-by-fields-requires-2 : tie.Need-vector-by-fields-requires-2
-vector-by-fields-requires-2 c κs =
-    tt
 
 returns-2 : tie.Need-returns-2
 returns-2 c =
@@ -28,10 +16,6 @@ returns-2 c =
 four-requires : tie.Need-four-requires
 four-requires c κs =
     omega (arith, c .before .beyond .ensures .1 (c .if2 .left))
-
-vector-by-fields-requires-3 : tie.Need-vector-by-fields-requires-3
-vector-by-fields-requires-3 c κs =
-    tt
 
 returns-3 : tie.Need-returns-3
 returns-3 c =
@@ -45,10 +29,6 @@ four-requires-2 : tie.Need-four-requires-2
 four-requires-2 c κs =
     omega (arith, c .before .before .before .beyond .ensures .1 (c .before .before .if2 .left))
 
-vector-by-fields-requires-4 : tie.Need-vector-by-fields-requires-4
-vector-by-fields-requires-4 c κs =
-    tt
-
 returns-4 : tie.Need-returns-4
 returns-4 c =
     c .vector-by-fields4 .ensures
@@ -60,14 +40,6 @@ sub-if5 c =
 sub-if5-2 : tie.Need-sub-if5-2
 sub-if5-2 c =
     omega (arith, c .before .before .before .before .before .beyond .ensures .1 (c .before .before .before .before .if2 .left))
-
-mul-if5 : tie.Need-mul-if5
-mul-if5 c =
-    omega arith
-
-vector-by-fields-requires-5 : tie.Need-vector-by-fields-requires-5
-vector-by-fields-requires-5 c κs =
-    tt
 
 returns-5 : tie.Need-returns-5
 returns-5 c =
@@ -89,10 +61,6 @@ add-t23 c =
     let b8 = b4 .before .before .before .before in
     omega (arith, b8 .beyond .ensures .1 (b4 .before .before .before .if2 .left))
 
-mul-t24 : tie.Need-mul-t24
-mul-t24 c =
-    omega arith
-
 add-t25 : tie.Need-add-t25
 add-t25 c =
     let b4 = c .before .before .before .before in
@@ -108,10 +76,6 @@ returns-6 c =
     (sym (b4 .before .before .four .ensures .is) ∙ b4 .before .if3 .left) (b4 .four2 .ensures .is)
     (c .before .before .before .if4 .left) (c .before .elements-stand .ensures (c .if6 .taken))
 
-vector-by-fields-requires-6 : tie.Need-vector-by-fields-requires-6
-vector-by-fields-requires-6 c κs =
-    tt
-
 returns-7 : tie.Need-returns-7
 returns-7 c =
     c .vector-by-fields6 .ensures
@@ -120,28 +84,28 @@ pub next-vector-spec : {M : Type 1} → statement M
 next-vector-spec =
     tie.close
     (tie.spec
-    vector-by-fields-requires
+    (λ c κs. tt)  -- vector-by-fields-requires
     returns
-    beyond-requires
-    vector-by-fields-requires-2
+    (λ c κs. tt)  -- beyond-requires
+    (λ c κs. tt)  -- vector-by-fields-requires-2
     returns-2
     four-requires
-    vector-by-fields-requires-3
+    (λ c κs. tt)  -- vector-by-fields-requires-3
     returns-3
     add-four
     four-requires-2
-    vector-by-fields-requires-4
+    (λ c κs. tt)  -- vector-by-fields-requires-4
     returns-4
     sub-if5
     sub-if5-2
-    mul-if5
-    vector-by-fields-requires-5
+    (λ c. omega arith)  -- mul-if5
+    (λ c κs. tt)  -- vector-by-fields-requires-5
     returns-5
     add-elements-stand
     elements-stand-requires
     add-t23
-    mul-t24
+    (λ c. omega arith)  -- mul-t24
     add-t25
     returns-6
-    vector-by-fields-requires-6
+    (λ c κs. tt)  -- vector-by-fields-requires-6
     returns-7)

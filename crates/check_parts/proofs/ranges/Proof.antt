@@ -8,18 +8,6 @@ returns : tie.Need-returns
 returns c =
     ranges-none _ _ _ _ (c .if1 .taken)
 
-range-of-any-bound-requires : tie.Need-range-of-any-bound-requires
-range-of-any-bound-requires c κs =
-    omega arith
-
-enum-known-f : tie.Need-enum-known-f
-enum-known-f c =
-    omega arith
-
-enum-told : tie.Need-enum-told
-enum-told c =
-    omega arith
-
 returns-2 : tie.Need-returns-2
 returns-2 c =
     ranges-first-fault _ _ _ _ (c .before .before .before .if1 .left) _ (c .before .before .range-of-any-bound .ensures) _
@@ -29,18 +17,10 @@ eight-requires : tie.Need-eight-requires
 eight-requires c κs =
     let w = range-went _ _ _ _ _ (c .before .before .before .range-of-any-bound .ensures) _ _ (c .before .f .given .1) in omega arith
 
-add-eight : tie.Need-add-eight
-add-eight c =
-    omega arith
-
 eight-requires-2 : tie.Need-eight-requires-2
 eight-requires-2 c κs =
     let b4 = c .before .before .before .before in
     let w = range-went _ _ _ _ _ (b4 .range-of-any-bound .ensures) _ _ (c .before .before .f .given .1) in omega arith
-
-add-eight-2 : tie.Need-add-eight-2
-add-eight-2 c =
-    omega arith
 
 eight-requires-3 : tie.Need-eight-requires-3
 eight-requires-3 c κs =
@@ -65,14 +45,14 @@ ranges-spec =
     tie.close
     (tie.spec
     returns
-    range-of-any-bound-requires
-    enum-known-f
-    enum-told
+    (λ c κs. omega arith)  -- range-of-any-bound-requires
+    (λ c. omega arith)  -- enum-known-f
+    (λ c. omega arith)  -- enum-told
     returns-2
     eight-requires
-    add-eight
+    (λ c. omega arith)  -- add-eight
     eight-requires-2
-    add-eight-2
+    (λ c. omega arith)  -- add-eight-2
     eight-requires-3
     more-ranges-requires
     returns-3)

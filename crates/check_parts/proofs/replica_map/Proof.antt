@@ -6,14 +6,6 @@ use native.Mathlib.Omega.{arith}
 use Rattle.check_parts.proofs.replica_map.Statement.{statement}
 use Rattle.check_parts.proofs.replica_map.Tie as tie
 
-count-of-replicas-requires : tie.Need-count-of-replicas-requires
-count-of-replicas-requires c κs =
-    tt
-
-in-limits-requires : tie.Need-in-limits-requires
-in-limits-requires c κs =
-    tt
-
 returns : tie.Need-returns
 returns c =
     map-fault _ _ _ _ (c .before .before .before .count-of-replicas .ensures) (c .before .before .in-limits .ensures) _
@@ -36,10 +28,14 @@ pub replica-map-spec : {M : Type 1} → statement M
 replica-map-spec =
     tie.close
     (tie.spec
-    count-of-replicas-requires
-    in-limits-requires
-    (λ c. omega arith)  -- enum-known-g
-    (λ c. omega arith)  -- enum-told
+    (λ c κs. tt)  -- count-of-replicas-requires
+    (λ c κs. tt)  -- in-limits-requires
+    (λ c. omega arith)
+    --
+    enum-known-g
+    (λ c. omega arith)
+    --
+    enum-told
     returns
     replica-ids-requires
     returns-2)
