@@ -7,6 +7,5 @@ pub mod Broken
 pub mod Unusual
 pub mod OneRun
 pub mod Lists
-pub mod Longer
 pub mod RoundListed
 pub mod FirstFault

@@ -1,0 +1,1 @@
+// No function stands here: the crate holds what a list of twenty-six calls comes to.
