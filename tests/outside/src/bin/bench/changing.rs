@@ -120,8 +120,8 @@ pub fn apply(sample: &Sample) -> Vec<Row> {
     rows
 }
 
-/// Stores and batches that are made for what the store knows, from one that knows later ticks. Nobody else can have such ticks of the
-/// store's own replica, so that a store without another one has news of a new replica only.
+/// Stores and batches that are made for what the store knows, by one that knows later ticks. Nobody else can have later
+/// ticks of the store's own replica, so that a store without another replica gets news of a new one only.
 fn with_news(sample: &Sample) -> Vec<(&'static str, Vec<u8>, Vec<u8>)> {
     let store = &sample.store;
     let mut rows = Vec::new();

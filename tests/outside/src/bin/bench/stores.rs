@@ -52,8 +52,8 @@ pub fn batch(store: &Store) -> Batch {
     Batch::whole(&other)
 }
 
-/// What a replica makes for a store after it has taken in a later tick of another replica, in the ranges that are chosen by their numbers:
-/// every other record there is later.
+/// What another replica makes for a store after it has taken in a later tick of a replica, in the ranges that are chosen
+/// by their numbers: every other record there is later.
 pub fn news(store: &Store, replica: ReplicaId, chosen: impl Fn(usize) -> bool) -> Batch {
     let known = &store.knowledge;
     let range = |item: &ItemId| known.ranges.iter().filter(|(bound, _)| bound <= item).count() - 1;
