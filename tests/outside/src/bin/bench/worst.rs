@@ -12,10 +12,10 @@ const BAR: u32 = 2;
 const NEARLY: f64 = 1.02;
 
 const NOTES: &str = "\
-Typical is the named input of the call's own table. The others have as many replicas, ranges, vectors and records, and as
-many bytes but for a few in a hundred; they are accepted, or refused with the same number. *Words alike*: the engine's
-hashes of all vectors and of all rows are the same. *Hashes of Rust alike*: those of Rust are. The ratio of Rust is the
-greatest that it has on the same inputs.";
+Typical is the named input, most often of the call's own table. The others have as many replicas, ranges, vectors and
+records, and as many bytes but for a few in a hundred; they are accepted, or refused with the same number. *Words alike*:
+the engine's hashes of all vectors and of all rows are the same. *Hashes of Rust alike*: those of Rust are. The ratio of
+Rust is the greatest that it has on the same inputs.";
 
 /// How many of everything an input has.
 #[derive(Clone, Copy)]
