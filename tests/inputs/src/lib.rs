@@ -26,6 +26,7 @@ mod shares;
 mod splitmix;
 mod store;
 mod stores;
+mod worst;
 mod writing;
 
 pub use batches::shapes as batch_shapes;
@@ -47,4 +48,8 @@ pub use shares::{containing, containing_tick_1, store_of, with_one_more};
 pub use splitmix::SplitMix64;
 pub use store::{Batch, Store};
 pub use stores::shapes as store_shapes;
+pub use worst::{
+    alike_but_for, first_replica_missing, hashes_alike, id_alike_at_both_ends, ids_alike_at_both_ends,
+    merged_words_alike, shuffled, used_twice, vectors_backwards, words_alike,
+};
 pub use writing::{LONGEST, Room, Writing};

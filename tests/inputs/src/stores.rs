@@ -46,9 +46,15 @@ impl Store {
             knowledge.vectors.iter_mut().skip(1).for_each(|vector| vector[0].1 = OWN_TICK);
         }
         knowledge.ranges.iter_mut().zip(bounds).for_each(|((bound, _), item)| *bound = item);
+        Self::knowing(own, knowledge, items)
+    }
+
+    /// This knowledge, and records of these items, whose versions it contains: they go through the replicas in turn, and one in
+    /// three is a tombstone.
+    pub fn knowing(own: ReplicaId, knowledge: Knowledge, items: impl Iterator<Item = ItemId>) -> Self {
         let record = |(place, item): (usize, ItemId)| {
             let version = |key: usize, less: u64| {
-                let replica = knowledge.replicas[key % r];
+                let replica = knowledge.replicas[key % knowledge.replicas.len()];
                 (replica, knowledge.known(&item, &replica).saturating_sub(less).max(1))
             };
             let change = version(place, place as u64 % 5);

@@ -70,32 +70,37 @@ fn with_more(knowledge: &Knowledge, item: &ItemId) -> Knowledge {
     knowledge.merged(&everywhere.projected(item, item))
 }
 
+/// Measures one round more of a compare. The compiler does not know the arguments. Each side has a buffer of its own.
+pub fn measure(name: &str, number: u32, [first, second]: [&[u8]; 2], room: usize, times: &mut Times) {
+    let (mut out, mut rust_out) = (vec![0; room], vec![0; room]);
+    let (mut order, mut written) = (0, 0);
+    let given = engine::compare(first, second, &mut order, &mut out, &mut written);
+    let answer = reference::compare(first, second, &mut rust_out);
+    assert_eq!((given, answer.err().unwrap_or(0)), (number, number), "{name}");
+    assert_eq!(answer.unwrap_or((0, 0)), (order, written as usize), "{name}");
+    assert_eq!(out, rust_out, "{name}");
+    times.measure(
+        || {
+            let (first, second) = (black_box(first), black_box(second));
+            black_box(engine::compare(first, second, &mut order, black_box(&mut out), &mut written));
+        },
+        || {
+            let (first, second) = (black_box(first), black_box(second));
+            black_box(&reference::compare(first, second, black_box(&mut rust_out)));
+        },
+    );
+}
+
 impl Row {
     fn new(name: &'static str, number: u32, first: &[u8], second: &[u8], room: usize) -> Self {
         let [first, second] = [first, second].map(<[u8]>::to_vec);
         Self { name, number, first, second, room, times: Times::default(), covers: Times::default() }
     }
 
-    /// Measures one round more. The compiler does not know the arguments. Each side has a buffer of its own.
+    /// Measures one round more.
     fn measure(&mut self) {
         let (first, second) = (&self.first[..], &self.second[..]);
-        let (mut out, mut rust_out) = (vec![0; self.room], vec![0; self.room]);
-        let (mut order, mut written) = (0, 0);
-        let number = engine::compare(first, second, &mut order, &mut out, &mut written);
-        let answer = reference::compare(first, second, &mut rust_out);
-        assert_eq!((number, answer.err().unwrap_or(0)), (self.number, self.number), "{}", self.name);
-        assert_eq!(answer.unwrap_or((0, 0)), (order, written as usize), "{}", self.name);
-        assert_eq!(out, rust_out, "{}", self.name);
-        self.times.measure(
-            || {
-                let (first, second) = (black_box(first), black_box(second));
-                black_box(engine::compare(first, second, &mut order, black_box(&mut out), &mut written));
-            },
-            || {
-                let (first, second) = (black_box(first), black_box(second));
-                black_box(&reference::compare(first, second, black_box(&mut rust_out)));
-            },
-        );
+        measure(self.name, self.number, [first, second], self.room, &mut self.times);
         if self.number == 0 {
             let [mut covers, mut other] = [0; 2];
             let cover = |first, second, covers: &mut u32| {

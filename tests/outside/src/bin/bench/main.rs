@@ -4,10 +4,10 @@
 //! else on the machine disturbs only takes longer, so the time of a call is that of the 5th percentile of the turns. Long
 //! turns would nearly all be disturbed, and not both sides alike.
 //!
-//! Arguments choose among the tables by the names of the calls, `larger`, `growth` and `memcpy`. Without any, the
-//! overview of all calls is printed first, and its plot written to `docs/benchmarks.svg`, or where the environment
-//! variable `SYNC_PLOT` says. The argument `overview` measures nothing: it makes both from the tables in the text on
-//! standard input.
+//! Arguments choose among the tables by the names of the calls, `larger`, `growth`, `memcpy` and `worst`. Without any,
+//! all but the last are measured. The overview of all calls is then printed first, and its plot written to
+//! `docs/benchmarks.svg`, or where the environment variable `SYNC_PLOT` says. The argument `overview` measures nothing: it
+//! makes both from the tables in the text on standard input.
 
 mod changing;
 mod changing_call;
@@ -21,6 +21,9 @@ mod reading_call;
 mod row;
 mod sample;
 mod stores;
+mod worst;
+mod worst_knowledges;
+mod worst_stores;
 mod writing;
 
 use std::io;
@@ -61,6 +64,9 @@ const TABLES: &[(&str, Measured)] = &[
     ("memcpy", memcpy::measured),
 ];
 
+/// Measured only if it is named, as it takes minutes by itself.
+const APART: (&str, Measured) = ("worst", worst::measured);
+
 fn main() -> ExitCode {
     let chosen: Vec<String> = env::args().skip(1).collect();
     let ended = if chosen == ["overview"] {
@@ -93,7 +99,7 @@ fn all() -> Result<(), String> {
 /// Measures the chosen tables and prints each.
 fn some(chosen: &[String]) {
     print!("{}", turns());
-    for (_, measured) in TABLES.iter().filter(|(name, _)| chosen.iter().any(|other| other == name)) {
+    for (_, measured) in TABLES.iter().chain([&APART]).filter(|(name, _)| chosen.iter().any(|other| other == name)) {
         print!("{}", measured());
     }
 }

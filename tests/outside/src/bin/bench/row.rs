@@ -5,6 +5,7 @@ use std::hint::black_box;
 use outside::engine;
 
 use crate::changing_call::ChangingCall;
+use crate::comparing;
 use crate::measure::Times;
 use crate::reading_call::ReadingCall;
 
@@ -14,7 +15,8 @@ pub enum Asked {
     Contain { knowledge: Vec<u8>, item: Vec<u8>, replica: Vec<u8>, tick: u64 },
     Lead { first: Vec<u8>, second: Vec<u8>, item: Vec<u8>, replica: Vec<u8> },
     Cover { first: Vec<u8>, second: Vec<u8>, first_item: Vec<u8>, last_item: Vec<u8> },
-    // The calls that write have a buffer of so many bytes.
+    // The next ones have a buffer of so many bytes.
+    Compare { first: Vec<u8>, second: Vec<u8>, room: usize },
     Normalise { knowledge: Vec<u8>, room: usize },
     Merge { first: Vec<u8>, second: Vec<u8>, room: usize },
     Project { knowledge: Vec<u8>, first_item: Vec<u8>, last_item: Vec<u8>, room: usize },
@@ -110,6 +112,9 @@ impl Row {
                     },
                 );
             }
+            Asked::Compare { first, second, room } => {
+                comparing::measure(self.name, number, [first, second], *room, times);
+            }
             Asked::Normalise { knowledge, room } => {
                 let knowledge = &knowledge[..];
                 let engine = |out: &mut [u8], written: &mut u64| engine::normalise(black_box(knowledge), out, written);
@@ -151,7 +156,7 @@ impl Row {
     }
 
     /// How many bytes the knowledges, stores and batches have together.
-    fn bytes(&self) -> usize {
+    pub fn bytes(&self) -> usize {
         match &self.asked {
             Asked::Check { knowledge }
             | Asked::Contain { knowledge, .. }
@@ -159,6 +164,7 @@ impl Row {
             | Asked::Project { knowledge, .. } => knowledge.len(),
             Asked::Lead { first, second, .. }
             | Asked::Cover { first, second, .. }
+            | Asked::Compare { first, second, .. }
             | Asked::Merge { first, second, .. } => first.len() + second.len(),
             Asked::Reading(call) => call.bytes(),
             Asked::Changing(call) => call.bytes(),

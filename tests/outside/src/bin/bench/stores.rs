@@ -3,7 +3,7 @@
 //! The smallest store is one that has made its first edit, the largest has every count at its limit. Each batch is all that the store of another
 //! replica knows, of the same size, where every other record is a later one.
 
-use inputs::{Batch, Store};
+use inputs::{ALL, Batch, ItemId, Knowledge, ReplicaId, Store};
 
 pub struct Sample {
     name: &'static str,
@@ -13,6 +13,14 @@ pub struct Sample {
     pub broken: Vec<u8>,
     pub whole_batch: Vec<u8>,
     pub broken_batch: Vec<u8>,
+}
+
+impl Sample {
+    /// The store or, where it can take in no replica more, one of its size with one replica less.
+    pub fn with_room(&self) -> Store {
+        let Store { knowledge, records, .. } = &self.store;
+        Store::filled(knowledge.replicas.len().min(15), knowledge.ranges.len(), records.len())
+    }
 }
 
 /// Something of each size: the smallest, a middle and the largest.
@@ -43,6 +51,26 @@ pub fn batch(store: &Store) -> Batch {
     }
     Batch::whole(&other)
 }
+
+/// What another replica makes for a store after it has taken in a later tick of a replica, in the ranges that are chosen
+/// by their numbers: every other record there is later.
+pub fn news(store: &Store, replica: ReplicaId, chosen: impl Fn(usize) -> bool) -> Batch {
+    let known = &store.knowledge;
+    let range = |item: &ItemId| known.ranges.iter().filter(|(bound, _)| bound <= item).count() - 1;
+    let tick = known.largest_tick() + 1;
+    let mut replicas = known.replica_set();
+    replicas.insert(replica);
+    let knowledge = Knowledge::with_ticks(known.bounds(), replicas, |item, id| {
+        if *id == replica && chosen(range(item)) { tick } else { known.known(item, id) }
+    });
+    let mut other = Store { knowledge, ..store.clone() };
+    let records = other.records.iter_mut().filter(|record| chosen(range(&record.item)));
+    records.step_by(2).for_each(|record| record.change = (replica, tick));
+    other.made(known, &ALL[0], &ALL[1]).expect("it has no more than the limits allow")
+}
+
+/// A replica that no store has.
+pub const STRANGER: ReplicaId = [0x77; 16];
 
 /// An item behind those of the largest store.
 pub const ABSENT: u128 = 5000;
