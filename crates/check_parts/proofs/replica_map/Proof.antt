@@ -30,12 +30,8 @@ replica-map-spec =
     (tie.spec
     (λ c κs. tt)  -- count-of-replicas-requires
     (λ c κs. tt)  -- in-limits-requires
-    (λ c. omega arith)
-    --
-    enum-known-g
-    (λ c. omega arith)
-    --
-    enum-told
+    (λ c. omega arith)  -- enum-known-g
+    (λ c. omega arith)  -- enum-told
     returns
     replica-ids-requires
     returns-2)
