@@ -24,24 +24,9 @@ loop-holds : tie.Need-loop-holds Inv-loop μ-loop
 loop-holds c =
     (repeat-all _ _ _ _, omega arith, omega arith, omega arith)
 
-element-at-requires : tie.Need-element-at-requires Inv-loop μ-loop
-element-at-requires c κs = omega arith
-
-enum-known-g : tie.Need-enum-known-g Inv-loop μ-loop
-enum-known-g c = omega arith
-
-enum-told : tie.Need-enum-told Inv-loop μ-loop
-enum-told c = omega arith
-
 returns : tie.Need-returns Inv-loop μ-loop
 returns c =
     repeat-stop _ _ _ _ _ _ (c .before .before .before .before .loop .inv .0) (omega arith) _ (c .before .before .element-at .ensures) _ (c .enum-told .given .1)
-
-add-k : tie.Need-add-k Inv-loop μ-loop
-add-k c = omega arith
-
-loop-less : tie.Need-loop-less Inv-loop μ-loop
-loop-less c = omega arith
 
 loop-again : tie.Need-loop-again Inv-loop μ-loop
 loop-again c =
@@ -64,11 +49,11 @@ elements-spec =
     Inv-loop
     μ-loop
     loop-holds
-    element-at-requires
-    enum-known-g
-    enum-told
+    (λ c κs. omega arith)  -- element-at-requires
+    (λ c. omega arith)  -- enum-known-g
+    (λ c. omega arith)  -- enum-told
     returns
-    add-k
-    loop-less
+    (λ c. omega arith)  -- add-k
+    (λ c. omega arith)  -- loop-less
     loop-again
     returns-2)

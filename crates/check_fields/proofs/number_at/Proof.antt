@@ -23,22 +23,9 @@ mul-x : tie.Need-mul-x Inv-loop μ-loop
 mul-x c =
     record { fits = omega (arith, digits-fit (c .before .loop .x) 0 (c .before .loop .i) (omega arith) (omega arith) (omega arith)) }
 
-add-read1 : tie.Need-add-read1 Inv-loop μ-loop
-add-read1 c = omega arith
-
-read1-requires : tie.Need-read1-requires Inv-loop μ-loop
-read1-requires c κs =
-    tt
-
 add-x : tie.Need-add-x Inv-loop μ-loop
 add-x c =
     record { fits = digits-fit (c .before .before .loop .x) (c .read1 .result) (c .before .before .loop .i) (omega arith) (omega arith) (omega arith) }
-
-add-i : tie.Need-add-i Inv-loop μ-loop
-add-i c = omega arith
-
-loop-less : tie.Need-loop-less Inv-loop μ-loop
-loop-less c = omega arith
 
 loop-again : tie.Need-loop-again Inv-loop μ-loop
 loop-again c =
@@ -60,10 +47,10 @@ number-at-spec =
     μ-loop
     loop-holds
     mul-x
-    add-read1
-    read1-requires
+    (λ c. omega arith)  -- add-read1
+    (λ c κs. tt)  -- read1-requires
     add-x
-    add-i
-    loop-less
+    (λ c. omega arith)  -- add-i
+    (λ c. omega arith)  -- loop-less
     loop-again
     returns)

@@ -20,23 +20,10 @@ loop-holds : tie.Need-loop-holds Inv-loop μ-loop
 loop-holds c =
     (among-all _ _ _ _ _ _, omega arith, omega arith)
 
-read4-requires : tie.Need-read4-requires Inv-loop μ-loop
-read4-requires c κs =
-    tt
-
 returns : tie.Need-returns Inv-loop μ-loop
 returns c =
     let l = c .before .before .before .loop in
     among-meets _ _ _ _ _ _ _ _ (l .inv .0) (omega arith) _ (c .before .read4 .ensures .0 ∙ read-there _ 4 _ (omega arith)) (c .if1 .taken)
-
-add-at : tie.Need-add-at Inv-loop μ-loop
-add-at c = omega arith
-
-add-i : tie.Need-add-i Inv-loop μ-loop
-add-i c = omega arith
-
-loop-less : tie.Need-loop-less Inv-loop μ-loop
-loop-less c = omega arith
 
 loop-again : tie.Need-loop-again Inv-loop μ-loop
 loop-again c =
@@ -58,10 +45,10 @@ seen-key-spec =
     Inv-loop
     μ-loop
     loop-holds
-    read4-requires
+    (λ c κs. tt)  -- read4-requires
     returns
-    add-at
-    add-i
-    loop-less
+    (λ c. omega arith)  -- add-at
+    (λ c. omega arith)  -- add-i
+    (λ c. omega arith)  -- loop-less
     loop-again
     returns-2)

@@ -22,33 +22,9 @@ loop-holds : tie.Need-loop-holds Inv-loop μ-loop
 loop-holds c =
     (omega arith, omega arith, refl, λ h i. marked-none _ _ _ _ _)
 
-four-requires : tie.Need-four-requires Inv-loop μ-loop
-four-requires c κs = omega arith
-
 returns : tie.Need-returns Inv-loop μ-loop
 returns c =
     λ e. absurd (true≢false (sym e))
-
-array-read-met : tie.Need-array-read-met Inv-loop μ-loop
-array-read-met c = omega arith
-
-add-late : tie.Need-add-late Inv-loop μ-loop
-add-late c = omega arith
-
-shared-slice-read-late : tie.Need-shared-slice-read-late Inv-loop μ-loop
-shared-slice-read-late c = omega arith
-
-array-write-seen : tie.Need-array-write-seen Inv-loop μ-loop
-array-write-seen c = omega arith
-
-add-at : tie.Need-add-at Inv-loop μ-loop
-add-at c = omega arith
-
-add-k : tie.Need-add-k Inv-loop μ-loop
-add-k c = omega arith
-
-loop-less : tie.Need-loop-less Inv-loop μ-loop
-loop-less c = omega arith
 
 loop-again : tie.Need-loop-again Inv-loop μ-loop
 loop-again c =
@@ -79,14 +55,14 @@ elements-stand-spec =
     Inv-loop
     μ-loop
     loop-holds
-    four-requires
+    (λ c κs. omega arith)  -- four-requires
     returns
-    array-read-met
-    add-late
-    shared-slice-read-late
-    array-write-seen
-    add-at
-    add-k
-    loop-less
+    (λ c. omega arith)  -- array-read-met
+    (λ c. omega arith)  -- add-late
+    (λ c. omega arith)  -- shared-slice-read-late
+    (λ c. omega arith)  -- array-write-seen
+    (λ c. omega arith)  -- add-at
+    (λ c. omega arith)  -- add-k
+    (λ c. omega arith)  -- loop-less
     loop-again
     returns-2)

@@ -21,15 +21,6 @@ loop-holds : tie.Need-loop-holds Inv-loop μ-loop
 loop-holds c =
     (refl, omega arith)
 
-range-above-requires : tie.Need-range-above-requires Inv-loop μ-loop
-range-above-requires c κs = omega arith
-
-enum-known-f : tie.Need-enum-known-f Inv-loop μ-loop
-enum-known-f c = omega arith
-
-enum-told : tie.Need-enum-told Inv-loop μ-loop
-enum-told c = omega arith
-
 returns : tie.Need-returns Inv-loop μ-loop
 returns c =
     let b4 = c .before .before .before .before in
@@ -59,12 +50,6 @@ eight-requires-3 c κs =
     let b4 = c .before .before .before .before in
     let w = range-went _ _ _ _ _ (b4 .before .range-above .ensures) _ _ (c .before .before .before .f .given .1) in omega arith
 
-add-k : tie.Need-add-k Inv-loop μ-loop
-add-k c = omega arith
-
-loop-less : tie.Need-loop-less Inv-loop μ-loop
-loop-less c = omega arith
-
 loop-again : tie.Need-loop-again Inv-loop μ-loop
 loop-again c =
     let b4 = c .before .before .before .before in
@@ -87,16 +72,16 @@ more-ranges-spec =
     Inv-loop
     μ-loop
     loop-holds
-    range-above-requires
-    enum-known-f
-    enum-told
+    (λ c κs. omega arith)  -- range-above-requires
+    (λ c. omega arith)  -- enum-known-f
+    (λ c. omega arith)  -- enum-told
     returns
     eight-requires
     add-eight
     eight-requires-2
     add-eight-2
     eight-requires-3
-    add-k
-    loop-less
+    (λ c. omega arith)  -- add-k
+    (λ c. omega arith)  -- loop-less
     loop-again
     returns-2)

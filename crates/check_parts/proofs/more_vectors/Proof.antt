@@ -21,16 +21,6 @@ loop-holds : tie.Need-loop-holds Inv-loop μ-loop
 loop-holds c =
     (refl, omega arith)
 
-next-vector-requires : tie.Need-next-vector-requires Inv-loop μ-loop
-next-vector-requires c κs =
-    tt
-
-enum-known-g : tie.Need-enum-known-g Inv-loop μ-loop
-enum-known-g c = omega arith
-
-enum-told : tie.Need-enum-told Inv-loop μ-loop
-enum-told c = omega arith
-
 returns : tie.Need-returns Inv-loop μ-loop
 returns c =
     let b4 = c .before .before .before .before in
@@ -42,12 +32,6 @@ add-e c =
     let b4 = c .before .before .before .before in
     let w = vector-more _ _ (b4 .before .loop .e) _ _ (c .before .before .before .next-vector .ensures) _ _ (c .before .g .given .1) in
     omega (arith, vector-below _ _ _ _ _ w _ _ refl (b4 .before .loop .inv .1))
-
-add-k : tie.Need-add-k Inv-loop μ-loop
-add-k c = omega arith
-
-loop-less : tie.Need-loop-less Inv-loop μ-loop
-loop-less c = omega arith
 
 loop-again : tie.Need-loop-again Inv-loop μ-loop
 loop-again c =
@@ -68,12 +52,12 @@ more-vectors-spec =
     Inv-loop
     μ-loop
     loop-holds
-    next-vector-requires
-    enum-known-g
-    enum-told
+    (λ c κs. tt)  -- next-vector-requires
+    (λ c. omega arith)  -- enum-known-g
+    (λ c. omega arith)  -- enum-told
     returns
     add-e
-    add-k
-    loop-less
+    (λ c. omega arith)  -- add-k
+    (λ c. omega arith)  -- loop-less
     loop-again
     returns-2)

@@ -24,23 +24,8 @@ abbrev μ-loop : tie.MeasureT-loop
 loop-holds : tie.Need-loop-holds Inv-loop μ-loop
 loop-holds c = (search repeats, omega arith, omega arith, omega arith)
 
-replica-id-requires : tie.Need-replica-id-requires Inv-loop μ-loop
-replica-id-requires c κs = omega arith
-
-enum-known-g : tie.Need-enum-known-g Inv-loop μ-loop
-enum-known-g c = omega arith
-
-enum-told : tie.Need-enum-told Inv-loop μ-loop
-enum-told c = omega arith
-
 returns : tie.Need-returns Inv-loop μ-loop
 returns c = search repeats
-
-add-k : tie.Need-add-k Inv-loop μ-loop
-add-k c = omega arith
-
-loop-less : tie.Need-loop-less Inv-loop μ-loop
-loop-less c = omega arith
 
 loop-again : tie.Need-loop-again Inv-loop μ-loop
 loop-again c =
@@ -63,11 +48,11 @@ replica-ids-spec =
     Inv-loop
     μ-loop
     loop-holds
-    replica-id-requires
-    enum-known-g
-    enum-told
+    (λ c κs. omega arith)  -- replica-id-requires
+    (λ c. omega arith)  -- enum-known-g
+    (λ c. omega arith)  -- enum-told
     returns
-    add-k
-    loop-less
+    (λ c. omega arith)  -- add-k
+    (λ c. omega arith)  -- loop-less
     loop-again
     returns-2)

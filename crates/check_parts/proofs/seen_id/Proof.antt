@@ -21,34 +21,12 @@ loop-holds : tie.Need-loop-holds Inv-loop μ-loop
 loop-holds c =
     (among-all _ _ _ _ _ _, omega arith, omega arith)
 
-eight-requires : tie.Need-eight-requires Inv-loop μ-loop
-eight-requires c κs = omega arith
-
-add-eight : tie.Need-add-eight Inv-loop μ-loop
-add-eight c = omega arith
-
-eight-requires-2 : tie.Need-eight-requires-2 Inv-loop μ-loop
-eight-requires-2 c κs = omega arith
-
-same2-requires : tie.Need-same2-requires Inv-loop μ-loop
-same2-requires c κs =
-    tt
-
 returns : tie.Need-returns Inv-loop μ-loop
 returns c =
     let b4 = c .before .before .before .before in
     among-found _ _ _ _ _ _ _ _ (b4 .before .loop .inv .0) (omega arith) _
     (id-same _ _ _ _ _ _ _ (c .before .before .before .eight .ensures .is) (c .before .before .eight2 .ensures .is)
     (c .before .same2 .ensures)) (c .if1 .taken)
-
-add-at : tie.Need-add-at Inv-loop μ-loop
-add-at c = omega arith
-
-add-i : tie.Need-add-i Inv-loop μ-loop
-add-i c = omega arith
-
-loop-less : tie.Need-loop-less Inv-loop μ-loop
-loop-less c = omega arith
 
 loop-again : tie.Need-loop-again Inv-loop μ-loop
 loop-again c =
@@ -71,13 +49,13 @@ seen-id-spec =
     Inv-loop
     μ-loop
     loop-holds
-    eight-requires
-    add-eight
-    eight-requires-2
-    same2-requires
+    (λ c κs. omega arith)  -- eight-requires
+    (λ c. omega arith)  -- add-eight
+    (λ c κs. omega arith)  -- eight-requires-2
+    (λ c κs. tt)  -- same2-requires
     returns
-    add-at
-    add-i
-    loop-less
+    (λ c. omega arith)  -- add-at
+    (λ c. omega arith)  -- add-i
+    (λ c. omega arith)  -- loop-less
     loop-again
     returns-2)

@@ -17,14 +17,8 @@ Inv-loop src from n dst₀ at i₀ dst i = (i ≤ n) ×
 abbrev μ-loop : tie.MeasureT-loop
 μ-loop src from n dst₀ at i₀ dst i = n - i
 
-beyond-requires : tie.Need-beyond-requires Inv-loop μ-loop
-beyond-requires c κs = tt
-
 returns : tie.Need-returns Inv-loop μ-loop
 returns c = no-part _ _ _ _ _ (c .before .beyond .ensures .0 (c .if1 .taken))
-
-beyond-requires-2 : tie.Need-beyond-requires-2 Inv-loop μ-loop
-beyond-requires-2 c κs = tt
 
 returns-2 : tie.Need-returns-2 Inv-loop μ-loop
 returns-2 c = no-place _ _ _ _ _ (c .before .before .before .beyond .ensures .1 (c .before .before .if1 .left)) (c .before .beyond2 .ensures .0 (c .if2 .taken))
@@ -38,24 +32,6 @@ loop-holds c = (
   ),
 )
 
-add-dst : tie.Need-add-dst Inv-loop μ-loop
-add-dst c = omega arith
-
-shared-slice-read-dst : tie.Need-shared-slice-read-dst Inv-loop μ-loop
-shared-slice-read-dst c = omega arith
-
-add-dst-2 : tie.Need-add-dst-2 Inv-loop μ-loop
-add-dst-2 c = omega arith
-
-slice-write-dst : tie.Need-slice-write-dst Inv-loop μ-loop
-slice-write-dst c = omega arith
-
-add-i : tie.Need-add-i Inv-loop μ-loop
-add-i c = omega arith
-
-loop-less : tie.Need-loop-less Inv-loop μ-loop
-loop-less c = omega arith
-
 loop-again : tie.Need-loop-again Inv-loop μ-loop
 loop-again c =
     let v = c .before .before .loop .inv in (
@@ -66,9 +42,6 @@ loop-again c =
       ),
     )
 
-same-length : tie.Need-same-length Inv-loop μ-loop
-same-length c = omega arith
-
 returns-3 : tie.Need-returns-3 Inv-loop μ-loop
 returns-3 c = let v = c .before .loop .inv in copying-all _ _ _ _ _ (v .1 .0) (v .1 .1 .0) _ (c .before .loop .i) (omega arith) (v .1 .1 .1 .0)
 
@@ -78,17 +51,17 @@ copy-part-spec =
     (tie.spec
     Inv-loop
     μ-loop
-    beyond-requires
+    (λ c κs. tt)  -- beyond-requires
     returns
-    beyond-requires-2
+    (λ c κs. tt)  -- beyond-requires-2
     returns-2
     loop-holds
-    add-dst
-    shared-slice-read-dst
-    add-dst-2
-    slice-write-dst
-    add-i
-    loop-less
+    (λ c. omega arith)  -- add-dst
+    (λ c. omega arith)  -- shared-slice-read-dst
+    (λ c. omega arith)  -- add-dst-2
+    (λ c. omega arith)  -- slice-write-dst
+    (λ c. omega arith)  -- add-i
+    (λ c. omega arith)  -- loop-less
     loop-again
-    same-length
+    (λ c. omega arith)  -- same-length
     returns-3)

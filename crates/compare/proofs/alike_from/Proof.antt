@@ -12,12 +12,6 @@ Inv-loop s t r m i₀ x₀ y₀ i x y = Going s r t m x y (itemOf i)
 abbrev μ-loop : tie.MeasureT-loop
 μ-loop s t r m i₀ x₀ y₀ i x y = x .left
 
-advance-requires : tie.Need-advance-requires Inv-loop μ-loop
-advance-requires c κs = tt
-
-advance-requires-2 : tie.Need-advance-requires-2 Inv-loop μ-loop
-advance-requires-2 c κs = tt
-
 loop-holds : tie.Need-loop-holds Inv-loop μ-loop
 loop-holds c =
     let pre = c .before .before .before .before .pre in
@@ -26,28 +20,13 @@ loop-holds c =
 next-alike-requires : tie.Need-next-alike-requires Inv-loop μ-loop
 next-alike-requires c κs = (c .loop .inv .first .room, c .loop .inv .second .room)
 
-enum-told : tie.Need-enum-told Inv-loop μ-loop
-enum-told c = omega arith
-
 returns : tie.Need-returns Inv-loop μ-loop
 returns c =
     let n = c .before .before in
     going-done _ _ _ _ _ _ _ (n .before .loop .inv) _ (n .next-alike .ensures) (c .enum-told .given .1)
 
-enum-told-2 : tie.Need-enum-told-2 Inv-loop μ-loop
-enum-told-2 c = omega arith
-
 returns-2 : tie.Need-returns-2 Inv-loop μ-loop
 returns-2 c = going-stops _ _ _ _ _ _ _ (c .before .before .before .loop .inv) _ refl
-
-enum-known-n : tie.Need-enum-known-n Inv-loop μ-loop
-enum-known-n c = omega arith
-
-advance-requires-3 : tie.Need-advance-requires-3 Inv-loop μ-loop
-advance-requires-3 c κs = tt
-
-advance-requires-4 : tie.Need-advance-requires-4 Inv-loop μ-loop
-advance-requires-4 c κs = tt
 
 loop-less : tie.Need-loop-less Inv-loop μ-loop
 loop-less c =
@@ -67,16 +46,16 @@ alike-from-spec =
     (tie.spec
     Inv-loop
     μ-loop
-    advance-requires
-    advance-requires-2
+    (λ c κs. tt)  -- advance-requires
+    (λ c κs. tt)  -- advance-requires-2
     loop-holds
     next-alike-requires
-    enum-told
+    (λ c. omega arith)  -- enum-told
     returns
-    enum-told-2
+    (λ c. omega arith)  -- enum-told-2
     returns-2
-    enum-known-n
-    advance-requires-3
-    advance-requires-4
+    (λ c. omega arith)  -- enum-known-n
+    (λ c κs. tt)  -- advance-requires-3
+    (λ c κs. tt)  -- advance-requires-4
     loop-less
     loop-again)

@@ -46,9 +46,6 @@ add-at c = omega (arith, c .before .before .before .before .before .before .befo
 sub-left : tie.Need-sub-left Inv-loop μ-loop
 sub-left c = omega (arith, c .before .before .before .before .before .before .before .loop .inv)
 
-loop-less : tie.Need-loop-less Inv-loop μ-loop
-loop-less c = omega arith
-
 loop-again : tie.Need-loop-again Inv-loop μ-loop
 loop-again c =
     let e = c .before .before .before in
@@ -76,6 +73,6 @@ same-ids-spec =
     returns-2
     add-at
     sub-left
-    loop-less
+    (λ c. omega arith)  -- loop-less
     loop-again
     returns-3)

@@ -13,12 +13,6 @@ Inv-loop s a t b n left₀ x₀ y₀ left x y = ElementsFrom s a t b left x y
 abbrev μ-loop : tie.MeasureT-loop
 μ-loop s a t b n left₀ x₀ y₀ left x y = left
 
-elements-at-requires : tie.Need-elements-at-requires Inv-loop μ-loop
-elements-at-requires c κs = tt
-
-elements-at-requires-2 : tie.Need-elements-at-requires-2 Inv-loop μ-loop
-elements-at-requires-2 c κs = tt
-
 returns : tie.Need-returns Inv-loop μ-loop
 returns c = λ e. clash false e refl
 
@@ -76,9 +70,6 @@ add-y-2 c = omega (arith, c .before .before .before .before .before .before .bef
 sub-left : tie.Need-sub-left Inv-loop μ-loop
 sub-left c = omega (arith, c .before .before .before .before .before .before .before .loop .inv)
 
-loop-less : tie.Need-loop-less Inv-loop μ-loop
-loop-less c = omega arith
-
 loop-again : tie.Need-loop-again Inv-loop μ-loop
 loop-again c =
     let e = c .before .before .before in
@@ -95,8 +86,8 @@ same-vector-spec =
     (tie.spec
     Inv-loop
     μ-loop
-    elements-at-requires
-    elements-at-requires-2
+    (λ c κs. tt)  -- elements-at-requires
+    (λ c κs. tt)  -- elements-at-requires-2
     returns
     returns-2
     add-x
@@ -113,6 +104,6 @@ same-vector-spec =
     add-x-2
     add-y-2
     sub-left
-    loop-less
+    (λ c. omega arith)  -- loop-less
     loop-again
     returns-5)

@@ -21,47 +21,17 @@ Inv-loop s r p key₀ at₀ key at =
 abbrev μ-loop : tie.MeasureT-loop
 μ-loop s r p key₀ at₀ key at = r - key .0
 
-mul-if1 : tie.Need-mul-if1 Inv-loop μ-loop
-mul-if1 c = omega arith
-
-add-if1 : tie.Need-add-if1 Inv-loop μ-loop
-add-if1 c = omega arith
-
 returns : tie.Need-returns Inv-loop μ-loop
 returns c = key-short _ _ _ (omega arith)
 
 loop-holds : tie.Need-loop-holds Inv-loop μ-loop
 loop-holds c = (ids-all _ _ _ _, omega arith, omega arith, omega arith)
 
-add-is-replica : tie.Need-add-is-replica Inv-loop μ-loop
-add-is-replica c = omega arith
-
-sub-is-replica : tie.Need-sub-is-replica Inv-loop μ-loop
-sub-is-replica c = omega arith
-
-part-is-replica-start : tie.Need-part-is-replica-start Inv-loop μ-loop
-part-is-replica-start c = omega arith
-
-part-is-replica-end : tie.Need-part-is-replica-end Inv-loop μ-loop
-part-is-replica-end c = omega arith
-
-is-replica-requires : tie.Need-is-replica-requires Inv-loop μ-loop
-is-replica-requires c κs = tt
-
 returns-2 : tie.Need-returns-2 Inv-loop μ-loop
 returns-2 c =
     let l = c .before .before .before .before .before .loop in
     key-there _ _ _ (l .key) (omega arith) (ids-found _ _ _ _ _ _ (l .inv .0) _ (same-part _ _ _ _ (c .before .is-replica .ensures) (omega arith))
     (c .before .before .before .if2 .taken) (c .if3 .taken))
-
-add-at : tie.Need-add-at Inv-loop μ-loop
-add-at c = omega arith
-
-add-n : tie.Need-add-n Inv-loop μ-loop
-add-n c = omega arith
-
-loop-less : tie.Need-loop-less Inv-loop μ-loop
-loop-less c = omega arith
 
 loop-again : tie.Need-loop-again Inv-loop μ-loop
 loop-again c =
@@ -85,18 +55,18 @@ key-of-spec =
     (tie.spec
     Inv-loop
     μ-loop
-    mul-if1
-    add-if1
+    (λ c. omega arith)  -- mul-if1
+    (λ c. omega arith)  -- add-if1
     returns
     loop-holds
-    add-is-replica
-    sub-is-replica
-    part-is-replica-start
-    part-is-replica-end
-    is-replica-requires
+    (λ c. omega arith)  -- add-is-replica
+    (λ c. omega arith)  -- sub-is-replica
+    (λ c. omega arith)  -- part-is-replica-start
+    (λ c. omega arith)  -- part-is-replica-end
+    (λ c κs. tt)  -- is-replica-requires
     returns-2
-    add-at
-    add-n
-    loop-less
+    (λ c. omega arith)  -- add-at
+    (λ c. omega arith)  -- add-n
+    (λ c. omega arith)  -- loop-less
     loop-again
     returns-3)

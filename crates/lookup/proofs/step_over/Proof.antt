@@ -20,50 +20,11 @@ abbrev μ-loop : tie.MeasureT-loop
 returns : tie.Need-returns Inv-loop μ-loop
 returns c = sym (stepped-stop _ _ _ (omega arith))
 
-sub-end : tie.Need-sub-end Inv-loop μ-loop
-sub-end c = omega arith
-
 loop-holds : tie.Need-loop-holds Inv-loop μ-loop
 loop-holds c = (stepped-all _ _ _, omega arith, omega arith)
 
 returns-2 : tie.Need-returns-2 Inv-loop μ-loop
 returns-2 c = step-stop _ _ _ _ _ (c .before .before .loop .inv .0) (omega arith)
-
-add-at : tie.Need-add-at Inv-loop μ-loop
-add-at c = omega arith
-
-add-four : tie.Need-add-four Inv-loop μ-loop
-add-four c = omega arith
-
-add-four-2 : tie.Need-add-four-2 Inv-loop μ-loop
-add-four-2 c = omega arith
-
-add-four-3 : tie.Need-add-four-3 Inv-loop μ-loop
-add-four-3 c = omega arith
-
-sub-four : tie.Need-sub-four Inv-loop μ-loop
-sub-four c = omega arith
-
-part-four-start : tie.Need-part-four-start Inv-loop μ-loop
-part-four-start c = omega arith
-
-part-four-end : tie.Need-part-four-end Inv-loop μ-loop
-part-four-end c = omega arith
-
-four-requires : tie.Need-four-requires Inv-loop μ-loop
-four-requires c κs = search needs
-
-mul-at : tie.Need-mul-at Inv-loop μ-loop
-mul-at c = omega arith
-
-add-at-2 : tie.Need-add-at-2 Inv-loop μ-loop
-add-at-2 c = omega arith
-
-add-i : tie.Need-add-i Inv-loop μ-loop
-add-i c = omega arith
-
-loop-less : tie.Need-loop-less Inv-loop μ-loop
-loop-less c = omega arith
 
 loop-again : tie.Need-loop-again Inv-loop μ-loop
 loop-again c = (
@@ -83,20 +44,20 @@ step-over-spec =
     Inv-loop
     μ-loop
     returns
-    sub-end
+    (λ c. omega arith)  -- sub-end
     loop-holds
     returns-2
-    add-at
-    add-four
-    add-four-2
-    add-four-3
-    sub-four
-    part-four-start
-    part-four-end
-    four-requires
-    mul-at
-    add-at-2
-    add-i
-    loop-less
+    (λ c. omega arith)  -- add-at
+    (λ c. omega arith)  -- add-four
+    (λ c. omega arith)  -- add-four-2
+    (λ c. omega arith)  -- add-four-3
+    (λ c. omega arith)  -- sub-four
+    (λ c. omega arith)  -- part-four-start
+    (λ c. omega arith)  -- part-four-end
+    (λ c κs. search needs)  -- four-requires
+    (λ c. omega arith)  -- mul-at
+    (λ c. omega arith)  -- add-at-2
+    (λ c. omega arith)  -- add-i
+    (λ c. omega arith)  -- loop-less
     loop-again
     returns-3)

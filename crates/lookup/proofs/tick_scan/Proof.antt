@@ -29,60 +29,12 @@ add-at c = omega (arith, c .before .before .pre .room (omega arith))
 loop-holds : tie.Need-loop-holds Inv-loop μ-loop
 loop-holds c = (elements-all _ _ _ _, omega arith, omega (arith, c .before .before .pre .room (omega arith)))
 
-add-four : tie.Need-add-four Inv-loop μ-loop
-add-four c = omega arith
-
-sub-four : tie.Need-sub-four Inv-loop μ-loop
-sub-four c = omega arith
-
-part-four-start : tie.Need-part-four-start Inv-loop μ-loop
-part-four-start c = omega arith
-
-part-four-end : tie.Need-part-four-end Inv-loop μ-loop
-part-four-end c = omega arith
-
-four-requires : tie.Need-four-requires Inv-loop μ-loop
-four-requires c κs = search needs
-
-cast-if2 : tie.Need-cast-if2 Inv-loop μ-loop
-cast-if2 c = omega arith
-
-add-eight : tie.Need-add-eight Inv-loop μ-loop
-add-eight c = omega arith
-
-add-eight-2 : tie.Need-add-eight-2 Inv-loop μ-loop
-add-eight-2 c = omega arith
-
-add-eight-3 : tie.Need-add-eight-3 Inv-loop μ-loop
-add-eight-3 c = omega arith
-
-sub-eight : tie.Need-sub-eight Inv-loop μ-loop
-sub-eight c = omega arith
-
-part-eight-start : tie.Need-part-eight-start Inv-loop μ-loop
-part-eight-start c = omega arith
-
-part-eight-end : tie.Need-part-eight-end Inv-loop μ-loop
-part-eight-end c = omega arith
-
-eight-requires : tie.Need-eight-requires Inv-loop μ-loop
-eight-requires c κs = search needs
-
 returns-2 : tie.Need-returns-2 Inv-loop μ-loop
 returns-2 c =
     tick-is _ _ _ _ _ (c .before .before .before .before .before .before .before .before .before .before .pre)
     (elements-found _ _ _ _ _ _ (c .before .before .before .before .before .before .before .loop .inv .0) _ _
     (part-is _ _ _ _ (c .before .before .before .before .four .ensures .0) (omega arith)) (part-is _ _ _ _ (c .eight .ensures .0) (omega arith))
     (c .before .before .before .before .before .before .loop-test .taken) (c .before .before .if2 .taken))
-
-add-at-2 : tie.Need-add-at-2 Inv-loop μ-loop
-add-at-2 c = omega arith
-
-add-i : tie.Need-add-i Inv-loop μ-loop
-add-i c = omega arith
-
-loop-less : tie.Need-loop-less Inv-loop μ-loop
-loop-less c = omega arith
 
 loop-again : tie.Need-loop-again Inv-loop μ-loop
 loop-again c = (
@@ -106,22 +58,22 @@ tick-scan-spec =
     returns
     add-at
     loop-holds
-    add-four
-    sub-four
-    part-four-start
-    part-four-end
-    four-requires
-    cast-if2
-    add-eight
-    add-eight-2
-    add-eight-3
-    sub-eight
-    part-eight-start
-    part-eight-end
-    eight-requires
+    (λ c. omega arith)  -- add-four
+    (λ c. omega arith)  -- sub-four
+    (λ c. omega arith)  -- part-four-start
+    (λ c. omega arith)  -- part-four-end
+    (λ c κs. search needs)  -- four-requires
+    (λ c. omega arith)  -- cast-if2
+    (λ c. omega arith)  -- add-eight
+    (λ c. omega arith)  -- add-eight-2
+    (λ c. omega arith)  -- add-eight-3
+    (λ c. omega arith)  -- sub-eight
+    (λ c. omega arith)  -- part-eight-start
+    (λ c. omega arith)  -- part-eight-end
+    (λ c κs. search needs)  -- eight-requires
     returns-2
-    add-at-2
-    add-i
-    loop-less
+    (λ c. omega arith)  -- add-at-2
+    (λ c. omega arith)  -- add-i
+    (λ c. omega arith)  -- loop-less
     loop-again
     returns-3)

@@ -20,32 +20,11 @@ abbrev μ-loop : tie.MeasureT-loop
 returns : tie.Need-returns Inv-loop μ-loop
 returns c = inside-short _ _ _ _ (omega arith)
 
-sub-if2 : tie.Need-sub-if2 Inv-loop μ-loop
-sub-if2 c = omega arith
-
-cast-if2 : tie.Need-cast-if2 Inv-loop μ-loop
-cast-if2 c = omega arith
-
-mul-if2 : tie.Need-mul-if2 Inv-loop μ-loop
-mul-if2 c = omega arith
-
 returns-2 : tie.Need-returns-2 Inv-loop μ-loop
 returns-2 c = inside-short _ _ _ _ (omega arith)
 
 loop-holds : tie.Need-loop-holds Inv-loop μ-loop
 loop-holds c = (refl, omega arith)
-
-sub-left : tie.Need-sub-left Inv-loop μ-loop
-sub-left c = omega arith
-
-lies-in-requires : tie.Need-lies-in-requires Inv-loop μ-loop
-lies-in-requires c κs = omega arith
-
-add-next : tie.Need-add-next Inv-loop μ-loop
-add-next c = omega arith
-
-loop-less : tie.Need-loop-less Inv-loop μ-loop
-loop-less c = omega arith
 
 loop-again : tie.Need-loop-again Inv-loop μ-loop
 loop-again c = (
@@ -72,15 +51,15 @@ inside-spec =
     Inv-loop
     μ-loop
     returns
-    sub-if2
-    cast-if2
-    mul-if2
+    (λ c. omega arith)  -- sub-if2
+    (λ c. omega arith)  -- cast-if2
+    (λ c. omega arith)  -- mul-if2
     returns-2
     loop-holds
-    sub-left
-    lies-in-requires
-    add-next
-    loop-less
+    (λ c. omega arith)  -- sub-left
+    (λ c κs. omega arith)  -- lies-in-requires
+    (λ c. omega arith)  -- add-next
+    (λ c. omega arith)  -- loop-less
     loop-again
     returns-3
     returns-4)

@@ -19,47 +19,11 @@ abbrev μ-loop : tie.MeasureT-loop
 returns : tie.Need-returns Inv-loop μ-loop
 returns c = keys-short _ _ _ _ (omega arith)
 
-sub-if2 : tie.Need-sub-if2 Inv-loop μ-loop
-sub-if2 c = omega arith
-
-cast-if2 : tie.Need-cast-if2 Inv-loop μ-loop
-cast-if2 c = omega arith
-
-mul-if2 : tie.Need-mul-if2 Inv-loop μ-loop
-mul-if2 c = omega arith
-
 returns-2 : tie.Need-returns-2 Inv-loop μ-loop
 returns-2 c = keys-short _ _ _ _ (omega arith)
 
 loop-holds : tie.Need-loop-holds Inv-loop μ-loop
 loop-holds c = (refl, omega arith)
-
-add-four : tie.Need-add-four Inv-loop μ-loop
-add-four c = omega arith
-
-four-requires : tie.Need-four-requires Inv-loop μ-loop
-four-requires c κs = omega arith
-
-cast-n : tie.Need-cast-n Inv-loop μ-loop
-cast-n c = omega arith
-
-vector-place-requires : tie.Need-vector-place-requires Inv-loop μ-loop
-vector-place-requires c κs = tt
-
-tick-at-requires : tie.Need-tick-at-requires Inv-loop μ-loop
-tick-at-requires c κs = tt
-
-max-requires : tie.Need-max-requires Inv-loop μ-loop
-max-requires c κs = tt
-
-add-next : tie.Need-add-next Inv-loop μ-loop
-add-next c = omega arith
-
-sub-left : tie.Need-sub-left Inv-loop μ-loop
-sub-left c = omega arith
-
-loop-less : tie.Need-loop-less Inv-loop μ-loop
-loop-less c = omega arith
 
 loop-again : tie.Need-loop-again Inv-loop μ-loop
 loop-again c = (
@@ -81,19 +45,19 @@ top-key-spec =
     Inv-loop
     μ-loop
     returns
-    sub-if2
-    cast-if2
-    mul-if2
+    (λ c. omega arith)  -- sub-if2
+    (λ c. omega arith)  -- cast-if2
+    (λ c. omega arith)  -- mul-if2
     returns-2
     loop-holds
-    add-four
-    four-requires
-    cast-n
-    vector-place-requires
-    tick-at-requires
-    max-requires
-    add-next
-    sub-left
-    loop-less
+    (λ c. omega arith)  -- add-four
+    (λ c κs. omega arith)  -- four-requires
+    (λ c. omega arith)  -- cast-n
+    (λ c κs. tt)  -- vector-place-requires
+    (λ c κs. tt)  -- tick-at-requires
+    (λ c κs. tt)  -- max-requires
+    (λ c. omega arith)  -- add-next
+    (λ c. omega arith)  -- sub-left
+    (λ c. omega arith)  -- loop-less
     loop-again
     returns-3)

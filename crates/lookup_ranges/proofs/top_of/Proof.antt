@@ -18,9 +18,6 @@ Inv-loop s vector before n top₀ i₀ at₀ top i at =
 abbrev μ-loop : tie.MeasureT-loop
 μ-loop s vector before n top₀ i₀ at₀ top i at = n - i
 
-elements-at-requires : tie.Need-elements-at-requires Inv-loop μ-loop
-elements-at-requires c κs = tt
-
 returns : tie.Need-returns Inv-loop μ-loop
 returns c = top-nothing _ _ _ _ (c .before .elements-at .ensures) (c .if1 .taken)
 
@@ -30,24 +27,6 @@ add-at c = omega (arith, c .before .elements-at .ensures .room (omega arith))
 loop-holds : tie.Need-loop-holds Inv-loop μ-loop
 loop-holds c =
     (top-begins _ _ _ _ (c .before .elements-at .ensures), omega arith, omega (arith, c .before .elements-at .ensures .room (omega arith)))
-
-add-eight : tie.Need-add-eight Inv-loop μ-loop
-add-eight c = omega arith
-
-eight-requires : tie.Need-eight-requires Inv-loop μ-loop
-eight-requires c κs = omega arith
-
-max-requires : tie.Need-max-requires Inv-loop μ-loop
-max-requires c κs = tt
-
-add-at-2 : tie.Need-add-at-2 Inv-loop μ-loop
-add-at-2 c = omega arith
-
-add-i : tie.Need-add-i Inv-loop μ-loop
-add-i c = omega arith
-
-loop-less : tie.Need-loop-less Inv-loop μ-loop
-loop-less c = omega arith
 
 loop-again : tie.Need-loop-again Inv-loop μ-loop
 loop-again c = (
@@ -66,15 +45,15 @@ top-of-spec =
     (tie.spec
     Inv-loop
     μ-loop
-    elements-at-requires
+    (λ c κs. tt)  -- elements-at-requires
     returns
     add-at
     loop-holds
-    add-eight
-    eight-requires
-    max-requires
-    add-at-2
-    add-i
-    loop-less
+    (λ c. omega arith)  -- add-eight
+    (λ c κs. omega arith)  -- eight-requires
+    (λ c κs. tt)  -- max-requires
+    (λ c. omega arith)  -- add-at-2
+    (λ c. omega arith)  -- add-i
+    (λ c. omega arith)  -- loop-less
     loop-again
     returns-2)

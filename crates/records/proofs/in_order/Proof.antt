@@ -26,9 +26,6 @@ one-requires : tie.Need-one-requires Inv-loop μ-loop
 one-requires c κs =
     omega (arith, c .before .loop .inv .1)
 
-record-length-requires : tie.Need-record-length-requires Inv-loop μ-loop
-record-length-requires c κs = tt
-
 returns : tie.Need-returns Inv-loop μ-loop
 returns c =
     let one = c .before .before in
@@ -44,9 +41,6 @@ add-item-there c =
 item-there-requires : tie.Need-item-there-requires Inv-loop μ-loop
 item-there-requires c κs =
     omega (arith, c .before .before .before .before .loop .inv .1)
-
-rises-requires : tie.Need-rises-requires Inv-loop μ-loop
-rises-requires c κs = tt
 
 returns-2 : tie.Need-returns-2 Inv-loop μ-loop
 returns-2 c =
@@ -88,12 +82,6 @@ add-p c =
           (one .one .ensures .0) (known .before .record-length .ensures) (known .if1 .left),
     )
 
-sub-left : tie.Need-sub-left Inv-loop μ-loop
-sub-left c = omega arith
-
-loop-less : tie.Need-loop-less Inv-loop μ-loop
-loop-less c = omega arith
-
 loop-again : tie.Need-loop-again Inv-loop μ-loop
 loop-again c =
     let rising = c .before .before in
@@ -119,16 +107,16 @@ in-order-spec =
     μ-loop
     loop-holds
     one-requires
-    record-length-requires
+    (λ c κs. tt)  -- record-length-requires
     returns
     add-item-there
     item-there-requires
-    rises-requires
+    (λ c κs. tt)  -- rises-requires
     returns-2
     valid-requires
     returns-3
     add-p
-    sub-left
-    loop-less
+    (λ c. omega arith)  -- sub-left
+    (λ c. omega arith)  -- loop-less
     loop-again
     returns-4)

@@ -19,9 +19,6 @@ abbrev μ-loop : tie.MeasureT-loop
 loop-holds : tie.Need-loop-holds Inv-loop μ-loop
 loop-holds c = refl
 
-length-at-requires : tie.Need-length-at-requires Inv-loop μ-loop
-length-at-requires c κs = tt
-
 returns : tie.Need-returns Inv-loop μ-loop
 returns c = search-end _ _ _ _ (c .before .before .before .loop .inv) _ (c .before .length-at .ensures) (c .if1 .taken)
 
@@ -37,9 +34,6 @@ returns-2 c =
 add-p : tie.Need-add-p Inv-loop μ-loop
 add-p c =
     omega (arith, length-inside _ _ _ (c .before .before .before .length-at .ensures) (c .before .before .if1 .left))
-
-loop-less : tie.Need-loop-less Inv-loop μ-loop
-loop-less c = omega arith
 
 loop-again : tie.Need-loop-again Inv-loop μ-loop
 loop-again c =
@@ -57,11 +51,11 @@ place-of-spec =
     Inv-loop
     μ-loop
     loop-holds
-    length-at-requires
+    (λ c κs. tt)  -- length-at-requires
     returns
     has-item-requires
     returns-2
     add-p
-    loop-less
+    (λ c. omega arith)  -- loop-less
     loop-again
     returns-3)

@@ -39,23 +39,8 @@ returns-2 c =
     (c .before .before .before .before .before .before .before .before .args .n) _ _ (c .before .before .before .loop .i)
     (c .before .before .before .loop .inv .0) (c .if2 .taken)
 
-mul-copy-from : tie.Need-mul-copy-from Inv-loop μ-loop
-mul-copy-from c = omega arith
-
-shared-slice-read-copy-from : tie.Need-shared-slice-read-copy-from Inv-loop μ-loop
-shared-slice-read-copy-from c = omega arith
-
-copy-from-requires : tie.Need-copy-from-requires Inv-loop μ-loop
-copy-from-requires c κs = tt
-
 add-p : tie.Need-add-p Inv-loop μ-loop
 add-p c = omega (arith, c .before .before .copy-from .ensures .0, copied-most _ _ _ _ (c .before .before .copy-from .ensures .0))
-
-add-i : tie.Need-add-i Inv-loop μ-loop
-add-i c = omega arith
-
-loop-less : tie.Need-loop-less Inv-loop μ-loop
-loop-less c = omega arith
 
 loop-again : tie.Need-loop-again Inv-loop μ-loop
 loop-again c = (
@@ -88,12 +73,12 @@ copy-picked-spec =
     returns
     same-length-2
     returns-2
-    mul-copy-from
-    shared-slice-read-copy-from
-    copy-from-requires
+    (λ c. omega arith)  -- mul-copy-from
+    (λ c. omega arith)  -- shared-slice-read-copy-from
+    (λ c κs. tt)  -- copy-from-requires
     add-p
-    add-i
-    loop-less
+    (λ c. omega arith)  -- add-i
+    (λ c. omega arith)  -- loop-less
     loop-again
     same-length-3
     returns-3)

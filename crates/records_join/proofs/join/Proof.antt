@@ -18,9 +18,6 @@ abbrev μ-loop : tie.MeasureT-loop
 loop-holds : tie.Need-loop-holds Inv-loop μ-loop
 loop-holds c = (joining-all _ _ _ _ _, refl)
 
-merge-step-requires : tie.Need-merge-step-requires Inv-loop μ-loop
-merge-step-requires c κs = tt
-
 same-length : tie.Need-same-length Inv-loop μ-loop
 same-length c = c .before .before .before .loop .inv .1
 
@@ -31,9 +28,6 @@ returns c =
       (count-end _ _ _ _ _ _ _ _ _ _ i _ r (c .if1 .taken), size-end _ _ _ _ _ _ _ _ _ _ i _ r (c .if1 .taken)),
       chosen-end _ _ _ _ _ _ _ _ _ _ i _ r (c .if1 .taken),
     )
-
-put-requires : tie.Need-put-requires Inv-loop μ-loop
-put-requires c κs = tt
 
 add-count : tie.Need-add-count Inv-loop μ-loop
 add-count c =
@@ -71,10 +65,10 @@ join-spec =
     Inv-loop
     μ-loop
     loop-holds
-    merge-step-requires
+    (λ c κs. tt)  -- merge-step-requires
     same-length
     returns
-    put-requires
+    (λ c κs. tt)  -- put-requires
     add-count
     add-size
     loop-less

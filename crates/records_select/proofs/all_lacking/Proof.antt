@@ -19,9 +19,6 @@ abbrev μ-loop : tie.MeasureT-loop
 loop-holds : tie.Need-loop-holds Inv-loop μ-loop
 loop-holds c = (selecting-all _ _ _ _ _ _ _, refl)
 
-next-lacking-requires : tie.Need-next-lacking-requires Inv-loop μ-loop
-next-lacking-requires c κs = tt
-
 same-length : tie.Need-same-length Inv-loop μ-loop
 same-length c = (c .before .before .before .loop .inv .1)
 
@@ -32,9 +29,6 @@ returns c =
       (count-end _ _ _ _ _ _ _ _ _ _ _ _ i _ h (c .if1 .taken), size-end _ _ _ _ _ _ _ _ _ _ _ _ i _ h (c .if1 .taken)),
       picks-end _ _ _ _ _ _ _ _ _ _ _ _ i _ h (c .if1 .taken),
     )
-
-put-requires : tie.Need-put-requires Inv-loop μ-loop
-put-requires c κs = tt
 
 add-count : tie.Need-add-count Inv-loop μ-loop
 add-count c =
@@ -82,10 +76,10 @@ all-lacking-spec =
     Inv-loop
     μ-loop
     loop-holds
-    next-lacking-requires
+    (λ c κs. tt)  -- next-lacking-requires
     same-length
     returns
-    put-requires
+    (λ c κs. tt)  -- put-requires
     add-count
     add-size
     add-p

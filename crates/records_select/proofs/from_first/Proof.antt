@@ -22,17 +22,8 @@ abbrev μ-loop : tie.MeasureT-loop
 loop-holds : tie.Need-loop-holds Inv-loop μ-loop
 loop-holds c = refl
 
-length-at-requires : tie.Need-length-at-requires Inv-loop μ-loop
-length-at-requires c κs = tt
-
 returns : tie.Need-returns Inv-loop μ-loop
 returns c = skip-end _ _ _ _ _ (c .before .before .loop .inv) (c .before .length-at .ensures) (c .if1 .taken)
-
-item-of-requires : tie.Need-item-of-requires Inv-loop μ-loop
-item-of-requires c κs = tt
-
-less3-requires : tie.Need-less3-requires Inv-loop μ-loop
-less3-requires c κs = tt
 
 returns-2 : tie.Need-returns-2 Inv-loop μ-loop
 returns-2 c =
@@ -59,10 +50,10 @@ from-first-spec =
     Inv-loop
     μ-loop
     loop-holds
-    length-at-requires
+    (λ c κs. tt)  -- length-at-requires
     returns
-    item-of-requires
-    less3-requires
+    (λ c κs. tt)  -- item-of-requires
+    (λ c κs. tt)  -- less3-requires
     returns-2
     add-p
     loop-less

@@ -19,29 +19,14 @@ abbrev μ-loop : tie.MeasureT-loop
 loop-holds : tie.Need-loop-holds Inv-loop μ-loop
 loop-holds c = passed-none _ _ _ _ _ _
 
-length-at-requires : tie.Need-length-at-requires Inv-loop μ-loop
-length-at-requires c κs = tt
-
 returns : tie.Need-returns Inv-loop μ-loop
 returns c = pick-end _ _ _ _ _ _ _ _ (c .before .before .loop .inv) _ (c .before .length-at .ensures) (c .if1 .taken)
-
-item-of-requires : tie.Need-item-of-requires Inv-loop μ-loop
-item-of-requires c κs = tt
-
-less3-requires : tie.Need-less3-requires Inv-loop μ-loop
-less3-requires c κs = tt
 
 returns-2 : tie.Need-returns-2 Inv-loop μ-loop
 returns-2 c =
     let b4 = c .before .before .before .before in
     pick-past _ _ _ _ _ _ _ _ (b4 .before .loop .inv) _ (b4 .length-at .ensures) (c .before .before .before .if1 .left) _ _ _
     (c .before .before .item-of .ensures) _ (c .before .less3 .ensures) (c .if2 .taken)
-
-advance-requires : tie.Need-advance-requires Inv-loop μ-loop
-advance-requires c κs = tt
-
-change-in-requires : tie.Need-change-in-requires Inv-loop μ-loop
-change-in-requires c κs = tt
 
 returns-3 : tie.Need-returns-3 Inv-loop μ-loop
 returns-3 c =
@@ -76,13 +61,13 @@ next-lacking-spec =
     Inv-loop
     μ-loop
     loop-holds
-    length-at-requires
+    (λ c κs. tt)  -- length-at-requires
     returns
-    item-of-requires
-    less3-requires
+    (λ c κs. tt)  -- item-of-requires
+    (λ c κs. tt)  -- less3-requires
     returns-2
-    advance-requires
-    change-in-requires
+    (λ c κs. tt)  -- advance-requires
+    (λ c κs. tt)  -- change-in-requires
     returns-3
     add-at
     loop-less

@@ -23,23 +23,8 @@ abbrev μ-loop : tie.MeasureT-loop
 loop-holds : tie.Need-loop-holds Inv-loop μ-loop
 loop-holds c = (follows-start _ _ _ _ _ _ (c .before .before .before .pre .0) (c .before .before .before .pre .1), omega arith, omega arith)
 
-move-to-requires : tie.Need-move-to-requires Inv-loop μ-loop
-move-to-requires c κs = tt
-
-counted-requires : tie.Need-counted-requires Inv-loop μ-loop
-counted-requires c κs = tt
-
 add-contained : tie.Need-add-contained Inv-loop μ-loop
 add-contained c = omega (arith, c .counted .ensures .1, c .before .before .before .loop .inv .2)
-
-behind-requires : tie.Need-behind-requires Inv-loop μ-loop
-behind-requires c κs = tt
-
-sub-left : tie.Need-sub-left Inv-loop μ-loop
-sub-left c = omega arith
-
-loop-less : tie.Need-loop-less Inv-loop μ-loop
-loop-less c = omega arith
 
 loop-again : tie.Need-loop-again Inv-loop μ-loop
 loop-again c =
@@ -63,11 +48,11 @@ count-in-spec =
     Inv-loop
     μ-loop
     loop-holds
-    move-to-requires
-    counted-requires
+    (λ c κs. tt)  -- move-to-requires
+    (λ c κs. tt)  -- counted-requires
     add-contained
-    behind-requires
-    sub-left
-    loop-less
+    (λ c κs. tt)  -- behind-requires
+    (λ c. omega arith)  -- sub-left
+    (λ c. omega arith)  -- loop-less
     loop-again
     returns)
