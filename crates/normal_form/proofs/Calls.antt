@@ -1,12 +1,11 @@
--- What the functions with no loop return, one law for each way that they go. Vectors of unlike counts or unlike words are unlike, so
--- only those alike in both are compared. For accepted bytes the sizes fit their numbers (`sizes`).
+-- What the functions with no loop return, one law for each way that they go. For accepted bytes the sizes fit their numbers (`sizes`).
 use Prim.Native.Nat.{ℕ, zero, suc, _+_, _-_, _*_, _/_, _%_, _^_, _≤_, _<_}
 use mathlib.Core.Path.{_≡_, refl, sym, ap, ap₂, _∙_}
 use mathlib.Core.Bool.{Bool, true, false}
 use mathlib.Core.List.{List}
 use native.Mathlib.Omega.{arith}
 use lib.Dec.{eqb, ltb, leb}
-use lib.ListN.{length, getD}
+use lib.ListN.{length}
 use borrow.Author.Tests.{leb-true, le-leb, lt-leb}
 use Rattle.codec.specs.Number.{Bytes, beAt}
 use Rattle.codec.specs.Words.{words2, words3}
@@ -16,17 +15,14 @@ use Rattle.layout.specs.declared.Checked.{Checked}
 use Rattle.layout.specs.declared.Checked.the-variants.{Accepted}
 use Rattle.layout.specs.Knowledge.{Element, Rules, basic, base}
 use Rattle.layout.specs.Permitted.{mostCount, largestReplicas, largestRanges, rulesWithin}
-use Rattle.layout.specs.Decode.{elementsAt, rangesAt}
+use Rattle.layout.specs.Decode.{rangesAt}
 use Rattle.layout.specs.MethodPlaces.{idsPlace, vectorsPlace, rangesPlace, wholeLength}
 use Rattle.layout.specs.Parse.{checked}
-use Rattle.layout.proofs.Places.{Reading, places, elements-length}
+use Rattle.layout.proofs.Places.{Reading, places}
 use Rattle.layout.proofs.Within.{within-permitted}
-use Rattle.ticks.specs.Table.{eqList}
 use Rattle.ticks.specs.Written.{eqVector}
-use Rattle.ticks.proofs.Equality.{exact-no, eqVector-exact}
-use Rattle.lookup.specs.Method.{There}
-use Rattle.normal_form.specs.MethodNormal.{idsRise, markedBy, keysMarked, vectorHere, vectorsHere, numbered, standing}
-use Rattle.normal_form.specs.MethodNormal.{wordFrom, VectorsTaken, Worded, unlike, apart, noMarks, vectorsNormal}
+use Rattle.normal_form.specs.MethodNormal.{idsRise, markedBy, keysMarked, vectorsHere, numbered, standing}
+use Rattle.normal_form.specs.MethodNormal.{VectorsTaken, Hashed, unlike, apart, noMarks, vectorsNormal}
 use Rattle.normal_form.specs.MethodNormal.{usedInOrder, rangesNormal, normalThere, roomy, RoomFor, normalIn}
 use Rattle.normal_form.proofs.Tests.{both}
 
@@ -48,41 +44,6 @@ spread-fits w h =
   where
     sum : (x y : ℕ) → x < 4294967296 → y < 4294967296 → x * 2654435761 + y < 2 ^ 64
     sum x y a b = omega arith
-
--- The same vector
-
-module _ (s : List ℕ) (a b n m : ℕ) (x : There s a n) (y : There s b m) where
-  here-first : elementsAt s n (a + 8) ≡ vectorHere s a
-  here-first = ap (λ j. elementsAt s j (a + 8)) (x .is)
-
-  here-second : elementsAt s m (b + 8) ≡ vectorHere s b
-  here-second = ap (λ j. elementsAt s j (b + 8)) (y .is)
-
-  pub counts-differ : (n ≡ m → ⊥) → false ≡ eqVector (vectorHere s a) (vectorHere s b)
-  counts-differ d =
-      sym (exact-no eqVector eqVector-exact (vectorHere s a) (vectorHere s b)
-      (λ e. d (sym (elements-length s n (a + 8)) ∙ ap length (here-first ∙ e ∙ sym here-second) ∙ elements-length s m (b + 8))))
-
-  pub elements-same : (r : Bool) → n ≡ m → r ≡ eqVector (elementsAt s n (a + 8)) (elementsAt s n (b + 8))
-      → r ≡ eqVector (vectorHere s a) (vectorHere s b)
-  elements-same r e t =
-      t ∙ ap₂ (λ us vs. eqVector us vs) here-first (ap (λ j. elementsAt s j (b + 8)) e ∙ here-second)
-
-  pub both-empty : n ≡ m → n ≡ 0 → true ≡ eqVector (vectorHere s a) (vectorHere s b)
-  unfolding eqList elementsAt
-  both-empty e z = elements-same true e (ap (λ j. eqVector (elementsAt s j (a + 8)) (elementsAt s j (b + 8))) (sym z))
-
-module _ (s words places : List ℕ) (n i k : ℕ) (w : Worded s words places n) (h : i < n) (l : k < n) where
-  pub words-differ : (getD words i 0 ≡ getD words k 0 → ⊥) → false ≡ eqVector (standing s places i) (standing s places k)
-  words-differ d =
-      sym (exact-no eqVector eqVector-exact (standing s places i) (standing s places k)
-      (λ e. d (w .is i h ∙ ap (wordFrom 0) e ∙ sym (w .is k l))))
-
-pub standing-same : (s places : List ℕ) (i k : ℕ) (r : Bool)
-    → r ≡ eqVector (vectorHere s (getD places i 0)) (vectorHere s (getD places k 0))
-    → r ≡ eqVector (standing s places i) (standing s places k)
-unfolding standing
-standing-same s places i k r e = e
 
 -- The vectors after vector 0
 
@@ -108,8 +69,8 @@ unfolding vectorsHere
 here-length s zero at = refl
 here-length s (suc n) at = ap suc (here-length s n _)
 
-module _ (s : List ℕ) (r n at : ℕ) (marks words places : List ℕ) (b : Bool)
-    (t : VectorsTaken s r n at noMarks marks words places b) where
+module _ (s : List ℕ) (r n at : ℕ) (marks hashes places : List ℕ) (b : Bool)
+    (t : VectorsTaken s r n at noMarks marks hashes places b) where
   abbrev vs : List (List Element)
   vs = vectorsHere s n at
 
@@ -133,8 +94,8 @@ module _ (s : List ℕ) (r n at : ℕ) (marks words places : List ℕ) (b : Bool
         ∙ ap (λ j. apart (numbered vs) j 0) (sym (here-length s n at)) in
         q ∙ sym (rw (sym (t .is) ∙ e, vectorsNormal, m))
 
-  pub shell-worded : b ≡ true → n ≤ length words → n ≤ length places → Worded s words places n
-  shell-worded e l m = record { is = t .listed e .word; wordRoom = l; placeRoom = m }
+  pub shell-hashed : b ≡ true → n ≤ length hashes → n ≤ length places → Hashed s hashes places n
+  shell-hashed e l m = record { is = t .listed e .hash; hashRoom = l; placeRoom = m }
 
 -- The ranges
 

@@ -5,4 +5,7 @@ pub mod ByPlaces
 pub mod Elements
 pub mod Vectors
 pub mod Loops
+pub mod Hashes
+pub mod Orders
+pub mod Insertion
 pub mod Calls

@@ -49,14 +49,20 @@ unfoldable pub keysMarked : List ℕ → ℕ → ℕ → Bool
 keysMarked marks zero k = true
 keysMarked marks (suc n) k = elim (leb 1 (getD marks k 0)) [ true ↦ keysMarked marks n (suc k) | false ↦ false ]
 
--- a word of 64 bits into which the elements of a vector are mixed, one after the other. Any function of the elements would do:
--- vectors with unlike words are unlike
+-- a word of 64 bits into which the elements of a vector are mixed, one after the other, and the hash of 32 bits into which it is
+-- folded. Any function of the elements would do: vectors with unlike hashes are unlike
 unfoldable pub mixed : ℕ → ℕ → ℕ → ℕ
 mixed w key tick = ((w % 4294967296 * 2654435761 + w / 4294967296 + tick) % 2 ^ 64 + key * 4294967296) % 2 ^ 64
 
 unfoldable pub wordFrom : ℕ → List Element → ℕ
 wordFrom w [] = w
 wordFrom w (x ∷ xs) = wordFrom (mixed w (x .key .0) (x .tick)) xs
+
+unfoldable pub folded : ℕ → ℕ
+folded w = (w % 4294967296 + w / 4294967296 * 2654435761) % 4294967296
+
+unfoldable pub hashOf : List Element → ℕ
+hashOf es = folded (wordFrom 0 es)
 
 unfoldable pub takenIf : Bool → ℕ → Taken
 takenIf true w = Word w
@@ -94,21 +100,21 @@ numbered vs j = getD vs j []
 unfoldable pub standing : List ℕ → List ℕ → ℕ → List Element
 standing s places j = vectorHere s (getD places j 0)
 
--- the places of vectors, and their words
-pub record Listed (s : List ℕ) (vs : List (List Element)) (n : ℕ) (words places : List ℕ) : Type 0 where
+-- the places of vectors, and their hashes
+pub record Listed (s : List ℕ) (vs : List (List Element)) (n : ℕ) (hashes places : List ℕ) : Type 0 where
   pub place : (j : ℕ) → j < n → standing s places j ≡ numbered vs j
-  pub word : (j : ℕ) → j < n → getD words j 0 ≡ wordFrom 0 (standing s places j)
+  pub hash : (j : ℕ) → j < n → getD hashes j 0 ≡ hashOf (standing s places j)
 
 -- what taking in n vectors from a place on came to
-pub record VectorsTaken (s : List ℕ) (r n start : ℕ) (old new words places : List ℕ) (b : Bool) : Type 0 where
+pub record VectorsTaken (s : List ℕ) (r n start : ℕ) (old new hashes places : List ℕ) (b : Bool) : Type 0 where
   pub is : b ≡ eachInOrder r (vectorsHere s n start)
   pub marks : b ≡ true → new ≡ markedBy old (vectorsHere s n start)
-  pub listed : b ≡ true → Listed s (vectorsHere s n start) n words places
+  pub listed : b ≡ true → Listed s (vectorsHere s n start) n hashes places
 
--- each of n places has its word
-pub record Worded (s words places : List ℕ) (n : ℕ) : Type 0 where
-  pub is : (j : ℕ) → j < n → getD words j 0 ≡ wordFrom 0 (standing s places j)
-  pub wordRoom : n ≤ length words
+-- each of n places has its hash
+pub record Hashed (s hashes places : List ℕ) (n : ℕ) : Type 0 where
+  pub is : (j : ℕ) → j < n → getD hashes j 0 ≡ hashOf (standing s places j)
+  pub hashRoom : n ≤ length hashes
   pub placeRoom : n ≤ length places
 
 -- are the n vectors from number j on unlike vector k
