@@ -6,3 +6,4 @@ pub mod Elements
 pub mod Vectors
 pub mod Loops
 pub mod Calls
+pub mod Opened
