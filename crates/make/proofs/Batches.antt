@@ -1,48 +1,49 @@
 -- How a call that makes a batch ends once its inputs are accepted: with 11 or 12 of needed, then of learned, else with the bytes of the batch or 14.
--- What the knowledge part wrote into scratch is needed, whose normal form has room there where the scratch is as long as the longest knowledge;
--- what it wrote into the room in the buffer is learned; and the records at the places that were selected are the batch's. No more records are
--- selected than the store has, so there is no 13.
-use Prim.Native.Nat.{ℕ, _+_, _*_, _-_, _≤_}
+-- A given knowledge in normal form is needed; else what the knowledge part wrote into scratch is, whose normal form has room there where the
+-- scratch is as long as the longest knowledge. What was written into the room in the buffer is learned (proofs/Learned.antt); and the records at
+-- the places that were selected are the batch's. No more records are selected than the store has, so there is no 13.
+use Prim.Native.Nat.{ℕ, _+_, _-_, _≤_}
 use mathlib.Core.Path.{_≡_, refl, sym, ap, _∙_, subst}
-use mathlib.Core.Bool.{false}
+use mathlib.Core.Bool.{Bool, true}
 use mathlib.Core.List.{List, [], _∷_, _++_}
-use native.Mathlib.Nat.{mul-le-mul}
 use native.Mathlib.Omega.{arith}
 use lib.ListN.{length, take, drop, length-take}
-use Rattle.codec.specs.Reply.{Reply, gives, refuses}
+use Rattle.codec.specs.Reply.{gives, refuses}
 use Rattle.codec.specs.Part.{placed}
-use Rattle.codec.specs.Total.{clamp}
-use Rattle.codec.specs.Ids.{itemOf, InWords}
+use Rattle.codec.specs.Ids.{itemOf}
 use Rattle.codec.specs.MethodEnded.{Ended, endOf}
 use Rattle.codec.specs.declared.Answer.{Answer}
 use Rattle.codec.specs.declared.Answer.the-variants.{Written, Refused}
 use Rattle.codec.proofs.Ended.{ended-refused, ended-cases}
-use Rattle.codec.proofs.Replies.{None, fault-gives}
+use Rattle.codec.proofs.Replies.{fault-gives}
 use Rattle.codec.proofs.Total.{clamp-within}
 use Rattle.codec.proofs.Writing.{placed-in, placed-length}
 use Rattle.layout.specs.Knowledge as K
 use Rattle.layout.specs.Knowledge.{Knowledge, encode, anyId}
-use Rattle.layout.specs.Permitted.{longest, largestReplicas, largestRanges, largestRecords, within}
+use Rattle.layout.specs.Permitted.{largestRecords}
 use Rattle.layout.specs.Decode.{decode}
 use Rattle.layout.proofs.Lengths.{lawful-length}
 use Rattle.layout.proofs.Within.{longest-within}
 use Rattle.ticks.proofs.ForCalls.{within-lines}
 use Rattle.ticks.specs.Calls.{resultLines}
-use Rattle.ticks.specs.Operations.{normalise, project, tooManyRanges}
+use Rattle.ticks.specs.Operations.{normalise, project}
 use Rattle.ticks.proofs.LawfulResults.{lawful-normalise}
 use Rattle.lookup.proofs.Leaf.{opens-reading, read-lawful}
+use Rattle.normal_form.specs.MethodNormal.{normalOpened}
 use Rattle.replication.specs.BatchFormat.{Batch}
 use Rattle.replication.specs.Operate.{made}
 use Rattle.replication.specs.MethodOpening.{storeAt}
 use Rattle.replication.proofs.Opening.Calls.{batch-needed-result}
 use Rattle.records_join.specs.MethodJoin.{copied, sizeFrom, fronted}
 use Rattle.records_select.proofs.SelectedTables.{selected-count, selected-size, selected-copied}
-use Rattle.results.specs.MethodOpened.{limitsOf, resultOf, normalisedEnd, projectedEnd}
-use Rattle.results.proofs.Opened.{normalise-opened, project-opened}
+use Rattle.results.specs.MethodOpened.{limitsOf, Reads, resultOf, byTableEnd}
+use Rattle.results.proofs.Copied.{normal-given}
+use Rattle.results.proofs.Opened.{normalise-by-table}
 use Rattle.store_write.specs.MethodStoring.{Chosen}
 use Rattle.store_write.specs.MethodClosing.{RoomBehind, withPart, InsideBatch}
 use Rattle.make.specs.declared.Task.{Task}
-use Rattle.make.specs.Method.{madeOf, madeReply, neededReply, chosenPlaces, Parts}
+use Rattle.make.specs.Method.{madeOf, madeReply, neededReply, learnedEnd, chosenPlaces, Parts}
+use Rattle.make.proofs.Learned.{learned-ends}
 
 -- ---- how long a normal form is
 
@@ -82,20 +83,17 @@ module _ (s mine k : List ℕ) (w : Task) (p : Parts s mine k w) where
   unfolding made
   made-last = refl
 
-  -- ---- what the knowledge part says of needed and of learned
-
-  needed-ends : (d u : List ℕ) (a : Answer) → endOf u a ≡ normalisedEnd (w .limits) k (w .given) d → Ended (neededReply k w) d u a
-  needed-ends d u a e = normalise-opened (w .limits) k (w .given) d u a e (record { rules = anyId L; limits = refl; opens = p .theirs })
-
-  abbrev learnedIs : Reply
-  learnedIs = resultOf (w .limits) (project (itemOf (w .span .first)) (itemOf (w .span .last)) (decode mine))
-
-  learned-ends : (d u : List ℕ) (a : Answer) → endOf u a ≡ projectedEnd (w .limits) mine (w .own) (w .span) d → Ended learnedIs d u a
-  learned-ends d u a e =
-      project-opened (w .limits) mine (w .own) (w .span) d u a e (record { rules = anyId L; limits = refl; opens = p .opens })
-      (p .begins) (p .words) (p .rises)
-
   -- ---- needed
+
+  theirs : Reads (w .limits) k (w .given)
+  theirs = record { rules = anyId L; limits = refl; opens = p .theirs }
+
+  -- the given knowledge as it stands
+  pub needed-normal : (b : Bool) → b ≡ normalOpened k (w .given .r) (w .given .start) → b ≡ true → neededReply k w ≡ gives k
+  needed-normal b is t = normal-given (w .limits) k (w .given) theirs (sym is ∙ t)
+
+  needed-ends : (d u : List ℕ) (a : Answer) → endOf u a ≡ byTableEnd (w .limits) k (w .given) d → Ended (neededReply k w) d u a
+  needed-ends d u a e = normalise-by-table (w .limits) k (w .given) d u a e theirs
 
   needed-short : (bs : List ℕ) → neededReply k w ≡ gives bs → length bs ≤ longestKnowledge
   needed-short bs e =
@@ -110,7 +108,7 @@ module _ (s mine k : List ℕ) (w : Task) (p : Parts s mine k w) where
         longest-within (w .limits .replicas) (w .limits .ranges) (w .limits .records),
       )
 
-  module _ (d u : List ℕ) (a : Answer) (ends : endOf u a ≡ normalisedEnd (w .limits) k (w .given) d) (n : ℕ) where
+  module _ (d u : List ℕ) (a : Answer) (ends : endOf u a ≡ byTableEnd (w .limits) k (w .given) d) (n : ℕ) where
     e : Ended (neededReply k w) d u a
     e = needed-ends d u a ends
 
@@ -182,7 +180,7 @@ module _ (s mine k : List ℕ) (w : Task) (p : Parts s mine k w) where
         }
 
     pub made-inside : (out : List ℕ) (from to : ℕ) → RoomBehind (length out) (length needed) size from to → (part : List ℕ) (a : Answer)
-        → endOf part a ≡ projectedEnd (w .limits) mine (w .own) (w .span) (take (to - from) (drop from out))
+        → endOf part a ≡ learnedEnd mine w (take (to - from) (drop from out))
         → InsideBatch L batch (itemOf (w .span .first)) (itemOf (w .span .last)) a needed s picks count size out (withPart out from to part)
     made-inside out from to room part a e = record {
       begins = made-first;
@@ -197,6 +195,6 @@ module _ (s mine k : List ℕ) (w : Task) (p : Parts s mine k w) where
       ended =
           subst (λ (x : Knowledge). Ended (resultOf (w .limits) x) (take (to - from) (drop from out)) part a)
           (sym (made-learned ∙ ap (project (itemOf (w .span .first)) (itemOf (w .span .last))) (p .knowledge)))
-          (learned-ends (take (to - from) (drop from out)) part a e);
+          (learned-ends s mine k w p (take (to - from) (drop from out)) part a e);
       is = refl;
     }

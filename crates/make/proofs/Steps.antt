@@ -26,6 +26,7 @@ use Rattle.layout.proofs.Within.{within-permitted}
 use Rattle.layout.proofs.Places.{places}
 use Rattle.lookup.proofs.Span.{item-id}
 use Rattle.ticks.specs.Calls.{idOf, wrongSpan}
+use Rattle.ticks.specs.Meaning.{Normal}
 use Rattle.ticks.specs.Operations.{normalise}
 use Rattle.ticks.proofs.ForCalls.{span-right}
 use Rattle.ticks.proofs.ForCode.{refusing}
@@ -44,6 +45,7 @@ use Rattle.replication.specs.MethodRecords.{shapedAt}
 use Rattle.replication.specs.MethodTable.{recsOf, tableAt}
 use Rattle.replication.specs.MethodReplies.{batchReply}
 use Rattle.replication.specs.Calls.{makeReply}
+use Rattle.replication.proofs.Contents.Valid.{store-exact}
 use Rattle.replication.proofs.Opening.Store.{store-walked}
 use Rattle.replication.proofs.Opening.Calls.{make-left}
 use Rattle.replication.proofs.Refusals.Make.{make-store, make-own, make-17}
@@ -124,6 +126,9 @@ module _ (limits : Limits) (s : List ℕ) (own : KnowledgePart) (k : List ℕ) (
         theirs = h .theirs;
         opens = subst (λ (x : List ℕ). Opens (anyId L) x (own .view .r) (own .view .start)) (sym own-part) (h .opens);
         knowledge = h .knowledge ∙ ap decode (sym own-part);
+        normal =
+            subst Normal (h .knowledge ∙ ap decode (sym own-part))
+            (store-exact L s (storeAt L s) (h .opens .permitted) (h .bytes) .0 (h .value) .1 .normal);
       }
 
     pub make-ends : (u : List ℕ) (a : Answer) → Ended (madeReply s k work) out u a → Ended (makeReply (anyId L) s k first last) out u a

@@ -1,15 +1,18 @@
 -- What a make has at hand, step by step, once its inputs are accepted. There is nothing to believe here: the call's contract cites the reply
 -- of `replication` (`makeReply`, specs/Calls.antt).
-use Rattle.codec.specs.Prelude.{ℕ, _+_, _≤_, _≡_, true, List, length}
+use Rattle.codec.specs.Prelude.{ℕ, _+_, _≤_, _≡_, Bool, true, false, List, eqb, length}
 use Rattle.codec.specs.Number.{Bytes}
 use Rattle.codec.specs.Parsed.{accepted}
 use Rattle.codec.specs.Reply.{Reply}
+use Rattle.codec.specs.MethodEnded.{End}
 use Rattle.codec.specs.declared.Item.{Item}
+use Rattle.codec.specs.declared.Span.{Span}
 use Rattle.codec.specs.Ids.{itemOf, InWords}
 use Rattle.layout.specs.Knowledge as K
 use Rattle.layout.specs.Knowledge.{anyId}
 use Rattle.layout.specs.declared.Limits.{Limits}
 use Rattle.layout.specs.Decode.{decode}
+use Rattle.ticks.specs.Meaning.{highest, Normal}
 use Rattle.ticks.specs.Operations.{normalise}
 use Rattle.lookup.specs.declared.View.{View}
 use Rattle.lookup.specs.Method.{Opens}
@@ -23,7 +26,7 @@ use Rattle.replication.specs.MethodReplies.{batchReply}
 use Rattle.store_open.specs.declared.KnowledgePart.{KnowledgePart}
 use Rattle.store_open.specs.Method.{ownBytes}
 use Rattle.records_select.specs.MethodSelect.{selectPlaces}
-use Rattle.results.specs.MethodOpened.{limitsOf, resultOf}
+use Rattle.results.specs.MethodOpened.{limitsOf, resultOf, copiedEnd, projectedEnd}
 use Rattle.make.specs.declared.Task.{Task}
 
 -- ---- inputs that are accepted
@@ -64,11 +67,20 @@ madeReply s k w = batchReply (limitsOf (w .limits)) (madeOf s k w)
 abbrev pub neededReply : List ℕ → Task → Reply
 neededReply k w = resultOf (w .limits) (normalise (decode k))
 
+-- is a span all ids
+unfoldable pub allIds : Span → Bool
+allIds x = elim (eqb (itemOf (x .first)) 0) [ true ↦ eqb (itemOf (x .last)) highest | false ↦ false ]
+
+-- what is left of a buffer into which learned is written: mine, the store's own knowledge, as it stands or projected
+unfoldable pub learnedEnd : List ℕ → Task → List ℕ → End
+learnedEnd mine w out =
+    elim (allIds (w .span)) [ true ↦ copiedEnd mine out | false ↦ projectedEnd (w .limits) mine (w .own) (w .span) out ]
+
 -- the places of its records in s: those of the span that the knowledge k lacks
 abbrev pub chosenPlaces : List ℕ → List ℕ → Task → List ℕ
 chosenPlaces s k w = selectPlaces s (w .table) k (w .given .r) (w .given .start) (itemOf (w .span .first)) (itemOf (w .span .last))
 
--- a span, the records in it, no more of them than the limit, the given knowledge k, and mine, the store's own one
+-- a span, the records in it, no more of them than the limit, the given knowledge k, and mine, the store's own one, in normal form
 pub record Parts (s mine k : List ℕ) (w : Task) : Type 0 where
   pub bytes : Bytes s
   pub begins : InWords (w .span .first)
@@ -79,3 +91,4 @@ pub record Parts (s mine k : List ℕ) (w : Task) : Type 0 where
   pub theirs : Opens (anyId (limitsOf (w .limits))) k (w .given .r) (w .given .start)
   pub opens : Opens (anyId (limitsOf (w .limits))) mine (w .own .r) (w .own .start)
   pub knowledge : storeAt (limitsOf (w .limits)) s .knowledge ≡ decode mine
+  pub normal : Normal (decode mine)

@@ -1,7 +1,8 @@
 // The call make: a batch of what a store holds in a span and a given knowledge lacks.
 //
-// Needed is the normal form of the given knowledge, learned the store's own knowledge projected onto the span. Needed is written into scratch
-// first, since its length says where learned begins; learned is written into its room in the buffer, and header, needed and records around it.
+// Needed is the normal form of the given knowledge, learned the store's own knowledge projected onto the span. Where the given knowledge is in
+// normal form it is needed as it stands; else needed is written into scratch first, since its length says where learned begins. Learned is
+// written into its room in the buffer, a copy of the store's own knowledge where the span is all ids, and header, needed and records around it.
 // The records are looked up in the given knowledge as it stands, which contains the same versions as its normal form.
 use codec::Answer;
 use codec::Span;
@@ -14,15 +15,18 @@ use store_open::OpenedStore;
 ghost use mathlib.Core.Path.{_≡_};
 ghost use lib.ListN.{length};
 ghost use Rattle.codec.specs.Reply.{gives, answer, after};
-ghost use Rattle.codec.specs.MethodEnded.{Ended};
+ghost use Rattle.codec.specs.MethodEnded.{Ended, endOf};
 ghost use Rattle.layout.specs.Knowledge.{anyId, basic};
 ghost use Rattle.replication.specs.Calls.{makeReply};
 ghost use Rattle.records_join.specs.MethodJoin.{sizeFrom, fronted};
 ghost use Rattle.results.specs.MethodOpened.{limitsOf};
-ghost use Rattle.make.specs.Method.{Inputs, Parts, chosenPlaces, neededReply, madeReply};
+ghost use Rattle.make.specs.Method.{Inputs, Parts, allIds, learnedEnd, chosenPlaces, neededReply, madeReply};
 
 // the place of a store's knowledge
 const STORE_KNOWLEDGE: usize = 25;
+
+// a word of the highest id
+const TOP: u64 = 18446744073709551615;
 
 const REPLICAS: usize = layout::LARGEST_REPLICAS as usize;
 
@@ -48,6 +52,30 @@ struct Task {
     given: View,
     span: Span,
     limits: Limits,
+}
+
+// ---- learned
+
+// Is a span all ids.
+fn is_all(span: Span) -> bool
+    ensures { λ b. ⌜ b ≡ allIds span ⌝ }
+{
+    let f = span.first;
+    let l = span.last;
+    if codec::same3(f.high, f.middle, f.low, 0, 0, 0) {
+        return codec::same3(l.high, l.middle, l.low, TOP, TOP, TOP);
+    }
+    false
+}
+
+// Writes learned: mine, the store's own knowledge, as it stands where the span is all ids, and else projected.
+fn write_learned(mine: &[u8], w: Task, out: &mut [u8]) -> Answer
+    ensures { λ a. ⌜ endOf (now (out .exit)) a ≡ learnedEnd (now (mine .entry)) w (now (out .entry)) ⌝ }
+{
+    if is_all(w.span) {
+        return results_copied::copy_whole(mine, out);
+    }
+    results::project_opened(mine, w.own, w.span, w.limits, out)
 }
 
 // ---- the records, and the end
@@ -80,7 +108,7 @@ fn make_learned(
     let to = room.to;
     let first = w.span.first;
     let last = w.span.last;
-    let a = results::project_opened(mine, w.own, w.span, w.limits, &mut out[from..to]);
+    let a = write_learned(mine, w, &mut out[from..to]);
     store_write::close_batch(out, first, last, a, needed, store, &picks, e)
 }
 
@@ -92,14 +120,14 @@ fn make_long(out: &mut [u8], w: Task, store: &[u8], mine: &[u8], knowledge: &[u8
     ensures { λ a. ⌜ Ended (madeReply (now (store .entry)) (now (knowledge .entry)) w) (now (out .entry)) (now (out .exit)) a ⌝ }
 {
     let mut long = [0u8; LONGEST];
-    match results::normalise_opened(knowledge, w.given, w.limits, &mut long) {
+    match results::normalise_by_table(knowledge, w.given, w.limits, &mut long) {
         Answer::Written(n) => make_learned(out, w, &long[..n], store, mine, knowledge),
         Answer::Refused(n) => Answer::Refused(n),
     }
 }
 
 // In short scratch where the given knowledge is short and its normal form has room there.
-fn make_needed(out: &mut [u8], w: Task, store: &[u8], mine: &[u8], knowledge: &[u8]) -> Answer
+fn make_normalised(out: &mut [u8], w: Task, store: &[u8], mine: &[u8], knowledge: &[u8]) -> Answer
     requires { ⌜ Parts (now store) (now mine) (now knowledge) w ⌝ }
     ensures { λ a. ⌜ Ended (madeReply (now (store .entry)) (now (knowledge .entry)) w) (now (out .entry)) (now (out .exit)) a ⌝ }
 {
@@ -107,7 +135,7 @@ fn make_needed(out: &mut [u8], w: Task, store: &[u8], mine: &[u8], knowledge: &[
         return make_long(out, w, store, mine, knowledge);
     }
     let mut short = [0u8; SHORT];
-    match results::normalise_opened(knowledge, w.given, w.limits, &mut short) {
+    match results::normalise_by_table(knowledge, w.given, w.limits, &mut short) {
         Answer::Written(n) => make_learned(out, w, &short[..n], store, mine, knowledge),
         Answer::Refused(n) => {
             if n == 14 {
@@ -116,6 +144,17 @@ fn make_needed(out: &mut [u8], w: Task, store: &[u8], mine: &[u8], knowledge: &[
             Answer::Refused(n)
         }
     }
+}
+
+// The given knowledge as it stands where it is in normal form.
+fn make_needed(out: &mut [u8], w: Task, store: &[u8], mine: &[u8], knowledge: &[u8]) -> Answer
+    requires { ⌜ Parts (now store) (now mine) (now knowledge) w ⌝ }
+    ensures { λ a. ⌜ Ended (madeReply (now (store .entry)) (now (knowledge .entry)) w) (now (out .entry)) (now (out .exit)) a ⌝ }
+{
+    if normal_form::normal_opened(knowledge, w.given) {
+        return make_learned(out, w, knowledge, store, mine, knowledge);
+    }
+    make_normalised(out, w, store, mine, knowledge)
 }
 
 // ---- the call

@@ -9,3 +9,4 @@ pub mod Hashes
 pub mod Orders
 pub mod Insertion
 pub mod Calls
+pub mod Opened

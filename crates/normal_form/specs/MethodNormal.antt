@@ -10,7 +10,8 @@ use Rattle.layout.specs.Permitted.{largestReplicas, largestRanges}
 use Rattle.layout.specs.Decode.{elementsAt, rangesAt}
 use Rattle.layout.specs.MethodPlaces.{idsPlace, vectorsPlace, rangesPlace, wholeLength}
 use Rattle.ticks.specs.Written.{eqVector}
-use Rattle.lookup.specs.Method.{elementsThere}
+use Rattle.lookup.specs.declared.Cursor.{Cursor}
+use Rattle.lookup.specs.Method.{elementsThere, inFour}
 use Rattle.normal_form.specs.declared.Taken.{Taken}
 use Rattle.normal_form.specs.declared.Taken.the-variants.{Word, Wrong}
 
@@ -194,3 +195,26 @@ pub record RoomFor (s : List ℕ) (r v e g : ℕ) : Type 0 where
 
 unfoldable pub normalIn : List ℕ → ℕ → ℕ → ℕ → ℕ → Bool
 normalIn s r v e g = elim (roomy s r v e g) [ true ↦ normalThere s r v e g | false ↦ false ]
+
+-- From a cursor before any range
+
+-- the count of vectors stands before them
+abbrev pub countBefore : List ℕ → ℕ → ℕ
+countBefore s r = beAt s 4 (vectorsPlace r - 4)
+
+-- where the ranges would begin after vectors with no elements, and how many elements, of 12 bytes, there are if they begin at the cursor
+abbrev pub noElements : ℕ → ℕ → ℕ
+noElements r v = 64 + 16 * r + 8 * v
+
+abbrev pub elementsBefore : ℕ → ℕ → Cursor → ℕ
+elementsBefore r v c = inFour ((c .next - noElements r v) / 12)
+
+unfoldable pub normalOpened : List ℕ → ℕ → Cursor → Bool
+normalOpened s r c =
+    elim (leb (vectorsPlace r) (length s)) [
+      | true ↦ elim (leb (noElements r (countBefore s r)) (c .next)) [
+        | true ↦ normalIn s r (countBefore s r) (elementsBefore r (countBefore s r) c) (c .left)
+        | false ↦ false
+      ]
+      | false ↦ false
+    ]

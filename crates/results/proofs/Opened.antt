@@ -1,13 +1,13 @@
 -- A function on knowledges that were opened ends as the result of its operation says: scratch of zeros has room for the table, whichever is
--- taken, so the table samples the ticks of the operation, and what is planned for it is the result. These laws are all that a caller
--- needs to know of such a function: they take what its contract says, and speak of no table.
+-- taken, so the table samples the ticks of the operation, and what is planned for it is the result; and what is copied is in normal form.
+-- These laws are all that a caller needs to know of such a function: they take what its contract says, and speak of no table.
 use Prim.Native.Nat.{ℕ, _+_, _*_, _^_, _≤_, _<_}
 use mathlib.Core.Path.{_≡_, refl, sym, ap, _∙_, subst}
+use mathlib.Core.Bool.{Bool, true, false}
 use mathlib.Core.List.{List}
 use native.Mathlib.Omega.{arith}
 use lib.ListN.{replicate}
 use borrow.Author.Tests.{lt-ltb, le-ltb}
-use Rattle.codec.specs.Reply.{Reply}
 use Rattle.codec.specs.MethodEnded.{Ended, End, endOf}
 use Rattle.codec.specs.Ids.{InWords, itemOf, replicaOf}
 use Rattle.codec.specs.declared.Answer.{Answer}
@@ -20,6 +20,7 @@ use Rattle.layout.specs.declared.Limits.{Limits}
 use Rattle.ticks.specs.Operations.{normalise, merge, project, raise}
 use Rattle.ticks.proofs.Lists.{order, less, same, more}
 use Rattle.lookup.specs.declared.View.{View}
+use Rattle.normal_form.specs.MethodNormal.{normalOpened}
 use Rattle.tables.specs.MethodWords.{stride, mostRows}
 use Rattle.loading.specs.MethodReply.{resultReply}
 use Rattle.loading.proofs.Closing.{result-is}
@@ -30,9 +31,10 @@ use Rattle.sampling.proofs.Scratch.{table-room}
 use Rattle.preparing.specs.MethodPrepared.{concluded, Sheet}
 use Rattle.preparing.proofs.Ready.{normalise-sheet, merge-sheet, project-sheet, raise-sheet, sheet-ended}
 use Rattle.results.specs.MethodOpened.{Reads, resultOf, smallRows, middleRows, oneRows, sizeFor, rowsOf, Fill, zeroed, lent, tableEnd}
-use Rattle.results.specs.MethodOpened.{mergedEnd, raisedEnd, normalisedEnd, projectedEnd}
+use Rattle.results.specs.MethodOpened.{mergedEnd, raisedEnd, byTableEnd, normalisedEnd, projectedEnd}
 use Rattle.results.specs.declared.Size.{Size}
 use Rattle.results.specs.declared.Size.the-variants as Z
+use Rattle.results.proofs.Copied.{end-copied, normal-given, normalised-is-copied, normalised-is-by-table}
 use Rattle.results.proofs.TableWords.{TableWords, words-zeros, one-words, raised-words, span-words, two-words}
 
 -- ---- the end that a function computes
@@ -61,10 +63,10 @@ module _ (most : Limits) (s : List ℕ) (v : View) (out : List ℕ) (e : End) (z
   unfolding raisedEnd
   raised-sized p tick = end-sized most out _ oneRows (raisedTable s (v .r) (v .start) (p .high) (p .low) tick) e z y
 
-  pub normalised-sized : z ≡ sizeFor (v .start .left + 1) → z ≡ y
-      → e ≡ tableEnd most out (zeroed (rowsOf y oneRows) (oneTable s (v .r) (v .start))) → e ≡ normalisedEnd most s v out
-  unfolding normalisedEnd
-  normalised-sized = end-sized most out _ oneRows (oneTable s (v .r) (v .start)) e z y
+  pub by-table-sized : z ≡ sizeFor (v .start .left + 1) → z ≡ y
+      → e ≡ tableEnd most out (zeroed (rowsOf y oneRows) (oneTable s (v .r) (v .start))) → e ≡ byTableEnd most s v out
+  unfolding byTableEnd
+  by-table-sized = end-sized most out _ oneRows (oneTable s (v .r) (v .start)) e z y
 
   pub projected-sized : (x : Span) → z ≡ sizeFor (v .start .left + 3) → z ≡ y
       → e ≡ tableEnd most out (zeroed (rowsOf y oneRows) (spanTable s (v .r) (v .start) (x .first) (x .last)))
@@ -174,10 +176,10 @@ raise-opened most s v p tick out u a e x high low =
     (raise-sheet (most .replicas) (most .ranges) (most .records) (x .rules) (x .limits) _ _ _ _ _ _ _ s (v .r) (v .start) (x .opens)
     (p .high) (p .low) tick refl (zeros-room (v .r + 1) n m (omega (arith, rx)) l b))))
 
-pub normalise-opened : (most : Limits) (s : List ℕ) (v : View) (out u : List ℕ) (a : Answer)
-    → endOf u a ≡ normalisedEnd most s v out → Reads most s v → Ended (resultOf most (normalise (decode s))) out u a
-unfolding normalisedEnd
-normalise-opened most s v out u a e x =
+pub normalise-by-table : (most : Limits) (s : List ℕ) (v : View) (out u : List ℕ) (a : Answer)
+    → endOf u a ≡ byTableEnd most s v out → Reads most s v → Ended (resultOf most (normalise (decode s))) out u a
+unfolding byTableEnd
+normalise-by-table most s v out u a e x =
     let rx = reads-replicas most s v x in
     let n = v .start .left + 1 in
     let fill = oneTable s (v .r) (v .start) in
@@ -189,6 +191,15 @@ normalise-opened most s v out u a e x =
     (v .r) n
     (normalise-sheet (most .replicas) (most .ranges) (most .records) (x .rules) (x .limits) _ _ _ _ _ _ _ s (v .r) (v .start) (x .opens)
     refl (zeros-room (v .r) n m (omega (arith, rx)) l b))))
+
+pub normalise-opened : (most : Limits) (s : List ℕ) (v : View) (out u : List ℕ) (a : Answer)
+    → endOf u a ≡ normalisedEnd most s v out → Reads most s v → Ended (resultOf most (normalise (decode s))) out u a
+normalise-opened most s v out u a e x = go (normalOpened s (v .r) (v .start)) refl
+  where
+    go : (b : Bool) → normalOpened s (v .r) (v .start) ≡ b → Ended (resultOf most (normalise (decode s))) out u a
+    go true t =
+        subst (λ reply. Ended reply out u a) (sym (normal-given most s v x t)) (end-copied s out u a (e ∙ normalised-is-copied most s v out t))
+    go false t = normalise-by-table most s v out u a (e ∙ normalised-is-by-table most s v out t) x
 
 pub project-opened : (most : Limits) (s : List ℕ) (v : View) (span : Span) (out u : List ℕ) (a : Answer)
     → endOf u a ≡ projectedEnd most s v span out → Reads most s v → InWords (span .first) → InWords (span .last)

@@ -1,9 +1,9 @@
 -- What a function on knowledges that were opened leaves, for any bytes, any view of them, any limits and any buffer: a table is filled in
--- scratch of zeros, and the call ends with what is planned for it. And what a caller has, and what it gets. There is nothing to believe
--- here: the calls' contracts cite the replies of `ticks` and `replication`.
-use Rattle.codec.specs.Prelude.{ℕ, _+_, _*_, _≡_, true, false, List, ltb}
+-- scratch of zeros, and the call ends with what is planned for it; or the bytes are copied. And what a caller has, and what it gets. There is
+-- nothing to believe here: the calls' contracts cite the replies of `ticks` and `replication`.
+use Rattle.codec.specs.Prelude.{ℕ, _+_, _*_, _≡_, true, false, List, ltb, length}
 use lib.ListN.{replicate}
-use Rattle.codec.specs.Reply.{Reply, gives, refuses, firstFault}
+use Rattle.codec.specs.Reply.{Reply, gives, refuses, firstFault, answer, after}
 use Rattle.codec.specs.declared.Replica.{Replica}
 use Rattle.codec.specs.declared.Span.{Span}
 use Rattle.layout.specs.Knowledge as K
@@ -13,9 +13,10 @@ use Rattle.layout.specs.declared.Limits.{Limits}
 use Rattle.ticks.specs.Calls.{resultLines}
 use Rattle.lookup.specs.Method.{Opens}
 use Rattle.lookup.specs.declared.View.{View}
+use Rattle.normal_form.specs.MethodNormal.{normalOpened}
 use Rattle.tables.specs.MethodWords.{stride, mostRows}
 use Rattle.sampling.specs.MethodTables.{Table, oneTable, twoTable, spanTable, raisedTable}
-use Rattle.codec.specs.MethodEnded.{End}
+use Rattle.codec.specs.MethodEnded.{End, endOf}
 use Rattle.preparing.specs.MethodPrepared.{concluded}
 use Rattle.results.specs.declared.Size.{Size}
 use Rattle.results.specs.declared.Size.the-variants as Z
@@ -77,6 +78,10 @@ lent n large fill = zeroed (rowsOf (sizeFor n) large) fill
 unfoldable pub tableEnd : Limits → List ℕ → Table → End
 tableEnd most out w = concluded (rulesWithin (most .replicas) (most .ranges) .limits) (w .filled) out (w .ids) (w .bounds) (w .t)
 
+-- with bytes that are copied, or with 14
+unfoldable pub copiedEnd : List ℕ → List ℕ → End
+copiedEnd s out = endOf (after (gives s) out) (answer (gives s) (length out))
+
 unfoldable pub mergedEnd : Limits → List ℕ → View → List ℕ → View → List ℕ → End
 mergedEnd most s v other w out =
     tableEnd most out (lent (v .start .left + w .start .left + 1) mostRows (twoTable s (v .r) (v .start) other (w .r) (w .start)))
@@ -85,8 +90,13 @@ unfoldable pub raisedEnd : Limits → List ℕ → View → Replica → ℕ → 
 raisedEnd most s v p tick out =
     tableEnd most out (lent (v .start .left + 1) oneRows (raisedTable s (v .r) (v .start) (p .high) (p .low) tick))
 
+-- by a table, in normal form or not
+unfoldable pub byTableEnd : Limits → List ℕ → View → List ℕ → End
+byTableEnd most s v out = tableEnd most out (lent (v .start .left + 1) oneRows (oneTable s (v .r) (v .start)))
+
+-- a copy of what is in normal form
 unfoldable pub normalisedEnd : Limits → List ℕ → View → List ℕ → End
-normalisedEnd most s v out = tableEnd most out (lent (v .start .left + 1) oneRows (oneTable s (v .r) (v .start)))
+normalisedEnd most s v out = elim (normalOpened s (v .r) (v .start)) [ true ↦ copiedEnd s out | false ↦ byTableEnd most s v out ]
 
 unfoldable pub projectedEnd : Limits → List ℕ → View → Span → List ℕ → End
 projectedEnd most s v x out = tableEnd most out (lent (v .start .left + 3) oneRows (spanTable s (v .r) (v .start) (x .first) (x .last)))

@@ -1,6 +1,6 @@
 // The results that are written as a knowledge, from bytes that were opened: the merged, raised, normalised and projected knowledge. Each
-// function fills a table of words with known ticks, plans what is written for it, and then writes that into a lent buffer. This is the one
-// crate that owns scratch for tables.
+// function fills a table of words with known ticks, plans what is written for it, and then writes that into a lent buffer; a knowledge in
+// normal form is normalised by copying it. This is the one crate that owns scratch for tables.
 //
 // The functions are total, and nothing but the buffer can change. Their contracts say what they leave for any input; laws say what that is
 // where the bytes were opened under the limits.
@@ -14,7 +14,7 @@ ghost use Rattle.codec.specs.MethodEnded.{endOf};
 ghost use Rattle.tables.specs.MethodWords.{mostRows};
 ghost use Rattle.sampling.specs.MethodTables.{oneTable, twoTable, spanTable, raisedTable};
 ghost use Rattle.results.specs.MethodOpened.{smallRows, middleRows, oneRows, sizeFor, zeroed, tableEnd};
-ghost use Rattle.results.specs.MethodOpened.{mergedEnd, raisedEnd, normalisedEnd, projectedEnd};
+ghost use Rattle.results.specs.MethodOpened.{mergedEnd, raisedEnd, byTableEnd, normalisedEnd, projectedEnd};
 
 // Rows of scratch: so many in small scratch, in middle scratch, and for one knowledge at the largest limits: row 0, one at the first item, one
 // for each range, and two at the ends of a span. Two knowledges at the largest limits take `tables::ROWS`. A table of `n` rows takes
@@ -225,15 +225,25 @@ fn normalise_large(s: &[u8], v: View, limits: Limits, out: &mut [u8]) -> Answer
     normalise_in(s, v, limits, out, &mut ids, &mut bounds, &mut t)
 }
 
-// Writes the normal form of a knowledge.
-pub fn normalise_opened(s: &[u8], v: View, limits: Limits, out: &mut [u8]) -> Answer
-    ensures { λ a. ⌜ endOf (now (out .exit)) a ≡ normalisedEnd limits (now (s .entry)) v (now (out .entry)) ⌝ }
+// Writes the normal form of a knowledge, whether it is in normal form or not.
+pub fn normalise_by_table(s: &[u8], v: View, limits: Limits, out: &mut [u8]) -> Answer
+    ensures { λ a. ⌜ endOf (now (out .exit)) a ≡ byTableEnd limits (now (s .entry)) v (now (out .entry)) ⌝ }
 {
     match size_for(v.start.left as usize + 1) {
         Size::Small => normalise_small(s, v, limits, out),
         Size::Middle => normalise_middle(s, v, limits, out),
         Size::Large => normalise_large(s, v, limits, out),
     }
+}
+
+// Writes the normal form of a knowledge: a copy of its bytes where they are in normal form.
+pub fn normalise_opened(s: &[u8], v: View, limits: Limits, out: &mut [u8]) -> Answer
+    ensures { λ a. ⌜ endOf (now (out .exit)) a ≡ normalisedEnd limits (now (s .entry)) v (now (out .entry)) ⌝ }
+{
+    if normal_form::normal_opened(s, v) {
+        return results_copied::copy_whole(s, out);
+    }
+    normalise_by_table(s, v, limits, out)
 }
 
 // ---- project of what was opened

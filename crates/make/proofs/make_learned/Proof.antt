@@ -22,7 +22,7 @@ returns c =
     close-batch (limitsOf (a .w .limits)) (madeOf (a .store .now) (a .knowledge .now) (a .w)) (a .out .now)
     (made-inside (a .store .now) (a .mine .now) (a .knowledge .now) (a .w) (b20 .pre .0) (a .needed .now) (b20 .pre .1) _ _ _ _
     (x .0 .0) (x .0 .1) (x .1) (omega (arith, zeros-length largestRecords)) (a .out .now) _ _ (batch-room _ (b11 .room-in-batch .ensures .0)) _ _
-    (b7 .project-opened .ensures))
+    (b7 .write-learned .ensures))
     (b2 .close-batch .ensures)
 
 pub make-learned-spec : {M : Type 1} → statement M
@@ -32,10 +32,10 @@ make-learned-spec =
     (λ c. search needs)  -- slice-aggregate-select-records
     (λ c κs. search needs)  -- select-records-requires
     (λ c κs. search needs)  -- room-in-batch-requires
-    (λ c. search needs)  -- sub-project-opened
-    (λ c. search needs)  -- part-project-opened-start
-    (λ c. search needs)  -- part-project-opened-end
-    (λ c κs. search needs)  -- project-opened-requires
+    (λ c. search needs)  -- sub-write-learned
+    (λ c. search needs)  -- part-write-learned-start
+    (λ c. search needs)  -- part-write-learned-end
+    (λ c κs. search needs)  -- write-learned-requires
     (λ c. search needs)  -- slice-aggregate-close-batch
     (λ c κs. search needs)  -- close-batch-requires
     (λ c. search needs)  -- same-length

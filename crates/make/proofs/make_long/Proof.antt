@@ -15,7 +15,7 @@ array-share-prefix-long c =
     omega (
       arith,
       zeros-length longestKnowledge,
-      needed-inside (a .store .now) (a .mine .now) (a .knowledge .now) (a .w) (ba .pre) _ _ _ (bk .normalise-opened .ensures) _
+      needed-inside (a .store .now) (a .mine .now) (a .knowledge .now) (a .w) (ba .pre) _ _ _ (bk .normalise-by-table .ensures) _
           (bn .n .given .1),
     )
 
@@ -25,7 +25,7 @@ slice-aggregate-make-learned c =
     let bk = bn .before .before .before in
     let ba = bk .before .before .before .before .before .before in
     let a = ba .args in
-    needed-counted (a .store .now) (a .mine .now) (a .knowledge .now) (a .w) (ba .pre) _ _ _ (bk .normalise-opened .ensures) _ (bn .n .given .1)
+    needed-counted (a .store .now) (a .mine .now) (a .knowledge .now) (a .w) (ba .pre) _ _ _ (bk .normalise-by-table .ensures) _ (bn .n .given .1)
 
 make-learned-requires : tie.Need-make-learned-requires
 make-learned-requires c κs =
@@ -34,7 +34,7 @@ make-learned-requires c κs =
     let ba = bk .before .before .before .before .before .before in
     let a = ba .args in (
       ba .pre,
-      needed-given (a .store .now) (a .mine .now) (a .knowledge .now) (a .w) (ba .pre) _ _ _ (bk .normalise-opened .ensures) _ (bn .n .given .1),
+      needed-given (a .store .now) (a .mine .now) (a .knowledge .now) (a .w) (ba .pre) _ _ _ (bk .normalise-by-table .ensures) _ (bn .n .given .1),
     )
 
 returns-2 : tie.Need-returns-2
@@ -43,15 +43,15 @@ returns-2 c =
     let bk = bn .before .before .before in
     let ba = bk .before .before .before .before .before .before in
     let a = ba .args in
-    needed-refused-long (a .store .now) (a .mine .now) (a .knowledge .now) (a .w) (ba .pre) _ _ _ (bk .normalise-opened .ensures) _
+    needed-refused-long (a .store .now) (a .mine .now) (a .knowledge .now) (a .w) (ba .pre) _ _ _ (bk .normalise-by-table .ensures) _
     (a .out .now) (bn .n2 .given .1) (omega (arith, zeros-length longestKnowledge))
 
 pub make-long-spec : {M : Type 1} → statement M
 make-long-spec =
     tie.close
     (tie.spec
-    (λ c. search needs)  -- slice-aggregate-normalise-opened
-    (λ c κs. search needs)  -- normalise-opened-requires
+    (λ c. search needs)  -- slice-aggregate-normalise-by-table
+    (λ c κs. search needs)  -- normalise-by-table-requires
     (λ c. search needs)  -- enum-known-n
     array-share-prefix-long
     slice-aggregate-make-learned
