@@ -20,7 +20,7 @@ use Rattle.layout.specs.declared.ReplicaKey.{ReplicaKey}
 use Rattle.layout.specs.Knowledge.{Limits, Knowledge, anyId}
 use Rattle.layout.specs.Permitted.{largestRecords, within}
 use Rattle.layout.specs.Decode.{decode}
-use Rattle.ticks.specs.Meaning.{highest, known}
+use Rattle.ticks.specs.Meaning.{highest, known, Normal}
 use Rattle.ticks.specs.Operations.{covers, coversFor, ownAlike, merge}
 use Rattle.replication.specs.Formats.{Store}
 use Rattle.replication.specs.OpenStore.{storeKnowledge}
@@ -31,6 +31,7 @@ use Rattle.replication.specs.MethodTable.{tableAt}
 use Rattle.replication.specs.MethodOpening.{storeAt, batchAt}
 use Rattle.replication.proofs.Opening.Store.{store-own, store-knowledge, store-walked}
 use Rattle.replication.proofs.Opening.Batch.{batch-first, batch-last, batch-walked}
+use Rattle.replication.proofs.Contents.Valid.{store-exact}
 use Rattle.replication.proofs.Refusals.Apply.{apply-store, apply-batch}
 use Rattle.replication.proofs.Opening.Calls.{apply-uncovered, apply-ahead, apply-left}
 use Rattle.lookup.specs.declared.Cursor.{Cursor}
@@ -56,10 +57,10 @@ use Rattle.store_open.proofs.Opened.{StoreOpen, BatchOpen, store-open, store-cl
 use Rattle.store_open.proofs.Opened.{store-place, store-room, store-slice, store-lookup}
 use Rattle.store_open.proofs.Opened.{batch-place, batch-fits, needed-slice, learned-slice, needed-lookup, learned-lookup}
 use Rattle.layout.specs.declared.Limits as R
-use Rattle.results.specs.MethodOpened.{limitsOf, Reads}
+use Rattle.results.specs.MethodOpened.{limitsOf}
 use Rattle.store_write.specs.MethodClosing.{knowledgeReply, RoomFor, withPart, Inside}
 use Rattle.store_write.proofs.Closing.{joined-inside}
-use Rattle.apply.specs.Method.{ownCovered, appliedReply, BothValid, Merges}
+use Rattle.apply.specs.Method.{ownCovered, appliedReply, BothValid, OwnAndLearned, Merges}
 
 -- ---- cover of needed
 
@@ -210,6 +211,9 @@ module _ (a b n : ℕ) (s : List ℕ) (own : KnowledgePart) (t : List ℕ) (need
             subst (λ (x : List ℕ). Opens (anyId L) x (own .view .r) (own .view .start)) (sym (store-slice L s own (v .count) store))
             (store .opens);
         mineIs = own-is;
+        normal =
+            subst Normal own-is
+            (store-exact L s (storeAt L s) (store .opens .permitted) (v .storeBytes) .0 (store .value) .1 .normal);
         theirs =
             subst (λ (x : List ℕ). Opens (anyId L) x (learned .view .r) (learned .view .start))
             (sym (learned-slice L t needed learned (v .carried) batch)) (batch .learnedOpens);
@@ -277,11 +281,12 @@ module _ (a b n : ℕ) (s k : List ℕ) (own : KnowledgePart) (p : ℕ) (t l : L
 -- what the knowledge part asks for
 module _ (limits : R.Limits) (s k : List ℕ) (own : KnowledgePart) (p : ℕ) (t l : List ℕ) (learned : KnowledgePart) (at : ℕ)
     (m : Merges (limitsOf limits) s k own p t l learned at) where
-  pub mine-reads : Reads limits k (record { r = own .view .r; start = own .view .start })
-  mine-reads = record { rules = anyId (limitsOf limits); limits = refl; opens = m .mine }
-
-  pub theirs-reads : Reads limits l (record { r = learned .view .r; start = learned .view .start })
-  theirs-reads = record { rules = anyId (limitsOf limits); limits = refl; opens = m .theirs }
+  pub own-and-learned : OwnAndLearned limits k (own .view) l (learned .view)
+  own-and-learned = record {
+    mine = record { rules = anyId (limitsOf limits); limits = refl; opens = m .mine };
+    normal = m .normal;
+    theirs = record { rules = anyId (limitsOf limits); limits = refl; opens = m .theirs };
+  }
 
 -- ---- what the checks answered
 

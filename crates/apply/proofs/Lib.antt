@@ -1,2 +1,3 @@
 -- The laws of apply.
 pub mod Applying
+pub mod Merged

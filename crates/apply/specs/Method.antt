@@ -3,15 +3,18 @@ use Rattle.codec.specs.Prelude.{ℕ, _+_, _≤_, _≡_, Bool, List, [], _∷_, 
 use Rattle.codec.specs.Number.{Bytes}
 use Rattle.codec.specs.Reply.{Reply}
 use Rattle.layout.specs.Knowledge.{Limits, Knowledge, anyId}
+use Rattle.layout.specs.declared.Limits as R
 use Rattle.layout.specs.Decode.{decode}
-use Rattle.ticks.specs.Meaning.{highest}
+use Rattle.ticks.specs.Meaning.{highest, Normal}
 use Rattle.ticks.specs.Operations.{coversFor}
 use Rattle.replication.specs.OpenStore.{storeKnowledge}
 use Rattle.replication.specs.Operate.{applied}
 use Rattle.replication.specs.MethodTable.{tableAt}
 use Rattle.replication.specs.MethodOpening.{storeAt, batchAt}
 use Rattle.replication.specs.MethodReplies.{storeReply}
+use Rattle.lookup.specs.declared.View.{View}
 use Rattle.lookup.specs.Method.{Opens}
+use Rattle.results.specs.MethodOpened.{Reads}
 use Rattle.store_open.specs.declared.KnowledgePart.{KnowledgePart}
 use Rattle.store_open.specs.declared.OpenedStore.the-variants as S
 use Rattle.store_open.specs.declared.OpenedBatch.the-variants as B
@@ -34,6 +37,12 @@ pub record BothValid (L : Limits) (s : List ℕ) (own : KnowledgePart) (t : List
   pub carried : ℕ
   pub batch : batchOpened L t ≡ B.Valid needed learned carried
 
+-- the bytes k of a store's knowledge, which is in normal form, and those of a learned one, both opened under the limits
+pub record OwnAndLearned (most : R.Limits) (k : List ℕ) (v : View) (l : List ℕ) (w : View) : Type 0 where
+  pub mine : Reads most k v
+  pub normal : Normal (decode k)
+  pub theirs : Reads most l w
+
 -- what the result goes by: of the store s its own id p, its knowledge in the bytes k and its records behind that; of the batch t its
 -- learned knowledge in the bytes l, which stand at a place of t, and its records behind that
 pub record Merges (L : Limits) (s k : List ℕ) (own : KnowledgePart) (p : ℕ) (t l : List ℕ) (learned : KnowledgePart) (at : ℕ)
@@ -43,6 +52,7 @@ pub record Merges (L : Limits) (s k : List ℕ) (own : KnowledgePart) (p : ℕ) 
   pub id : p ≡ storeAt L s .own
   pub mine : Opens (anyId L) k (own .view .r) (own .view .start)
   pub mineIs : storeAt L s .knowledge ≡ decode k
+  pub normal : Normal (decode k)
   pub theirs : Opens (anyId L) l (learned .view .r) (learned .view .start)
   pub theirsIs : batchAt L t .learned ≡ decode l
   pub room : storeKnowledge + own .length ≤ length s

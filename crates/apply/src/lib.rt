@@ -7,6 +7,7 @@ use codec::Replica;
 use codec::Span;
 use cover::Place;
 use layout::Limits;
+use lookup::View;
 use store_open::KnowledgePart;
 use store_open::OpenedBatch;
 use store_open::OpenedStore;
@@ -18,13 +19,14 @@ ghost use Rattle.codec.specs.Reply.{answer, after};
 ghost use Rattle.codec.specs.Words.{words2};
 ghost use Rattle.layout.specs.Knowledge.{base};
 ghost use Rattle.layout.specs.Decode.{decode};
-ghost use Rattle.ticks.specs.Operations.{covers, ownAlike};
+ghost use Rattle.ticks.specs.Meaning.{highest};
+ghost use Rattle.ticks.specs.Operations.{covers, ownAlike, merge};
 ghost use Rattle.replication.specs.OpenBatch.{firstId, lastId, batchNeeded};
 ghost use Rattle.replication.specs.Calls.{applyReply};
 ghost use Rattle.lookup.specs.Method.{Open};
-ghost use Rattle.results.specs.MethodOpened.{limitsOf};
+ghost use Rattle.results.specs.MethodOpened.{limitsOf, resultOf};
 ghost use Rattle.codec.specs.MethodEnded.{Ended};
-ghost use Rattle.apply.specs.Method.{ownCovered, appliedReply, BothValid, Merges};
+ghost use Rattle.apply.specs.Method.{ownCovered, appliedReply, BothValid, OwnAndLearned, Merges};
 
 // the places of a store's own id, and of a batch's first and last id
 const OWN: usize = 1;
@@ -32,6 +34,9 @@ const OWN: usize = 1;
 const FIRST: usize = 1;
 
 const LAST: usize = 25;
+
+// a word that is full: the top item id is three of them
+const TOP: u64 = 18446744073709551615;
 
 // the most records of a result
 const RECORDS: usize = layout::LARGEST_RECORDS as usize;
@@ -102,6 +107,38 @@ fn covers_own(
 
 // ---- the result
 
+// Does a knowledge k know everything that a knowledge l knows.
+fn covers_all(k: &[u8], v: View, l: &[u8], w: View) -> bool
+    requires { ⌜ (Open (now k) (v .r) (v .start)) × (Open (now l) (w .r) (w .start)) ⌝ }
+    ensures { λ b. ⌜ b ≡ covers (decode (now (k .entry))) (decode (now (l .entry))) 0 highest ⌝ }
+{
+    let first = Item {
+        high: 0,
+        middle: 0,
+        low: 0,
+    };
+    let last = Item {
+        high: TOP,
+        middle: TOP,
+        low: TOP,
+    };
+    match cover::lacking(k, v, l, w, Span { first, last }) {
+        Place::Nowhere => true,
+        Place::Here(_) => false,
+    }
+}
+
+// The knowledge of a store merged with a learned one: the store's own bytes where they cover that.
+fn write_merged(k: &[u8], v: View, l: &[u8], w: View, limits: Limits, out: &mut [u8]) -> Answer
+    requires { ⌜ OwnAndLearned limits (now k) v (now l) w ⌝ }
+    ensures { λ a. ⌜ Ended (resultOf limits (merge (decode (now (k .entry))) (decode (now (l .entry))))) (now (out .entry)) (now (out .exit)) a ⌝ }
+{
+    if covers_all(k, v, l, w) {
+        return results_copied::copy_whole(k, out);
+    }
+    results::merge_opened(k, v, l, w, limits, out)
+}
+
 // Of a store with an own id and the knowledge k, and a batch with the learned knowledge l at a place of it: the records' extent, the merged
 // knowledge into its room, and then header and records around it. The records of each stand behind its knowledge.
 fn write_applied(
@@ -126,7 +163,7 @@ fn write_applied(
     let room = store_write::room_in_store(out.len(), limits.records, e);
     let from = room.from;
     let to = room.to;
-    let a = results::merge_opened(k, own.view, l, learned.view, limits, &mut out[from..to]);
+    let a = write_merged(k, own.view, l, learned.view, limits, &mut out[from..to]);
     store_write::close_store(out, id, a, limits.records, store, batch, &picks, e)
 }
 

@@ -137,6 +137,11 @@ merge-self k =
 pub merge-idempotent : (k : Knowledge) → Normal k → merge k k ≡ k
 merge-idempotent k n = merge-self k ∙ normalise-normal k n
 
+-- what a normal form knows already changes nothing
+pub merge-covered : (a b : Knowledge) → Normal a → ((i p : ℕ) → i ≤ highest → known b i p ≤ known a i p) → merge a b ≡ a
+merge-covered a b n f =
+    normal-unique (merge a b) a (normal-merge a b) n (λ i p h. omega (arith, known-merge a b i p h, f i p h))
+
 pub merge-empty : (k : Knowledge) → merge k emptyKnowledge ≡ normalise k
 merge-empty k =
     normal-unique (merge k emptyKnowledge) (normalise k) (normal-merge k emptyKnowledge) (normal-normalise k)

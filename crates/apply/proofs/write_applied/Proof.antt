@@ -5,12 +5,14 @@ use Rattle.replication.specs.Operate.{applied}
 use Rattle.replication.specs.MethodOpening.{storeAt, batchAt}
 use Rattle.codec.proofs.Writing.{zeros-length}
 use Rattle.results.specs.MethodOpened.{limitsOf}
-use Rattle.results.proofs.Opened.{merge-opened}
 use Rattle.store_write.proofs.Closing.{store-room, close-store}
-use Rattle.apply.proofs.Applying.{apply-inside, mine-reads, theirs-reads}
+use Rattle.apply.proofs.Applying.{apply-inside, own-and-learned}
 use borrow.Author.Needs.{needs}
 use Rattle.apply.proofs.write_applied.Statement.{statement}
 use Rattle.apply.proofs.write_applied.Tie as tie
+
+write-merged-requires : tie.Need-write-merged-requires
+write-merged-requires c κs = ?
 
 returns : tie.Need-returns
 returns c =
@@ -26,8 +28,7 @@ returns c =
     (b10 .before .join .ensures .0 .0) (b10 .before .join .ensures .0 .1) (b10 .before .join .ensures .1)
     (omega (arith, zeros-length largestRecords)) _ _ _
     (store-room _ (b5 .before .before .before .before .room-in-store .ensures .0)) _ _
-    (merge-opened (a .limits) _ _ _ _ _ _ _ (b5 .before .before .merge-opened .ensures)
-    (mine-reads (a .limits) _ _ _ _ _ _ _ _ m) (theirs-reads (a .limits) _ _ _ _ _ _ _ _ m)))
+    (b5 .before .before .write-merged .ensures))
     (c .before .before .close-store .ensures)
 
 pub write-applied-spec : {M : Type 1} → statement M
@@ -39,10 +40,10 @@ write-applied-spec =
     (λ c. search needs)  -- slice-aggregate-join
     (λ c κs. search needs)  -- join-requires
     (λ c κs. search needs)  -- room-in-store-requires
-    (λ c. search needs)  -- sub-merge-opened
-    (λ c. search needs)  -- part-merge-opened-start
-    (λ c. search needs)  -- part-merge-opened-end
-    (λ c κs. search needs)  -- merge-opened-requires
+    (λ c. search needs)  -- sub-write-merged
+    (λ c. search needs)  -- part-write-merged-start
+    (λ c. search needs)  -- part-write-merged-end
+    write-merged-requires
     (λ c. search needs)  -- slice-aggregate-close-store
     (λ c κs. search needs)  -- close-store-requires
     (λ c. search needs)  -- same-length

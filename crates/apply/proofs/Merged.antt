@@ -1,0 +1,63 @@
+-- The merged knowledge of an applied store. Where the store's knowledge covers learned, merging changes nothing that it knows; it is in
+-- normal form, and normal forms that know the same are the same, so its bytes are given as they stand (`merged-copied`).
+use Prim.Native.Nat.{ℕ, _≤_}
+use mathlib.Core.Path.{_≡_, refl, sym, ap, ap₂, subst, _∙_}
+use mathlib.Core.Bool.{Bool, true, false}
+use mathlib.Core.List.{List}
+use native.Mathlib.Omega.{arith}
+use Rattle.codec.specs.Reply.{Reply, gives}
+use Rattle.codec.specs.Words.{words3}
+use Rattle.codec.specs.MethodEnded.{Ended}
+use Rattle.codec.specs.declared.Answer.{Answer}
+use Rattle.layout.specs.declared.Limits.{Limits}
+use Rattle.layout.specs.Decode.{decode}
+use Rattle.ticks.specs.Meaning.{highest}
+use Rattle.ticks.specs.Operations.{covers, merge}
+use Rattle.ticks.proofs.Algebra.{merge-covered}
+use Rattle.ticks.proofs.LawfulResults.{highest-words}
+use Rattle.ticks.proofs.Search.{covers-exact}
+use Rattle.lookup.specs.declared.Cursor.{Cursor}
+use Rattle.lookup.specs.declared.View.{View}
+use Rattle.lookup.specs.Method.{Open}
+use Rattle.cover.specs.declared.Lack as D
+use Rattle.cover.specs.declared.Place.{Place}
+use Rattle.cover.specs.declared.Place.the-variants as O
+use Rattle.cover.specs.Method.{lackingBy, lackOf}
+use Rattle.cover.proofs.FirstLacking.{place-covers}
+use Rattle.results.specs.MethodOpened.{resultOf}
+use Rattle.results.proofs.Copied.{opened-given}
+use Rattle.apply.specs.Method.{OwnAndLearned}
+
+-- a full word, three of which are the top item id
+abbrev pub top : ℕ
+top = 18446744073709551615
+
+-- ---- everything that another knows
+
+first-item : words3 0 0 0 ≡ 0
+unfolding words3
+first-item = refl
+
+module _ (k : List ℕ) (r : ℕ) (c : Cursor) (l : List ℕ) (m : ℕ) (d : Cursor) (a : Open k r c) (b : Open l m d) (p : Place)
+    (e : lackOf p ≡ lackingBy k r c l m d (words3 0 0 0) (words3 top top top)) where
+  place : lackOf p ≡ lackingBy k r c l m d 0 highest
+  place = e ∙ ap₂ (lackingBy k r c l m d) first-item highest-words
+
+  pub all-covered : p ≡ O.Nowhere → true ≡ covers (decode k) (decode l) 0 highest
+  all-covered f = sym (place-covers k r c l m d 0 highest a b (omega arith) p place .0 f)
+
+  pub some-lacking : (x : D.Lack) → p ≡ O.Here x → false ≡ covers (decode k) (decode l) 0 highest
+  some-lacking x f = sym (place-covers k r c l m d 0 highest a b (omega arith) p place .1 x f)
+
+-- ---- the copy
+
+module _ (most : Limits) (k : List ℕ) (v : View) (l : List ℕ) (w : View) (h : OwnAndLearned most k v l w) where
+  covered-given : covers (decode k) (decode l) 0 highest ≡ true → resultOf most (merge (decode k) (decode l)) ≡ gives k
+  covered-given t =
+      let less = covers-exact (decode k) (decode l) 0 highest .0 t in
+      ap (resultOf most) (merge-covered (decode k) (decode l) (h .normal) (λ i p e. less .known i p (omega arith) e))
+      ∙ opened-given most k v (h .mine)
+
+  pub merged-copied : (b : Bool) → b ≡ covers (decode k) (decode l) 0 highest → b ≡ true → (out u : List ℕ) (a : Answer)
+      → Ended (gives k) out u a → Ended (resultOf most (merge (decode k) (decode l))) out u a
+  merged-copied b is t out u a e = subst (λ (reply : Reply). Ended reply out u a) (sym (covered-given (sym is ∙ t))) e
