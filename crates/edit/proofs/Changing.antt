@@ -19,19 +19,21 @@ use Rattle.codec.specs.declared.Answer.{Answer}
 use Rattle.codec.specs.declared.Answer.the-variants.{Refused}
 use Rattle.codec.proofs.Numbers.{power-positive, be-below}
 use Rattle.codec.proofs.Total.{read-id2, read-id3}
-use Rattle.layout.specs.Knowledge.{Limits, anyId, largestTick, base}
+use Rattle.layout.specs.Knowledge.{Limits, Knowledge, anyId, largestTick, base}
 use Rattle.layout.specs.Permitted.{within, largestRecords}
 use Rattle.layout.specs.Decode.{decode}
 use Rattle.layout.proofs.Within.{within-permitted}
-use Rattle.ticks.specs.Meaning.{known}
+use Rattle.ticks.specs.Meaning.{known, Normal}
 use Rattle.ticks.specs.Operations.{raise, largest}
 use Rattle.ticks.specs.Calls.{idOf}
 use Rattle.ticks.proofs.Largest.{largest-bounds}
+use Rattle.ticks.proofs.Lists.{less, same, more, order}
 use Rattle.ticks.proofs.ForCalls.{id-is}
-use Rattle.lookup.specs.Method.{Opens}
+use Rattle.lookup.specs.Method.{tickFrom, Opens}
+use Rattle.lookup.proofs.Leaf.{leaf-known}
 use Rattle.lookup_ranges.specs.Method.{topOf}
 use Rattle.lookup_ranges.proofs.Ranges.{largest-from}
-use Rattle.codec.specs.MethodEnded.{Ended}
+use Rattle.codec.specs.MethodEnded.{Ended, endOf}
 use Rattle.codec.proofs.Ended.{ended-refused}
 use Rattle.replication.specs.Record.{Content, Rec}
 use Rattle.replication.specs.Reading.{recAt, createReplicaPlace, createTickPlace}
@@ -76,7 +78,9 @@ use Rattle.store_open.specs.Method.{storeOpened}
 use Rattle.store_open.proofs.Opened.{StoreOpen, store-open, store-closed, store-place, store-room, store-slice}
 use Rattle.lookup.specs.declared.View.{View}
 use Rattle.layout.specs.declared.Limits as R
-use Rattle.results.specs.MethodOpened.{limitsOf, Reads}
+use Rattle.results.specs.MethodOpened.{limitsOf, Reads, resultOf}
+use Rattle.results_copied.specs.MethodRaised.{OneTick, copiedEnd}
+use Rattle.results_copied.proofs.Raised.{copy-raised}
 use Rattle.store_write.specs.MethodClosing.{knowledgeReply, RoomFor, withPart, Inside}
 use Rattle.store_write.proofs.Closing.{joined-inside}
 use Rattle.edit.specs.declared.Change.{Change}
@@ -166,6 +170,33 @@ module _ (limits : R.Limits) (s k : List ℕ) (who tick : ℕ) (one : List ℕ) 
       d picks count size counts sizes picked most first from to room part r
       (subst (λ x. Ended (knowledgeReply (limitsOf limits) x) (take (to - from) (drop from first)) part r) (b .knowledge) e)
 
+-- ---- the own tick raised
+
+zero-item : words3 0 0 0 ≡ 0
+unfolding words3
+zero-item = refl
+
+-- where the own replica has a tick at the first item, the copy is the raised knowledge
+module _ (limits : R.Limits) (k : List ℕ) (v : View) (change : VersionWords) (h : Raises limits k v change) where
+  pub raised-copy : (x : ℕ) → x ≡ tickFrom k (v .r) (v .start) (words3 0 0 0) (versionReplica change) → (x ≡ 0 → ⊥)
+      → (out u : List ℕ) (r : Answer) → endOf u r ≡ copiedEnd k v (change .replica) (change .tick) out
+      → Ended (resultOf limits (raise (versionReplica change) (change .tick) (decode k))) out u r
+  raised-copy x e has out u r ends =
+      let z : x ≡ known (decode k) 0 (versionReplica change) =
+      e ∙ leaf-known (h .reads .rules) k (v .r) (v .start) (h .reads .opens) (words3 0 0 0) (versionReplica change)
+      ∙ ap (λ (i : ℕ). known (decode k) i (versionReplica change)) zero-item in
+      let one : OneTick (decode k) (versionReplica change) x =
+      record {
+        alike = λ i l. h .alike i l ∙ sym z;
+        some = elim (order x 0) [
+          | less l ↦ absurd (omega arith)
+          | same l ↦ absurd (has l)
+          | more l ↦ l
+        ];
+      } in
+      subst (λ (L : Limits). Ended (knowledgeReply L (raise (versionReplica change) (change .tick) (decode k))) out u r) (h .reads .limits)
+      (copy-raised (h .reads .rules) k v (h .reads .opens) (change .replica) x (change .tick) (h .normal) one (h .some) out u r ends)
+
 -- ---- the changed store
 
 module _ (a b n : ℕ) (s : List ℕ) (bytes : Bytes s) (k : List ℕ) (own : KnowledgePart) (found : Found) (what : Change)
@@ -194,13 +225,25 @@ module _ (a b n : ℕ) (s : List ℕ) (bytes : Bytes s) (k : List ℕ) (own : Kn
   decodes : decode k ≡ st .knowledge
   decodes = ap decode (h .part) ∙ sym (opened .knowledge)
 
-  -- what raising asks for
-  pub change-raises : (change : VersionWords) (p0 p1 tick : ℕ) → change ≡ record { replica = record { high = p0; low = p1 }; tick = tick }
-      → p0 < 2 ^ 64 → p1 < 2 ^ 64
+  own-is : (p0 p1 : ℕ) → p0 ≡ readAt s 8 1 → p1 ≡ readAt s 8 (1 + 8) → words2 p0 p1 ≡ st .own
+  own-is p0 p1 e0 e1 = rw (e0, e1) (read-id2 s 1 (omega (arith, opened .tests .header))) ∙ sym (store-own L s)
+
+  -- what raising asks for: the knowledge of a store is in normal form, and the own tick is the same for all items
+  pub change-raises : (change : VersionWords) (p0 p1 tick : ℕ) → change ≡ record { replica = record { high = p0; low = p1 }; tick = tick + 1 }
+      → p0 ≡ readAt s 8 1 → p1 ≡ readAt s 8 (1 + 8) → p0 < 2 ^ 64 → p1 < 2 ^ 64
       → Raises (record { replicas = a; ranges = b; records = n }) k (own .view) change
-  change-raises change p0 p1 tick e high low =
+  change-raises change p0 p1 tick e e0 e1 high low =
+      let is : (i : ℕ) → known (decode k) i (words2 p0 p1) ≡ known (st .knowledge) i (st .own) =
+      λ i. ap₂ (λ (q : Knowledge) (p : ℕ). known q i p) decodes (own-is p0 p1 e0 e1) in
       subst (λ (x : VersionWords). Raises (record { replicas = a; ranges = b; records = n }) k (own .view) x) (sym e)
-      (record { reads = record { rules = anyId L; limits = refl; opens = change-opens }; high = high; low = low })
+      (record {
+        reads = record { rules = anyId L; limits = refl; opens = change-opens };
+        normal = subst Normal (sym decodes) (lawful .normal);
+        alike = λ i l. is i ∙ lawful .alike i 0 l (omega arith) ∙ sym (is 0);
+        high = high;
+        low = low;
+        some = omega arith;
+      })
 
   part-size : length k ≡ own .length
   part-size =
@@ -224,9 +267,6 @@ module _ (a b n : ℕ) (s : List ℕ) (bytes : Bytes s) (k : List ℕ) (own : Kn
       abbrev new : Rec
       new = changedRec content item (st .own) (nextTick st) (find item (st .records))
 
-      own-is : words2 p0 p1 ≡ st .own
-      own-is = rw (e0, e1) (read-id2 s 1 (omega (arith, opened .tests .header))) ∙ sym (store-own L s)
-
       tick-is : t + 1 ≡ nextTick st
       unfolding nextTick
       tick-is = omega (arith, largest-is)
@@ -234,7 +274,7 @@ module _ (a b n : ℕ) (s : List ℕ) (bytes : Bytes s) (k : List ℕ) (own : Kn
       record-is : recordOf w ≡ new
       record-is =
           f
-          ∙ ap₂ (λ (p x : ℕ). changedRec content item p x (foundRead s found)) own-is tick-is
+          ∙ ap₂ (λ (p x : ℕ). changedRec content item p x (foundRead s found)) (own-is p0 p1 e0 e1) tick-is
           ∙ ap (changedRec content item (st .own) (nextTick st)) found-here
 
       new-is : NewRec content item (st .own) (nextTick st) (find item (st .records)) new

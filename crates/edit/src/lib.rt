@@ -21,6 +21,8 @@ ghost use Rattle.codec.specs.Number.{beAt};
 ghost use Rattle.codec.specs.Reply.{answer, after};
 ghost use Rattle.codec.specs.Words.{words2, words3};
 ghost use Rattle.layout.specs.Knowledge.{base};
+ghost use Rattle.layout.specs.Decode.{decode};
+ghost use Rattle.ticks.specs.Operations.{raise};
 ghost use Rattle.replication.specs.Formats.{putRec, Store};
 ghost use Rattle.replication.specs.Operate.{changedRec};
 ghost use Rattle.replication.specs.MethodOpening.{storeAt};
@@ -28,7 +30,7 @@ ghost use Rattle.replication.specs.Call.{brings};
 ghost use Rattle.replication.specs.MethodReplies.{changeReply, storeReply};
 ghost use Rattle.replication.specs.Calls.{gone, editReply, deleteReply};
 ghost use Rattle.records_join.specs.MethodWritten.{recordOf};
-ghost use Rattle.results.specs.MethodOpened.{limitsOf};
+ghost use Rattle.results.specs.MethodOpened.{limitsOf, resultOf};
 ghost use Rattle.codec.specs.MethodEnded.{Ended};
 ghost use Rattle.replication.specs.Calls.{newReply};
 ghost use Rattle.edit.specs.MethodEditing.{itemOf, contentOf, versionReplica, foundRead, Becomes, Raises, Asked};
@@ -119,6 +121,26 @@ fn changed_record(s: &[u8], found: Found, what: Change, change: VersionWords) ->
 
 // ---- the changed store
 
+// Writes the knowledge k of a store with the own tick raised. Where the own replica has a tick, it is the same for all items: the knowledge is
+// copied, with the new tick in place of the old one. Else it is written from a table.
+fn raise_own(k: &[u8], v: View, change: VersionWords, limits: Limits, out: &mut [u8]) -> Answer
+    requires { ⌜ Raises limits (now k) v change ⌝ }
+    ensures { λ a. ⌜ Ended (resultOf limits (raise (versionReplica change) (change .tick) (decode (now (k .entry)))))
+        (now (out .entry)) (now (out .exit)) a ⌝ }
+{
+    let own = change.replica;
+    let first = Item {
+        high: 0,
+        middle: 0,
+        low: 0,
+    };
+    let before = lookup::known_tick(k, v, first, own);
+    if before == 0 {
+        return results::raise_opened(k, v, own, change.tick, limits, out);
+    }
+    results_copied::copy_raised(k, v, own, change.tick, out)
+}
+
 // Of a store with the knowledge k: the extent of its records joined with those of `one`, the knowledge with the own tick raised into its room,
 // and then header and records around it.
 fn write_changed(
@@ -140,8 +162,8 @@ fn write_changed(
     let room = store_write::room_in_store(out.len(), limits.records, e);
     let from = room.from;
     let to = room.to;
+    let a = raise_own(k, v, change, limits, &mut out[from..to]);
     let own = change.replica;
-    let a = results::raise_opened(k, v, own, change.tick, limits, &mut out[from..to]);
     store_write::close_store(out, own, a, limits.records, store, one, &picks, e)
 }
 
