@@ -20,17 +20,19 @@ use Rattle.codec.specs.declared.Answer.the-variants.{Refused}
 use Rattle.codec.proofs.Numbers.{power-positive, be-below}
 use Rattle.codec.proofs.Total.{read-id2, read-id3}
 use Rattle.layout.specs.Knowledge.{Limits, Knowledge, anyId, largestTick, base}
-use Rattle.layout.specs.Permitted.{within, largestRecords}
+use Rattle.layout.specs.Permitted.{within, largestReplicas, largestRecords}
 use Rattle.layout.specs.Decode.{decode}
+use Rattle.layout.proofs.Places.{counts}
 use Rattle.layout.proofs.Within.{within-permitted}
-use Rattle.ticks.specs.Meaning.{known, Normal}
+use Rattle.ticks.specs.Meaning.{highest, known, Normal}
 use Rattle.ticks.specs.Operations.{raise, largest}
 use Rattle.ticks.specs.Calls.{idOf}
 use Rattle.ticks.proofs.Largest.{largest-bounds}
+use Rattle.ticks.proofs.Replies.{result-says}
 use Rattle.ticks.proofs.Lists.{less, same, more, order}
 use Rattle.ticks.proofs.ForCalls.{id-is}
 use Rattle.lookup.specs.Method.{tickFrom, Opens}
-use Rattle.lookup.proofs.Leaf.{leaf-known}
+use Rattle.lookup.proofs.Leaf.{opens-reading, leaf-known}
 use Rattle.lookup_ranges.specs.Method.{topOf}
 use Rattle.lookup_ranges.proofs.Ranges.{largest-from}
 use Rattle.codec.specs.MethodEnded.{Ended, endOf}
@@ -58,7 +60,7 @@ use Rattle.replication.proofs.Contents.Valid.{rec-fits, store-exact}
 use Rattle.replication.proofs.Contents.Edit.{NewRec, changed-is}
 use Rattle.replication.proofs.Opening.Store.{store-own, store-walked}
 use Rattle.replication.proofs.Refusals.Edit.{edit-store, edit-17, delete-store, delete-17}
-use Rattle.replication.proofs.Opening.Calls.{change-last, change-on, edit-left, delete-gone, delete-left}
+use Rattle.replication.proofs.Opening.Calls.{store-result, change-last, change-on, edit-left, delete-gone, delete-left}
 use Rattle.records.specs.declared.Found.{Found}
 use Rattle.records.specs.declared.Found.the-variants as F
 use Rattle.codec.specs.declared.Item.{Item}
@@ -83,6 +85,7 @@ use Rattle.results_copied.specs.MethodRaised.{OneTick, copiedEnd}
 use Rattle.results_copied.proofs.Raised.{copy-raised}
 use Rattle.store_write.specs.MethodClosing.{knowledgeReply, RoomFor, withPart, Inside}
 use Rattle.store_write.proofs.Closing.{joined-inside}
+use Rattle.edit.proofs.OneMore.{raise-more, over-11}
 use Rattle.edit.specs.declared.Change.{Change}
 use Rattle.edit.specs.MethodEditing.{itemOf, contentOf, versionReplica, foundRead, Becomes, Raises, Asked}
 
@@ -172,30 +175,47 @@ module _ (limits : R.Limits) (s k : List ℕ) (who tick : ℕ) (one : List ℕ) 
 
 -- ---- the own tick raised
 
-zero-item : words3 0 0 0 ≡ 0
+pub zero-item : words3 0 0 0 ≡ 0
 unfolding words3
 zero-item = refl
 
--- where the own replica has a tick at the first item, the copy is the raised knowledge
-module _ (limits : R.Limits) (k : List ℕ) (v : View) (change : VersionWords) (h : Raises limits k v change) where
-  pub raised-copy : (x : ℕ) → x ≡ tickFrom k (v .r) (v .start) (words3 0 0 0) (versionReplica change) → (x ≡ 0 → ⊥)
-      → (out u : List ℕ) (r : Answer) → endOf u r ≡ copiedEnd k v (change .replica) (change .tick) out
-      → Ended (resultOf limits (raise (versionReplica change) (change .tick) (decode k))) out u r
-  raised-copy x e has out u r ends =
-      let z : x ≡ known (decode k) 0 (versionReplica change) =
-      e ∙ leaf-known (h .reads .rules) k (v .r) (v .start) (h .reads .opens) (words3 0 0 0) (versionReplica change)
-      ∙ ap (λ (i : ℕ). known (decode k) i (versionReplica change)) zero-item in
-      let one : OneTick (decode k) (versionReplica change) x =
-      record {
-        alike = λ i l. h .alike i l ∙ sym z;
-        some = elim (order x 0) [
-          | less l ↦ absurd (omega arith)
-          | same l ↦ absurd (has l)
-          | more l ↦ l
-        ];
-      } in
-      subst (λ (L : Limits). Ended (knowledgeReply L (raise (versionReplica change) (change .tick) (decode k))) out u r) (h .reads .limits)
-      (copy-raised (h .reads .rules) k v (h .reads .opens) (change .replica) x (change .tick) (h .normal) one (h .some) out u r ends)
+module _ (limits : R.Limits) (k : List ℕ) (v : View) (change : VersionWords) (h : Raises limits k v change) (x : ℕ)
+    (e : x ≡ tickFrom k (v .r) (v .start) 0 (versionReplica change)) where
+  abbrev raised : Knowledge
+  raised = raise (versionReplica change) (change .tick) (decode k)
+
+  -- the own tick, for all items
+  own-tick : (i : ℕ) → i ≤ highest → known (decode k) i (versionReplica change) ≡ x
+  own-tick i l = h .alike i l ∙ sym (e ∙ leaf-known (h .reads .rules) k (v .r) (v .start) (h .reads .opens) 0 (versionReplica change))
+
+  -- where there is one, the copy is the raised knowledge
+  pub raised-copy : (x ≡ 0 → ⊥) → (out u : List ℕ) (r : Answer) → endOf u r ≡ copiedEnd k v (change .replica) (change .tick) out
+      → Ended (resultOf limits raised) out u r
+  raised-copy has out u r ends =
+      let positive : 1 ≤ x = elim (order x 0) [ less l ↦ absurd (omega arith) | same l ↦ absurd (has l) | more l ↦ l ] in
+      subst (λ (L : Limits). Ended (knowledgeReply L raised) out u r) (h .reads .limits)
+      (copy-raised (h .reads .rules) k v (h .reads .opens) (change .replica) x (change .tick) (h .normal)
+      (record { alike = own-tick; some = positive }) (h .some) out u r ends)
+
+  -- where there is none, there is one replica more
+  pub raised-more : x ≡ 0 → (m : ℕ) → m ≡ clamp (limits .replicas) largestReplicas → m ≤ v .r
+      → limitsOf limits .replicas < length (raised .replicas)
+  raised-more lacks m is full =
+      let o = h .reads .opens in
+      omega (
+        arith,
+        raise-more (versionReplica change) (change .tick) (decode k) (h .normal) (λ i l. own-tick i l ∙ lacks) (h .some),
+        counts (h .reads .rules) k (v .r) (o .v) (o .e) (o .g) (opens-reading (h .reads .rules) k (v .r) (v .start) o) .replicas,
+      )
+
+-- and then the changed store is refused with 11
+pub change-11 : (limits : R.Limits) (s k one : List ℕ) (who tick : ℕ) → limitsOf limits .replicas < length (raise who tick (decode k) .replicas)
+    → (st : Store) → Becomes s k who tick one st → (out : List ℕ) → Ended (storeReply (limitsOf limits) st) out out (Refused 11)
+change-11 limits s k one who tick l st b out =
+    let L = limitsOf limits in
+    ended-refused (storeReply L st) out 11
+    (store-result L st 11
+    (over-11 L (st .knowledge) _ (result-says L (st .knowledge)) (subst (λ (x : Knowledge). L .replicas < length (x .replicas)) (b .knowledge) l)))
 
 -- ---- the changed store
 

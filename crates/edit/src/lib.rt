@@ -16,8 +16,12 @@ use store_open::KnowledgePart;
 use store_open::OpenedStore;
 ghost use mathlib.Core.Path.{_≡_};
 ghost use mathlib.Core.List.{[]};
+ghost use mathlib.Core.Bool.{true};
+ghost use Prim.Native.Nat.{_<_};
 ghost use lib.ListN.{length};
 ghost use Rattle.codec.specs.Number.{beAt};
+ghost use Rattle.codec.specs.Ids.{replicaOf};
+ghost use Rattle.lookup.specs.Method.{tickFrom};
 ghost use Rattle.codec.specs.Reply.{answer, after};
 ghost use Rattle.codec.specs.Words.{words2, words3};
 ghost use Rattle.layout.specs.Knowledge.{base};
@@ -121,6 +125,30 @@ fn changed_record(s: &[u8], found: Found, what: Change, change: VersionWords) ->
 
 // ---- the changed store
 
+// The tick of the first item and a replica that a knowledge knows: where it is the same for all items, it is 0 where the replica has none.
+fn first_tick(k: &[u8], v: View, p: Replica) -> u64
+    ensures { λ t. ⌜ t ≡ tickFrom (now (k .entry)) (v .r) (v .start) 0 (replicaOf p) ⌝ }
+{
+    let first = Item {
+        high: 0,
+        middle: 0,
+        low: 0,
+    };
+    lookup::known_tick(k, v, first, p)
+}
+
+// Does the own replica come, with its first tick, to a knowledge that has as many replicas as it may have.
+fn one_too_many(k: &[u8], v: View, change: VersionWords, limits: Limits) -> bool
+    requires { ⌜ Raises limits (now k) v change ⌝ }
+    ensures { λ b. ⌜ (b ≡ true → limitsOf limits .replicas
+        < length (raise (versionReplica change) (change .tick) (decode (now (k .entry))) .replicas)) ⌝ }
+{
+    if v.r < codec::clamp(limits.replicas, layout::LARGEST_REPLICAS) {
+        return false;
+    }
+    first_tick(k, v, change.replica) == 0
+}
+
 // Writes the knowledge k of a store with the own tick raised. Where the own replica has a tick, it is the same for all items: the knowledge is
 // copied, with the new tick in place of the old one. Else it is written from a table.
 fn raise_own(k: &[u8], v: View, change: VersionWords, limits: Limits, out: &mut [u8]) -> Answer
@@ -129,20 +157,14 @@ fn raise_own(k: &[u8], v: View, change: VersionWords, limits: Limits, out: &mut 
         (now (out .entry)) (now (out .exit)) a ⌝ }
 {
     let own = change.replica;
-    let first = Item {
-        high: 0,
-        middle: 0,
-        low: 0,
-    };
-    let before = lookup::known_tick(k, v, first, own);
-    if before == 0 {
+    if first_tick(k, v, own) == 0 {
         return results::raise_opened(k, v, own, change.tick, limits, out);
     }
     results_copied::copy_raised(k, v, own, change.tick, out)
 }
 
-// Of a store with the knowledge k: the extent of its records joined with those of `one`, the knowledge with the own tick raised into its room,
-// and then header and records around it.
+// Of a store with the knowledge k: 11 where that is seen at once, the extent of its records joined with those of `one`, the knowledge with the own
+// tick raised into its room, and then header and records around it.
 fn write_changed(
     store: &[u8],
     k: &[u8],
@@ -156,6 +178,9 @@ fn write_changed(
     ensures { λ a. ⌜ ((st : Store) → Becomes (now (store .entry)) (now (k .entry)) (versionReplica change) (change .tick) (now (one .entry)) st
         → Ended (storeReply (limitsOf limits) st) (now (out .entry)) (now (out .exit)) a) ⌝ }
 {
+    if one_too_many(k, v, change, limits) {
+        return Answer::Refused(11);
+    }
     let at = store_headers::STORE + k.len();
     let mut picks = [0usize; PICKS];
     let e = records_join::join(store, at, one, 0, &mut picks);
