@@ -1,7 +1,8 @@
 -- An edit or a delete of a store that was opened. The new record's tick is one more than the largest tick known, and the change version of
 -- the item's record is contained, so the new record wins over it: joining the store's table with the table of the new record puts it in its
--- place. The knowledge with the own tick raised was prepared, and what is then written ends the call as its reply says. Before that, the
--- lines of the table in their order.
+-- place. The knowledge of a store is in normal form, and its own tick is the same for all items: where there is one, the knowledge with the
+-- own tick raised is a copy with that tick written over, else it is written from a table; and where it would have one replica too many, the
+-- reply is 11. What is then written ends the call as its reply says. Before that, the lines of the table in their order.
 use Prim.Native.Nat.{ℕ, _+_, _-_, _^_, _≤_, _<_}
 use mathlib.Core.Path.{_≡_, refl, sym, ap, ap₂, _∙_, subst}
 use mathlib.Core.Logic.{inl, inr}
@@ -24,14 +25,15 @@ use Rattle.layout.specs.Permitted.{within, largestReplicas, largestRecords}
 use Rattle.layout.specs.Decode.{decode}
 use Rattle.layout.proofs.Places.{counts}
 use Rattle.layout.proofs.Within.{within-permitted}
-use Rattle.ticks.specs.Meaning.{highest, known, Normal}
+use Rattle.ticks.specs.Meaning.{highest, known, place, Normal}
 use Rattle.ticks.specs.Operations.{raise, largest}
 use Rattle.ticks.specs.Calls.{idOf}
 use Rattle.ticks.proofs.Largest.{largest-bounds}
 use Rattle.ticks.proofs.Replies.{result-says}
+use Rattle.ticks.proofs.Written.{among-place}
 use Rattle.ticks.proofs.Lists.{less, same, more, order}
 use Rattle.ticks.proofs.ForCalls.{id-is}
-use Rattle.lookup.specs.Method.{tickFrom, Opens}
+use Rattle.lookup.specs.Method.{keyAt, tickFrom, Opens}
 use Rattle.lookup.proofs.Leaf.{opens-reading, leaf-known}
 use Rattle.lookup_ranges.specs.Method.{topOf}
 use Rattle.lookup_ranges.proofs.Ranges.{largest-from}
@@ -80,9 +82,10 @@ use Rattle.store_open.specs.Method.{storeOpened}
 use Rattle.store_open.proofs.Opened.{StoreOpen, store-open, store-closed, store-place, store-room, store-slice}
 use Rattle.lookup.specs.declared.View.{View}
 use Rattle.layout.specs.declared.Limits as R
+use Rattle.layout.specs.declared.ReplicaKey.{ReplicaKey}
 use Rattle.results.specs.MethodOpened.{limitsOf, Reads, resultOf}
 use Rattle.results_copied.specs.MethodRaised.{OneTick, copiedEnd}
-use Rattle.results_copied.proofs.Raised.{copy-raised}
+use Rattle.results_copied.proofs.Raised.{key-place, copy-raised}
 use Rattle.store_write.specs.MethodClosing.{knowledgeReply, RoomFor, withPart, Inside}
 use Rattle.store_write.proofs.Closing.{joined-inside}
 use Rattle.edit.proofs.OneMore.{raise-more, over-11}
@@ -175,37 +178,41 @@ module _ (limits : R.Limits) (s k : List ℕ) (who tick : ℕ) (one : List ℕ) 
 
 -- ---- the own tick raised
 
-pub zero-item : words3 0 0 0 ≡ 0
+zero-item : words3 0 0 0 ≡ 0
 unfolding words3
 zero-item = refl
 
-module _ (limits : R.Limits) (k : List ℕ) (v : View) (change : VersionWords) (h : Raises limits k v change) (x : ℕ)
-    (e : x ≡ tickFrom k (v .r) (v .start) 0 (versionReplica change)) where
+module _ (limits : R.Limits) (k : List ℕ) (v : View) (change : VersionWords) (h : Raises limits k v change) where
+  abbrev who : ℕ
+  who = versionReplica change
+
   abbrev raised : Knowledge
-  raised = raise (versionReplica change) (change .tick) (decode k)
+  raised = raise who (change .tick) (decode k)
 
-  -- the own tick, for all items
-  own-tick : (i : ℕ) → i ≤ highest → known (decode k) i (versionReplica change) ≡ x
-  own-tick i l = h .alike i l ∙ sym (e ∙ leaf-known (h .reads .rules) k (v .r) (v .start) (h .reads .opens) 0 (versionReplica change))
-
-  -- where there is one, the copy is the raised knowledge
-  pub raised-copy : (x ≡ 0 → ⊥) → (out u : List ℕ) (r : Answer) → endOf u r ≡ copiedEnd k v (change .replica) (change .tick) out
-      → Ended (resultOf limits raised) out u r
-  raised-copy has out u r ends =
+  -- where the own replica has a tick at the first item, the copy is the raised knowledge
+  pub raised-copy : (x : ℕ) → x ≡ tickFrom k (v .r) (v .start) (words3 0 0 0) who → (x ≡ 0 → ⊥) → (out u : List ℕ) (r : Answer)
+      → endOf u r ≡ copiedEnd k v (change .replica) (change .tick) out → Ended (resultOf limits raised) out u r
+  raised-copy x e has out u r ends =
+      let z : x ≡ known (decode k) 0 who =
+      e ∙ leaf-known (h .reads .rules) k (v .r) (v .start) (h .reads .opens) (words3 0 0 0) who
+      ∙ ap (λ (i : ℕ). known (decode k) i who) zero-item in
       let positive : 1 ≤ x = elim (order x 0) [ less l ↦ absurd (omega arith) | same l ↦ absurd (has l) | more l ↦ l ] in
       subst (λ (L : Limits). Ended (knowledgeReply L raised) out u r) (h .reads .limits)
       (copy-raised (h .reads .rules) k v (h .reads .opens) (change .replica) x (change .tick) (h .normal)
-      (record { alike = own-tick; some = positive }) (h .some) out u r ends)
+      (record { alike = λ i l. h .alike i l ∙ sym z; some = positive }) (h .some) out u r ends)
 
-  -- where there is none, there is one replica more
-  pub raised-more : x ≡ 0 → (m : ℕ) → m ≡ clamp (limits .replicas) largestReplicas → m ≤ v .r
-      → limitsOf limits .replicas < length (raised .replicas)
-  raised-more lacks m is full =
+  -- where it is not in the map, there is one replica more
+  pub raised-more : (m : ℕ) → m ≡ clamp (limits .replicas) largestReplicas → m ≤ v .r → (key : ReplicaKey) → key ≡ keyAt k (v .r) who
+      → key .0 ≡ v .r → limitsOf limits .replicas < length (raised .replicas)
+  raised-more m is full key found last =
       let o = h .reads .opens in
+      let size = counts (h .reads .rules) k (v .r) (o .v) (o .e) (o .g) (opens-reading (h .reads .rules) k (v .r) (v .start) o) .replicas in
+      let place : place who (decode k .replicas) ≡ length (decode k .replicas) =
+      sym (key-place (h .reads .rules) k v o who) ∙ ap (λ (x : ReplicaKey). x .0) (sym found) ∙ last ∙ sym size in
       omega (
         arith,
-        raise-more (versionReplica change) (change .tick) (decode k) (h .normal) (λ i l. own-tick i l ∙ lacks) (h .some),
-        counts (h .reads .rules) k (v .r) (o .v) (o .e) (o .g) (opens-reading (h .reads .rules) k (v .r) (v .start) o) .replicas,
+        raise-more who (change .tick) (decode k) (h .normal) (λ m. omega (arith, among-place who (decode k .replicas) m, place)) (h .some),
+        size,
       )
 
 -- and then the changed store is refused with 11

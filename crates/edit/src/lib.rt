@@ -2,6 +2,7 @@
 // tick above every tick known, and the own tick becomes that for every item.
 //
 // The changed store is the store's table joined with the table of the one new record, which wins over the item's record as its tick is larger.
+// Its knowledge is a copy with the new tick over the old one where the own replica has a tick already.
 // The calls are total; inside, the limits are numbers.
 use codec::Answer;
 use codec::Item;
@@ -20,8 +21,6 @@ ghost use mathlib.Core.Bool.{true};
 ghost use Prim.Native.Nat.{_<_};
 ghost use lib.ListN.{length};
 ghost use Rattle.codec.specs.Number.{beAt};
-ghost use Rattle.codec.specs.Ids.{replicaOf};
-ghost use Rattle.lookup.specs.Method.{tickFrom};
 ghost use Rattle.codec.specs.Reply.{answer, after};
 ghost use Rattle.codec.specs.Words.{words2, words3};
 ghost use Rattle.layout.specs.Knowledge.{base};
@@ -125,19 +124,7 @@ fn changed_record(s: &[u8], found: Found, what: Change, change: VersionWords) ->
 
 // ---- the changed store
 
-// The tick of the first item and a replica that a knowledge knows: where it is the same for all items, it is 0 where the replica has none.
-fn first_tick(k: &[u8], v: View, p: Replica) -> u64
-    ensures { λ t. ⌜ t ≡ tickFrom (now (k .entry)) (v .r) (v .start) 0 (replicaOf p) ⌝ }
-{
-    let first = Item {
-        high: 0,
-        middle: 0,
-        low: 0,
-    };
-    lookup::known_tick(k, v, first, p)
-}
-
-// Does the own replica come, with its first tick, to a knowledge that has as many replicas as it may have.
+// Does the own replica come to a knowledge that has as many replicas as it may have.
 fn one_too_many(k: &[u8], v: View, change: VersionWords, limits: Limits) -> bool
     requires { ⌜ Raises limits (now k) v change ⌝ }
     ensures { λ b. ⌜ (b ≡ true → limitsOf limits .replicas
@@ -146,7 +133,7 @@ fn one_too_many(k: &[u8], v: View, change: VersionWords, limits: Limits) -> bool
     if v.r < codec::clamp(limits.replicas, layout::LARGEST_REPLICAS) {
         return false;
     }
-    first_tick(k, v, change.replica) == 0
+    lookup::key_of(k, v.r, change.replica).0 == v.r
 }
 
 // Writes the knowledge k of a store with the own tick raised. Where the own replica has a tick, it is the same for all items: the knowledge is
@@ -157,7 +144,13 @@ fn raise_own(k: &[u8], v: View, change: VersionWords, limits: Limits, out: &mut 
         (now (out .entry)) (now (out .exit)) a ⌝ }
 {
     let own = change.replica;
-    if first_tick(k, v, own) == 0 {
+    let first = Item {
+        high: 0,
+        middle: 0,
+        low: 0,
+    };
+    let before = lookup::known_tick(k, v, first, own);
+    if before == 0 {
         return results::raise_opened(k, v, own, change.tick, limits, out);
     }
     results_copied::copy_raised(k, v, own, change.tick, out)

@@ -87,6 +87,11 @@ module _ (R : Rules) (s : List ℕ) (v : View) (o : Opens R s (v .r) (v .start))
       ∙ sym (vectors-length s (beAt s 4 (44 + 16 * beAt s 4 23)) (48 + 16 * beAt s 4 23))
       ∙ counts R s (v .r) (o .v) (o .e) (o .g) read .vectors
 
+  -- the key that is found is the replica's place in the map
+  pub key-place : (p : ℕ) → keyAt s (v .r) p .0 ≡ place p (k .replicas)
+  unfolding keyOf
+  key-place p = ap (λ x. x .0) (read-key R s (v .r) (o .v) (o .e) (o .g) read p)
+
   module _ (p : Replica) (old t : ℕ) (normal : Normal k) (one : OneTick k (replicaOf p) old) (pos : 1 ≤ t) where
     abbrev key : ℕ
     key = place (replicaOf p) (k .replicas)
@@ -96,10 +101,6 @@ module _ (R : Rules) (s : List ℕ) (v : View) (o : Opens R s (v .r) (v .start))
 
     set : knowledgeSet key t k ≡ raised
     set = sym (set-raise k (replicaOf p) old t normal one pos)
-
-    key-is : keyAt s (v .r) (replicaOf p) .0 ≡ key
-    unfolding keyOf
-    key-is = ap (λ x. x .0) (read-key R s (v .r) (o .v) (o .e) (o .g) read (replicaOf p))
 
     raised-length : length (encode raised) ≡ length s
     raised-length = ap (λ x. length (encode x)) (sym set) ∙ set-length key t k ∙ ap length (sym whole)
@@ -136,7 +137,7 @@ module _ (R : Rules) (s : List ℕ) (v : View) (o : Opens R s (v .r) (v .start))
           let start : vectorsPlace (length (k .replicas)) ≡ vectorsPlace (v .r) = ap vectorsPlace replicas in
           let vectors : k .vectors ≡ vectorsAt s (o .v) (vectorsPlace (length (k .replicas))) =
           ap (λ x. x .vectors) (at-places .value) ∙ ap (vectorsAt s (o .v)) (sym start) in
-          ap₂ (λ j n. vectorsWritten j t s (placed out 0 s) n (vectorsPlace (v .r))) key-is vector-count
+          ap₂ (λ j n. vectorsWritten j t s (placed out 0 s) n (vectorsPlace (v .r))) (key-place (replicaOf p)) vector-count
           ∙ ap₂ (λ u a. vectorsWritten key t s u (o .v) a) (placed-in out 0 s (omega arith) ∙ ap (λ x. x ++ z) whole) (sym start)
           ∙ written-bytes key t s k (o .v) vectors
           (subst (λ a. afterVectors s (o .v) a ≤ length s) (sym start) (omega (arith, at-places .afterVectors, at-places .whole)))

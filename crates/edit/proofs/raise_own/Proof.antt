@@ -16,14 +16,14 @@ returns-2 c =
     let b4 = c .before .before .before .before in
     let b9 = b4 .before .before .before .before .before in
     let a = b9 .args in
-    raised-copy (a .limits) (a .k .now) (a .v) (a .change) (b9 .pre) _ (b4 .before .first-tick .ensures) (b4 .if1 .left) (a .out .now) _ _
+    raised-copy (a .limits) (a .k .now) (a .v) (a .change) (b9 .pre) _ (b4 .before .known-tick .ensures) (b4 .if1 .left) (a .out .now) _ _
     (c .before .before .copy-raised .ensures)
 
 pub raise-own-spec : {M : Type 1} → statement M
 raise-own-spec =
     tie.close
     (tie.spec
-    (λ c κs. search needs)  -- first-tick-requires
+    (λ c κs. search needs)  -- known-tick-requires
     (λ c κs. search needs)  -- raise-opened-requires
     (λ c. search needs)  -- same-length
     returns
