@@ -25,7 +25,7 @@ use Rattle.layout.specs.Permitted.{within, largestReplicas, largestRecords}
 use Rattle.layout.specs.Decode.{decode}
 use Rattle.layout.proofs.Places.{counts}
 use Rattle.layout.proofs.Within.{within-permitted}
-use Rattle.ticks.specs.Meaning.{highest, known, place, Normal}
+use Rattle.ticks.specs.Meaning.{known, place, Normal}
 use Rattle.ticks.specs.Operations.{raise, largest}
 use Rattle.ticks.specs.Calls.{idOf}
 use Rattle.ticks.proofs.Largest.{largest-bounds}
@@ -83,8 +83,8 @@ use Rattle.store_open.proofs.Opened.{StoreOpen, store-open, store-closed, store
 use Rattle.lookup.specs.declared.View.{View}
 use Rattle.layout.specs.declared.Limits as R
 use Rattle.layout.specs.declared.ReplicaKey.{ReplicaKey}
-use Rattle.results.specs.MethodOpened.{limitsOf, Reads, resultOf}
-use Rattle.results_copied.specs.MethodRaised.{OneTick, copiedEnd}
+use Rattle.results.specs.MethodOpened.{limitsOf, resultOf}
+use Rattle.results_copied.specs.MethodRaised.{copiedEnd}
 use Rattle.results_copied.proofs.Raised.{key-place, copy-raised}
 use Rattle.store_write.specs.MethodClosing.{knowledgeReply, RoomFor, withPart, Inside}
 use Rattle.store_write.proofs.Closing.{joined-inside}

@@ -3,9 +3,8 @@
 -- differ. Hence a knowledge in normal form in which a replica has one tick, of 1 or more, for all items stays in normal form, and knows what
 -- `raise` knows: the two are equal (`set-raise`). It does not matter where the replica stands in the map.
 use Prim.Native.Nat.{ℕ, zero, suc, _≤_, _<_}
-use mathlib.Core.Path.{_≡_, refl, sym, ap, ap₂, _∙_, subst}
+use mathlib.Core.Path.{_≡_, refl, sym, ap, _∙_, subst}
 use mathlib.Core.Logic.{_⊎_, inl, inr}
-use mathlib.Core.Bool.{true, false}
 use mathlib.Core.Option.{Option, none, some}
 use mathlib.Core.List.{List, [], _∷_}
 use native.Mathlib.Omega.{arith}
@@ -13,13 +12,13 @@ use lib.Dec.{eqb}
 use lib.ListN.{length, getD}
 use borrow.Author.Tests.{eq-eqb, ne-eqb}
 use Rattle.layout.specs.declared.VectorIndex.{VectorIndex}
-use Rattle.layout.specs.Knowledge.{Element, Range, Knowledge, All, Rising, keys, bounds}
+use Rattle.layout.specs.Knowledge.{Element, Knowledge, All, Rising, keys, bounds}
 use Rattle.ticks.specs.Meaning.{highest, place, tickAt, indexFrom, vectorFound, vectorAt, vectorOf, known, indices, indexOf}
 use Rattle.ticks.specs.Meaning.{Sound, Formed, Normal}
 use Rattle.ticks.specs.Operations.{knownRaised, raise}
 use Rattle.ticks.proofs.Lists.{Among, all-among, among?}
 use Rattle.ticks.proofs.Equality.{eqb-exact, exact?, place-found}
-use Rattle.ticks.proofs.Vectors.{tick-nil, tick-same, tick-other, key-tick}
+use Rattle.ticks.proofs.Vectors.{tick-same, tick-other, key-tick}
 use Rattle.ticks.proofs.Numbering.{indices-length, found-none, found-some}
 use Rattle.ticks.proofs.Written.{among-place, among-get, known-in, known-out}
 use Rattle.ticks.proofs.Rebuilt.{used-index}

@@ -11,7 +11,6 @@ use Rattle.codec.specs.MethodEnded.{End, endOf}
 use Rattle.codec.specs.declared.Answer.the-variants.{Written, Refused}
 use Rattle.codec.specs.declared.Replica.{Replica}
 use Rattle.layout.specs.Knowledge.{Element, Knowledge}
-use Rattle.layout.specs.Decode.{elementsAt}
 use Rattle.layout.specs.MethodPlaces.{vectorsPlace}
 use Rattle.ticks.specs.Meaning.{highest, known}
 use Rattle.lookup.specs.Method.{keyAt, elementsThere, elementsHere}

@@ -7,7 +7,6 @@ use layout::ReplicaKey;
 use lookup::View;
 ghost use mathlib.Core.Path.{_≡_};
 ghost use Prim.Native.Nat.{_+_, _^_, _≤_};
-ghost use lib.ListN.{length};
 ghost use Rattle.codec.specs.Reply.{gives};
 ghost use Rattle.codec.specs.MethodEnded.{Ended, endOf};
 ghost use Rattle.layout.specs.Decode.{elementsAt};
