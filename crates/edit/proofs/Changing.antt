@@ -1,7 +1,8 @@
 -- An edit or a delete of a store that was opened. The new record's tick is one more than the largest tick known, and the change version of
 -- the item's record is contained, so the new record wins over it: joining the store's table with the table of the new record puts it in its
--- place. The knowledge with the own tick raised was prepared, and what is then written ends the call as its reply says. Before that, the
--- lines of the table in their order.
+-- place. The knowledge of a store is in normal form, and its own tick is the same for all items: where there is one, the knowledge with the
+-- own tick raised is a copy with that tick written over, else it is written from a table; and where it would have one replica too many, the
+-- reply is 11. What is then written ends the call as its reply says. Before that, the lines of the table in their order.
 use Prim.Native.Nat.{ℕ, _+_, _-_, _^_, _≤_, _<_}
 use mathlib.Core.Path.{_≡_, refl, sym, ap, ap₂, _∙_, subst}
 use mathlib.Core.Logic.{inl, inr}
@@ -19,19 +20,24 @@ use Rattle.codec.specs.declared.Answer.{Answer}
 use Rattle.codec.specs.declared.Answer.the-variants.{Refused}
 use Rattle.codec.proofs.Numbers.{power-positive, be-below}
 use Rattle.codec.proofs.Total.{read-id2, read-id3}
-use Rattle.layout.specs.Knowledge.{Limits, anyId, largestTick, base}
-use Rattle.layout.specs.Permitted.{within, largestRecords}
+use Rattle.layout.specs.Knowledge.{Limits, Knowledge, anyId, largestTick, base}
+use Rattle.layout.specs.Permitted.{within, largestReplicas, largestRecords}
 use Rattle.layout.specs.Decode.{decode}
+use Rattle.layout.proofs.Places.{counts}
 use Rattle.layout.proofs.Within.{within-permitted}
-use Rattle.ticks.specs.Meaning.{known}
+use Rattle.ticks.specs.Meaning.{known, place, Normal}
 use Rattle.ticks.specs.Operations.{raise, largest}
 use Rattle.ticks.specs.Calls.{idOf}
 use Rattle.ticks.proofs.Largest.{largest-bounds}
+use Rattle.ticks.proofs.Replies.{result-says}
+use Rattle.ticks.proofs.Written.{among-place}
+use Rattle.ticks.proofs.Lists.{less, same, more, order}
 use Rattle.ticks.proofs.ForCalls.{id-is}
-use Rattle.lookup.specs.Method.{Opens}
+use Rattle.lookup.specs.Method.{keyAt, tickFrom, Opens}
+use Rattle.lookup.proofs.Leaf.{opens-reading, leaf-known}
 use Rattle.lookup_ranges.specs.Method.{topOf}
 use Rattle.lookup_ranges.proofs.Ranges.{largest-from}
-use Rattle.codec.specs.MethodEnded.{Ended}
+use Rattle.codec.specs.MethodEnded.{Ended, endOf}
 use Rattle.codec.proofs.Ended.{ended-refused}
 use Rattle.replication.specs.Record.{Content, Rec}
 use Rattle.replication.specs.Reading.{recAt, createReplicaPlace, createTickPlace}
@@ -56,7 +62,7 @@ use Rattle.replication.proofs.Contents.Valid.{rec-fits, store-exact}
 use Rattle.replication.proofs.Contents.Edit.{NewRec, changed-is}
 use Rattle.replication.proofs.Opening.Store.{store-own, store-walked}
 use Rattle.replication.proofs.Refusals.Edit.{edit-store, edit-17, delete-store, delete-17}
-use Rattle.replication.proofs.Opening.Calls.{change-last, change-on, edit-left, delete-gone, delete-left}
+use Rattle.replication.proofs.Opening.Calls.{store-result, change-last, change-on, edit-left, delete-gone, delete-left}
 use Rattle.records.specs.declared.Found.{Found}
 use Rattle.records.specs.declared.Found.the-variants as F
 use Rattle.codec.specs.declared.Item.{Item}
@@ -76,9 +82,13 @@ use Rattle.store_open.specs.Method.{storeOpened}
 use Rattle.store_open.proofs.Opened.{StoreOpen, store-open, store-closed, store-place, store-room, store-slice}
 use Rattle.lookup.specs.declared.View.{View}
 use Rattle.layout.specs.declared.Limits as R
-use Rattle.results.specs.MethodOpened.{limitsOf, Reads}
+use Rattle.layout.specs.declared.ReplicaKey.{ReplicaKey}
+use Rattle.results.specs.MethodOpened.{limitsOf, resultOf}
+use Rattle.results_copied.specs.MethodRaised.{copiedEnd}
+use Rattle.results_copied.proofs.Raised.{key-place, copy-raised}
 use Rattle.store_write.specs.MethodClosing.{knowledgeReply, RoomFor, withPart, Inside}
 use Rattle.store_write.proofs.Closing.{joined-inside}
+use Rattle.edit.proofs.OneMore.{raise-more, over-11}
 use Rattle.edit.specs.declared.Change.{Change}
 use Rattle.edit.specs.MethodEditing.{itemOf, contentOf, versionReplica, foundRead, Becomes, Raises, Asked}
 
@@ -166,6 +176,54 @@ module _ (limits : R.Limits) (s k : List ℕ) (who tick : ℕ) (one : List ℕ) 
       d picks count size counts sizes picked most first from to room part r
       (subst (λ x. Ended (knowledgeReply (limitsOf limits) x) (take (to - from) (drop from first)) part r) (b .knowledge) e)
 
+-- ---- the own tick raised
+
+zero-item : words3 0 0 0 ≡ 0
+unfolding words3
+zero-item = refl
+
+module _ (limits : R.Limits) (k : List ℕ) (v : View) (change : VersionWords) (h : Raises limits k v change) where
+  abbrev who : ℕ
+  who = versionReplica change
+
+  abbrev raised : Knowledge
+  raised = raise who (change .tick) (decode k)
+
+  -- where the own replica has a tick at the first item, the copy is the raised knowledge
+  pub raised-copy : (x : ℕ) → x ≡ tickFrom k (v .r) (v .start) (words3 0 0 0) who → (x ≡ 0 → ⊥) → (out u : List ℕ) (r : Answer)
+      → endOf u r ≡ copiedEnd k v (change .replica) (change .tick) out → Ended (resultOf limits raised) out u r
+  raised-copy x e has out u r ends =
+      let z : x ≡ known (decode k) 0 who =
+      e ∙ leaf-known (h .reads .rules) k (v .r) (v .start) (h .reads .opens) (words3 0 0 0) who
+      ∙ ap (λ (i : ℕ). known (decode k) i who) zero-item in
+      let positive : 1 ≤ x = elim (order x 0) [ less l ↦ absurd (omega arith) | same l ↦ absurd (has l) | more l ↦ l ] in
+      subst (λ (L : Limits). Ended (knowledgeReply L raised) out u r) (h .reads .limits)
+      (copy-raised (h .reads .rules) k v (h .reads .opens) (change .replica) x (change .tick) (h .normal)
+      (record { alike = λ i l. h .alike i l ∙ sym z; some = positive }) (h .some) out u r ends)
+
+  -- where it is not in the map, there is one replica more
+  pub raised-more : (m : ℕ) → m ≡ clamp (limits .replicas) largestReplicas → m ≤ v .r → (key : ReplicaKey) → key ≡ keyAt k (v .r) who
+      → key .0 ≡ v .r → limitsOf limits .replicas < length (raised .replicas)
+  raised-more m is full key found last =
+      let o = h .reads .opens in
+      let size = counts (h .reads .rules) k (v .r) (o .v) (o .e) (o .g) (opens-reading (h .reads .rules) k (v .r) (v .start) o) .replicas in
+      let place : place who (decode k .replicas) ≡ length (decode k .replicas) =
+      sym (key-place (h .reads .rules) k v o who) ∙ ap (λ (x : ReplicaKey). x .0) (sym found) ∙ last ∙ sym size in
+      omega (
+        arith,
+        raise-more who (change .tick) (decode k) (h .normal) (λ m. omega (arith, among-place who (decode k .replicas) m, place)) (h .some),
+        size,
+      )
+
+-- and then the changed store is refused with 11
+pub change-11 : (limits : R.Limits) (s k one : List ℕ) (who tick : ℕ) → limitsOf limits .replicas < length (raise who tick (decode k) .replicas)
+    → (st : Store) → Becomes s k who tick one st → (out : List ℕ) → Ended (storeReply (limitsOf limits) st) out out (Refused 11)
+change-11 limits s k one who tick l st b out =
+    let L = limitsOf limits in
+    ended-refused (storeReply L st) out 11
+    (store-result L st 11
+    (over-11 L (st .knowledge) _ (result-says L (st .knowledge)) (subst (λ (x : Knowledge). L .replicas < length (x .replicas)) (b .knowledge) l)))
+
 -- ---- the changed store
 
 module _ (a b n : ℕ) (s : List ℕ) (bytes : Bytes s) (k : List ℕ) (own : KnowledgePart) (found : Found) (what : Change)
@@ -194,13 +252,25 @@ module _ (a b n : ℕ) (s : List ℕ) (bytes : Bytes s) (k : List ℕ) (own : Kn
   decodes : decode k ≡ st .knowledge
   decodes = ap decode (h .part) ∙ sym (opened .knowledge)
 
-  -- what raising asks for
-  pub change-raises : (change : VersionWords) (p0 p1 tick : ℕ) → change ≡ record { replica = record { high = p0; low = p1 }; tick = tick }
-      → p0 < 2 ^ 64 → p1 < 2 ^ 64
+  own-is : (p0 p1 : ℕ) → p0 ≡ readAt s 8 1 → p1 ≡ readAt s 8 (1 + 8) → words2 p0 p1 ≡ st .own
+  own-is p0 p1 e0 e1 = rw (e0, e1) (read-id2 s 1 (omega (arith, opened .tests .header))) ∙ sym (store-own L s)
+
+  -- what raising asks for: the knowledge of a store is in normal form, and the own tick is the same for all items
+  pub change-raises : (change : VersionWords) (p0 p1 tick : ℕ) → change ≡ record { replica = record { high = p0; low = p1 }; tick = tick + 1 }
+      → p0 ≡ readAt s 8 1 → p1 ≡ readAt s 8 (1 + 8) → p0 < 2 ^ 64 → p1 < 2 ^ 64
       → Raises (record { replicas = a; ranges = b; records = n }) k (own .view) change
-  change-raises change p0 p1 tick e high low =
+  change-raises change p0 p1 tick e e0 e1 high low =
+      let is : (i : ℕ) → known (decode k) i (words2 p0 p1) ≡ known (st .knowledge) i (st .own) =
+      λ i. ap₂ (λ (q : Knowledge) (p : ℕ). known q i p) decodes (own-is p0 p1 e0 e1) in
       subst (λ (x : VersionWords). Raises (record { replicas = a; ranges = b; records = n }) k (own .view) x) (sym e)
-      (record { reads = record { rules = anyId L; limits = refl; opens = change-opens }; high = high; low = low })
+      (record {
+        reads = record { rules = anyId L; limits = refl; opens = change-opens };
+        normal = subst Normal (sym decodes) (lawful .normal);
+        alike = λ i l. is i ∙ lawful .alike i 0 l (omega arith) ∙ sym (is 0);
+        high = high;
+        low = low;
+        some = omega arith;
+      })
 
   part-size : length k ≡ own .length
   part-size =
@@ -224,9 +294,6 @@ module _ (a b n : ℕ) (s : List ℕ) (bytes : Bytes s) (k : List ℕ) (own : Kn
       abbrev new : Rec
       new = changedRec content item (st .own) (nextTick st) (find item (st .records))
 
-      own-is : words2 p0 p1 ≡ st .own
-      own-is = rw (e0, e1) (read-id2 s 1 (omega (arith, opened .tests .header))) ∙ sym (store-own L s)
-
       tick-is : t + 1 ≡ nextTick st
       unfolding nextTick
       tick-is = omega (arith, largest-is)
@@ -234,7 +301,7 @@ module _ (a b n : ℕ) (s : List ℕ) (bytes : Bytes s) (k : List ℕ) (own : Kn
       record-is : recordOf w ≡ new
       record-is =
           f
-          ∙ ap₂ (λ (p x : ℕ). changedRec content item p x (foundRead s found)) own-is tick-is
+          ∙ ap₂ (λ (p x : ℕ). changedRec content item p x (foundRead s found)) (own-is p0 p1 e0 e1) tick-is
           ∙ ap (changedRec content item (st .own) (nextTick st)) found-here
 
       new-is : NewRec content item (st .own) (nextTick st) (find item (st .records)) new

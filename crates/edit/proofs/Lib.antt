@@ -1,3 +1,4 @@
 -- The laws of new, edit and delete.
+pub mod OneMore
 pub mod Changing
 pub mod NewStore

@@ -1,10 +1,11 @@
 -- An edit or a delete as the code has it: what is written, by its words, what was found of the item, and what the changed store is made of.
 -- There is nothing to believe here: the contracts of the calls cite the replies of `replication`.
-use Rattle.codec.specs.Prelude.{ℕ, _+_, _^_, _<_, _≡_, List, Option, none, some, length}
+use Rattle.codec.specs.Prelude.{ℕ, _+_, _^_, _≤_, _<_, _≡_, List, Option, none, some, length}
 use Rattle.codec.specs.Words.{words2, words3}
 use Rattle.layout.specs.Knowledge as K
 use Rattle.layout.specs.declared.Limits.{Limits}
 use Rattle.layout.specs.Decode.{decode}
+use Rattle.ticks.specs.Meaning.{highest, known, Normal}
 use Rattle.ticks.specs.Operations.{raise}
 use Rattle.replication.specs.Record.{Content, Rec}
 use Rattle.replication.specs.Formats.{Store}
@@ -39,11 +40,15 @@ unfoldable pub foundRead : List ℕ → Found → Option Rec
 foundRead s (F.At at) = some (readRec s at)
 foundRead s F.Nothing = none
 
--- what raising the own tick goes by: bytes that were opened under the limits, and a version whose replica is two words of 64 bits
+-- what raising the own tick goes by: bytes that were opened under the limits, in normal form; a version whose replica is two words of 64 bits and
+-- has the same tick for all items; and a tick of 1 or more
 pub record Raises (limits : Limits) (k : List ℕ) (v : View) (change : VersionWords) : Type 0 where
   pub reads : Reads limits k v
+  pub normal : Normal (decode k)
+  pub alike : (i : ℕ) → i ≤ highest → known (decode k) i (versionReplica change) ≡ known (decode k) 0 (versionReplica change)
   pub high : change .replica .high < 2 ^ 64
   pub low : change .replica .low < 2 ^ 64
+  pub some : 1 ≤ change .tick
 
 -- the store that is written: the own tick raised in the knowledge of the bytes k, and the table behind k joined with that of other bytes
 pub record Becomes (s k : List ℕ) (who tick : ℕ) (one : List ℕ) (st : Store) : Type 0 where

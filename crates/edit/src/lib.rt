@@ -2,6 +2,7 @@
 // tick above every tick known, and the own tick becomes that for every item.
 //
 // The changed store is the store's table joined with the table of the one new record, which wins over the item's record as its tick is larger.
+// Its knowledge is a copy with the new tick over the old one where the own replica has a tick already.
 // The calls are total; inside, the limits are numbers.
 use codec::Answer;
 use codec::Item;
@@ -16,11 +17,15 @@ use store_open::KnowledgePart;
 use store_open::OpenedStore;
 ghost use mathlib.Core.Path.{_≡_};
 ghost use mathlib.Core.List.{[]};
+ghost use mathlib.Core.Bool.{true};
+ghost use Prim.Native.Nat.{_<_};
 ghost use lib.ListN.{length};
 ghost use Rattle.codec.specs.Number.{beAt};
 ghost use Rattle.codec.specs.Reply.{answer, after};
 ghost use Rattle.codec.specs.Words.{words2, words3};
 ghost use Rattle.layout.specs.Knowledge.{base};
+ghost use Rattle.layout.specs.Decode.{decode};
+ghost use Rattle.ticks.specs.Operations.{raise};
 ghost use Rattle.replication.specs.Formats.{putRec, Store};
 ghost use Rattle.replication.specs.Operate.{changedRec};
 ghost use Rattle.replication.specs.MethodOpening.{storeAt};
@@ -28,7 +33,7 @@ ghost use Rattle.replication.specs.Call.{brings};
 ghost use Rattle.replication.specs.MethodReplies.{changeReply, storeReply};
 ghost use Rattle.replication.specs.Calls.{gone, editReply, deleteReply};
 ghost use Rattle.records_join.specs.MethodWritten.{recordOf};
-ghost use Rattle.results.specs.MethodOpened.{limitsOf};
+ghost use Rattle.results.specs.MethodOpened.{limitsOf, resultOf};
 ghost use Rattle.codec.specs.MethodEnded.{Ended};
 ghost use Rattle.replication.specs.Calls.{newReply};
 ghost use Rattle.edit.specs.MethodEditing.{itemOf, contentOf, versionReplica, foundRead, Becomes, Raises, Asked};
@@ -119,8 +124,40 @@ fn changed_record(s: &[u8], found: Found, what: Change, change: VersionWords) ->
 
 // ---- the changed store
 
-// Of a store with the knowledge k: the extent of its records joined with those of `one`, the knowledge with the own tick raised into its room,
-// and then header and records around it.
+// Does the own replica come to a knowledge that has as many replicas as it may have.
+fn one_too_many(k: &[u8], v: View, change: VersionWords, limits: Limits) -> bool
+    requires { ⌜ Raises limits (now k) v change ⌝ }
+    ensures { λ b. ⌜ (b ≡ true → limitsOf limits .replicas
+        < length (raise (versionReplica change) (change .tick) (decode (now (k .entry))) .replicas)) ⌝ }
+{
+    if v.r < codec::clamp(limits.replicas, layout::LARGEST_REPLICAS) {
+        return false;
+    }
+    lookup::key_of(k, v.r, change.replica).0 == v.r
+}
+
+// Writes the knowledge k of a store with the own tick raised. Where the own replica has a tick, it is the same for all items: the knowledge is
+// copied, with the new tick in place of the old one. Else it is written from a table.
+fn raise_own(k: &[u8], v: View, change: VersionWords, limits: Limits, out: &mut [u8]) -> Answer
+    requires { ⌜ Raises limits (now k) v change ⌝ }
+    ensures { λ a. ⌜ Ended (resultOf limits (raise (versionReplica change) (change .tick) (decode (now (k .entry)))))
+        (now (out .entry)) (now (out .exit)) a ⌝ }
+{
+    let own = change.replica;
+    let first = Item {
+        high: 0,
+        middle: 0,
+        low: 0,
+    };
+    let before = lookup::known_tick(k, v, first, own);
+    if before == 0 {
+        return results::raise_opened(k, v, own, change.tick, limits, out);
+    }
+    results_copied::copy_raised(k, v, own, change.tick, out)
+}
+
+// Of a store with the knowledge k: 11 where that is seen at once, the extent of its records joined with those of `one`, the knowledge with the own
+// tick raised into its room, and then header and records around it.
 fn write_changed(
     store: &[u8],
     k: &[u8],
@@ -134,14 +171,17 @@ fn write_changed(
     ensures { λ a. ⌜ ((st : Store) → Becomes (now (store .entry)) (now (k .entry)) (versionReplica change) (change .tick) (now (one .entry)) st
         → Ended (storeReply (limitsOf limits) st) (now (out .entry)) (now (out .exit)) a) ⌝ }
 {
+    if one_too_many(k, v, change, limits) {
+        return Answer::Refused(11);
+    }
     let at = store_headers::STORE + k.len();
     let mut picks = [0usize; PICKS];
     let e = records_join::join(store, at, one, 0, &mut picks);
     let room = store_write::room_in_store(out.len(), limits.records, e);
     let from = room.from;
     let to = room.to;
+    let a = raise_own(k, v, change, limits, &mut out[from..to]);
     let own = change.replica;
-    let a = results::raise_opened(k, v, own, change.tick, limits, &mut out[from..to]);
     store_write::close_store(out, own, a, limits.records, store, one, &picks, e)
 }
 

@@ -21,15 +21,15 @@ ghost use Rattle.replication.specs.MethodRecords.{WholeAt, shapedAt};
 ghost use Rattle.records.specs.Method.{commonLength, recordPart, readRec, foundPlace, least};
 
 // the places of a record's fields, counted from its own
-const ITEM: usize = 1;
+pub const ITEM_PLACE: usize = 1;
 
-const CHANGE_REPLICA: usize = 25;
+pub const CHANGE_REPLICA_PLACE: usize = 25;
 
-const CHANGE_TICK: usize = 41;
+pub const CHANGE_TICK_PLACE: usize = 41;
 
-const CREATE_REPLICA: usize = 49;
+pub const CREATE_REPLICA_PLACE: usize = 49;
 
-const CREATE_TICK: usize = 65;
+pub const CREATE_TICK_PLACE: usize = 65;
 
 const TAG: usize = 73;
 
@@ -145,40 +145,40 @@ fn tick_at(s: &[u8], at: usize, from: usize) -> u64
 pub fn item_of(s: &[u8], at: usize) -> Item
     ensures { λ r. ⌜ words3 (r .high) (r .middle) (r .low) ≡ readAt (now (s .entry)) 24 (at + itemPlace) ⌝ }
 {
-    if codec::beyond(s.len(), at, ITEM + 24) {
+    if codec::beyond(s.len(), at, ITEM_PLACE + 24) {
         return Item {
             high: 0,
             middle: 0,
             low: 0,
         };
     }
-    item_there(s, at + ITEM)
+    item_there(s, at + ITEM_PLACE)
 }
 
 // The replica and the tick of the change version.
 pub fn change_replica(s: &[u8], at: usize) -> Replica
     ensures { λ r. ⌜ words2 (r .high) (r .low) ≡ readAt (now (s .entry)) 16 (at + changeReplicaPlace) ⌝ }
 {
-    replica_at(s, at, CHANGE_REPLICA)
+    replica_at(s, at, CHANGE_REPLICA_PLACE)
 }
 
 pub fn change_tick(s: &[u8], at: usize) -> u64
     ensures { λ r. ⌜ r ≡ readAt (now (s .entry)) 8 (at + changeTickPlace) ⌝ }
 {
-    tick_at(s, at, CHANGE_TICK)
+    tick_at(s, at, CHANGE_TICK_PLACE)
 }
 
 // The replica and the tick of the create version.
 pub fn create_replica(s: &[u8], at: usize) -> Replica
     ensures { λ r. ⌜ words2 (r .high) (r .low) ≡ readAt (now (s .entry)) 16 (at + createReplicaPlace) ⌝ }
 {
-    replica_at(s, at, CREATE_REPLICA)
+    replica_at(s, at, CREATE_REPLICA_PLACE)
 }
 
 pub fn create_tick(s: &[u8], at: usize) -> u64
     ensures { λ r. ⌜ r ≡ readAt (now (s .entry)) 8 (at + createTickPlace) ⌝ }
 {
-    tick_at(s, at, CREATE_TICK)
+    tick_at(s, at, CREATE_TICK_PLACE)
 }
 
 // Does a tombstone begin at a place.
@@ -213,7 +213,7 @@ fn has_item(s: &[u8], at: usize, i0: u64, i1: u64, i2: u64) -> bool
     requires { ⌜ WholeAt (now s) at ⌝ }
     ensures { λ r. ⌜ r ≡ eqb (recAt (now (s .entry)) at .item) (words3 i0 i1 i2) ⌝ }
 {
-    let i = item_there(s, at + ITEM);
+    let i = item_there(s, at + ITEM_PLACE);
     codec::same3(i.high, i.middle, i.low, i0, i1, i2)
 }
 
@@ -256,8 +256,8 @@ fn valid(s: &[u8], at: usize) -> bool
     requires { ⌜ WholeAt (now s) at ⌝ }
     ensures { λ r. ⌜ r ≡ validRec (recAt (now (s .entry)) at) ⌝ }
 {
-    let create = leaves::eight(&s[at + CREATE_TICK..at + CREATE_TICK + 8]);
-    let change = leaves::eight(&s[at + CHANGE_TICK..at + CHANGE_TICK + 8]);
+    let create = leaves::eight(&s[at + CREATE_TICK_PLACE..at + CREATE_TICK_PLACE + 8]);
+    let change = leaves::eight(&s[at + CHANGE_TICK_PLACE..at + CHANGE_TICK_PLACE + 8]);
     if create < 1 {
         return false;
     }
@@ -298,7 +298,7 @@ fn in_order(s: &[u8], n: u32, at: usize) -> bool
         if k == 0 {
             return false;
         }
-        let i = item_there(s, p + ITEM);
+        let i = item_there(s, p + ITEM_PLACE);
         if !rises(any, l0, l1, l2, i.high, i.middle, i.low) {
             return false;
         }

@@ -1,10 +1,9 @@
 -- A pass over rising records with a cursor that is moved on from record to record. While records are left, the cursor has passed just the
 -- ranges below the next item (`Follows`): so at the start, and again after each record. What holds of each record of a table holds of the
--- first and of each of the rest: the answer for the whole table is the answer for what is left. Where a record is asked of two
--- knowledges, each has its cursor, and both cursors follow the same records.
+-- first and of each of the rest: the answer for the whole table is the answer for what is left.
 use Prim.Native.Nat.{ℕ, suc, _-_, _≤_, _<_}
-use mathlib.Core.Path.{_≡_, refl, sym, ap, ap₂, _∙_, subst}
-use mathlib.Core.Bool.{Bool, true, false, not}
+use mathlib.Core.Path.{_≡_, refl, sym, ap, _∙_, subst}
+use mathlib.Core.Bool.{Bool, true, false}
 use mathlib.Core.List.{List, _∷_}
 use native.Mathlib.Omega.{arith}
 use borrow.Author.Tests.{leb-true}
@@ -12,16 +11,15 @@ use Rattle.layout.specs.Knowledge.{Rules}
 use Rattle.layout.specs.Decode.{decode}
 use Rattle.ticks.specs.Meaning.{contains}
 use Rattle.replication.specs.Record.{Rec}
-use Rattle.replication.specs.Reading.{behind, recAt, both}
+use Rattle.replication.specs.Reading.{behind, recAt}
 use Rattle.replication.specs.MethodRecords.{recordsAt, shapedAt, each, WholeAt}
 use Rattle.replication.specs.OpenStore.{versionsIn}
-use Rattle.replication.specs.OpenBatch.{lacksChange}
 use Rattle.replication.proofs.Tables.InBytes.{whole-at, each-nil, each-on, each-stop, records-nil, records-cons}
 use Rattle.replication.proofs.Opening.Records.{OrderedMore, ordered-parts}
 use Rattle.lookup.specs.declared.Cursor.{Cursor}
 use Rattle.lookup.specs.Method.{Open}
 use Rattle.lookup.proofs.Leaf.{Stands, stands-start}
-use Rattle.records_versions.specs.Method.{movedTo, changeIn, bothIn, carriedIn, carriedBy}
+use Rattle.records_versions.specs.Method.{movedTo, changeIn, bothIn}
 use Rattle.records_versions.proofs.Versions.{SomeTicks, valid-ticks, moved-stands, change-in, both-in}
 
 -- n records of s from a place on, whole, valid and rising, none with an item before the one that a cursor of k has come to
@@ -71,21 +69,6 @@ module _ (s k : List ℕ) (r n at : ℕ) (c : Cursor) (f : Follows s k r n at c)
 
     pub follows-both : (b : Bool) → b ≡ bothIn s at k r (d .vector) → b ≡ versionsIn (decode k) (recAt s at)
     follows-both b e = e ∙ both-in (f .rules) k r d s at follows-whole follows-stands follows-ticks
-
-    -- a change version that is contained is not lacking
-    follows-not : (b : Bool) → b ≡ changeIn s at k r (d .vector) → not b ≡ lacksChange (decode k) (recAt s at)
-    unfolding lacksChange
-    follows-not b e = ap not (follows-change b e)
-
--- the record's versions, looked up in two knowledges
-module _ (s k : List ℕ) (r : ℕ) (l : List ℕ) (m n at : ℕ) (c e : Cursor) (f : Follows s k r n at c) (g : Follows s l m n at e) (some : 0 < n)
-    (d : Cursor) (moved : d ≡ movedTo s at k r c) (h : Cursor) (moves : h ≡ movedTo s at l m e) where
-  pub follows-carried : (b : Bool) → b ≡ carriedIn s at k r (d .vector) l m (h .vector) → b ≡ carriedBy (decode k) (decode l) (recAt s at)
-  unfolding carriedIn carriedBy
-  follows-carried b is =
-      is
-      ∙ ap₂ {C = Bool} both (follows-both s l m n at e g some h moves (bothIn s at l m (h .vector)) refl)
-      (follows-not s k r n at c f some d moved (changeIn s at k r (d .vector)) refl)
 
 -- ---- a property of each record
 

@@ -1,16 +1,14 @@
 -- A record asked of a knowledge. For accepted bytes and a cursor that stands at the record's item, the tick that the clock vector has for a
 -- replica is the known one (`stands-known`). A valid record's ticks are 1 or more, so what is asked is whether the knowledge contains
 -- the version (`change-in`, `create-in`, `both-in`). Moved on to the next record's item, the cursor stands there (`moved-stands`).
--- The create version need not be looked for where it has the change version's replica and no later tick: it is asked of the same element
--- of the same clock vector (`tick-less`).
 use Prim.Native.Nat.{ℕ, suc, _+_, _≤_}
 use mathlib.Core.Path.{_≡_, refl, sym, ap, ap₂, _∙_, subst}
-use mathlib.Core.Bool.{Bool, true, false, not}
+use mathlib.Core.Bool.{Bool, true, false}
 use mathlib.Core.List.{List}
 use native.Mathlib.Omega.{arith}
-use lib.Dec.{eqb, leb}
+use lib.Dec.{leb}
 use lib.ListN.{length}
-use borrow.Author.Tests.{le-leb, leb-true, leb-false, eqb-true}
+use borrow.Author.Tests.{leb-true, leb-false}
 use Rattle.codec.specs.Number.{beAt}
 use Rattle.codec.specs.Total.{readAt}
 use Rattle.codec.specs.Words.{words2, words3}
@@ -29,7 +27,7 @@ use Rattle.replication.proofs.Tables.Rising.{both-parts}
 use Rattle.lookup.specs.declared.Cursor.{Cursor}
 use Rattle.lookup.specs.Method.{keyAt, advanced, tickOf}
 use Rattle.lookup.proofs.Leaf.{Stands, stands-advanced, stands-known}
-use Rattle.records_versions.specs.Method.{movedTo, tickIn, versionIn, changeIn, createIn, bothIn, withCreate, carriedIn}
+use Rattle.records_versions.specs.Method.{movedTo, tickIn, versionIn, changeIn, createIn, bothIn}
 
 -- ---- what the code reads
 
@@ -37,22 +35,6 @@ pub moved-is : (s : List ℕ) (at : ℕ) (k : List ℕ) (r : ℕ) (c d : Cursor)
     → d ≡ advanced k r c (words3 i0 i1 i2) → d ≡ movedTo s at k r c
 unfolding movedTo
 moved-is s at k r c d i0 i1 i2 e f = f ∙ ap (advanced k r c) e
-
-both-no : (b : Bool) → both b false ≡ false
-both-no true = refl
-both-no false = refl
-
-both-yes : (b : Bool) → both b true ≡ b
-both-yes true = refl
-both-yes false = refl
-
--- of two versions, by their replicas and ticks
-module _ (p q tick t : ℕ) (b : Bool) (e : b ≡ eqb p q) where
-  pub no-later-same : b ≡ true → leb t tick ≡ both (eqb p q) (leb t tick)
-  no-later-same f = sym (ap (λ (x : Bool). both x (leb t tick)) (sym e ∙ f))
-
-  pub no-later-other : b ≡ false → false ≡ both (eqb p q) (leb t tick)
-  no-later-other f = sym (ap (λ (x : Bool). both x (leb t tick)) (sym e ∙ f))
 
 module _ (k : List ℕ) (r vector : ℕ) where
   pub tick-in-is : (p tick t : ℕ) (key : ReplicaKey) → key ≡ keyAt k r p → t ≡ tickOf k vector key → leb tick t ≡ tickIn k r vector p tick
@@ -63,51 +45,6 @@ module _ (k : List ℕ) (r vector : ℕ) where
       → b ≡ tickIn k r vector (words2 p0 p1) t → b ≡ versionIn s replica tick k r vector
   unfolding versionIn
   version-in-is s replica tick p0 p1 t b e f h = h ∙ ap₂ (tickIn k r vector) e f
-
-  -- a version of the same replica with no later tick
-  tick-less : (p q tick t : ℕ) → p ≡ q → t ≤ tick → tickIn k r vector p tick ≡ true → tickIn k r vector q t ≡ true
-  unfolding tickIn
-  tick-less p q tick t e l h =
-      let m = leb-true tick (tickOf k vector (keyAt k r p)) h in
-      let n : tickOf k vector (keyAt k r p) ≡ tickOf k vector (keyAt k r q) = ap (λ x. tickOf k vector (keyAt k r x)) e in
-      le-leb t (tickOf k vector (keyAt k r q)) (omega arith)
-
-  module _ (s : List ℕ) (at p tick : ℕ) (b : Bool) (e : b ≡ tickIn k r vector p tick) where
-    pub create-lacks : b ≡ false → false ≡ withCreate s at k r vector p tick
-    unfolding withCreate
-    create-lacks f = sym (ap (λ (x : Bool). both x (createIn s at k r vector)) (sym e ∙ f))
-
-    module _ (f : b ≡ true) (q0 q1 t : ℕ) (g : words2 q0 q1 ≡ readAt s 16 (at + createReplicaPlace))
-        (h : t ≡ readAt s 8 (at + createTickPlace)) where
-      pub create-asked : (d : Bool) → d ≡ tickIn k r vector (words2 q0 q1) t → d ≡ withCreate s at k r vector p tick
-      unfolding withCreate
-      create-asked d i =
-          version-in-is s (at + createReplicaPlace) (at + createTickPlace) q0 q1 t d g h i
-          ∙ sym (ap (λ (x : Bool). both x (createIn s at k r vector)) (sym e ∙ f))
-
-      pub create-there : (x : Bool) → x ≡ both (eqb p (words2 q0 q1)) (leb t tick) → x ≡ true → true ≡ withCreate s at k r vector p tick
-      create-there x i u =
-          let z = both-parts (eqb p (words2 q0 q1)) (leb t tick) (sym i ∙ u) in
-          let w = tick-less p (words2 q0 q1) tick t (eqb-true p (words2 q0 q1) (z .0)) (leb-true t tick (z .1)) (sym e ∙ f) in
-          create-asked true (sym w)
-
-  -- the change version's replica and tick are read once
-  module _ (s : List ℕ) (at p0 p1 t : ℕ) (e : words2 p0 p1 ≡ readAt s 16 (at + changeReplicaPlace))
-      (f : t ≡ readAt s 8 (at + changeTickPlace)) (b : Bool) where
-    pub both-in-is : b ≡ withCreate s at k r vector (words2 p0 p1) t → b ≡ bothIn s at k r vector
-    unfolding withCreate bothIn versionIn
-    both-in-is h = h ∙ ap₂ (λ x y. both (tickIn k r vector x y) (createIn s at k r vector)) e f
-
-module _ (s : List ℕ) (at : ℕ) (k : List ℕ) (r vector : ℕ) (l : List ℕ) (m learned : ℕ) where
-  pub carried-has : (b : Bool) → b ≡ changeIn s at k r vector → b ≡ true → false ≡ carriedIn s at k r vector l m learned
-  unfolding carriedIn
-  carried-has b e f = sym (ap (λ (x : Bool). both (bothIn s at l m learned) (not x)) (sym e ∙ f) ∙ both-no (bothIn s at l m learned))
-
-  pub carried-lacks : (b : Bool) → b ≡ changeIn s at k r vector → b ≡ false → (d : Bool) → d ≡ bothIn s at l m learned
-      → d ≡ carriedIn s at k r vector l m learned
-  unfolding carriedIn
-  carried-lacks b e f d h =
-      h ∙ sym (ap (λ (x : Bool). both (bothIn s at l m learned) (not x)) (sym e ∙ f) ∙ both-yes (bothIn s at l m learned))
 
 -- ---- the ticks of a valid record
 

@@ -1,12 +1,8 @@
 -- A record, at a place of some bytes, asked of the knowledge in other bytes, by places and for any bytes: nothing here is to be
 -- believed. The laws show that for a valid record and accepted bytes this says whether the knowledge contains the record's versions.
-use Rattle.codec.specs.Prelude.{ℕ, _+_, Bool, not, List, leb}
+use Rattle.codec.specs.Prelude.{ℕ, _+_, Bool, List, leb}
 use Rattle.codec.specs.Total.{readAt}
-use Rattle.layout.specs.Knowledge.{Knowledge}
-use Rattle.replication.specs.Record.{Rec}
 use Rattle.replication.specs.Reading.{itemPlace, changeReplicaPlace, changeTickPlace, createReplicaPlace, createTickPlace, both}
-use Rattle.replication.specs.OpenStore.{versionsIn}
-use Rattle.replication.specs.OpenBatch.{lacksChange}
 use Rattle.lookup.specs.declared.Cursor.{Cursor}
 use Rattle.lookup.specs.Method.{keyAt, advanced, tickOf}
 
@@ -31,15 +27,3 @@ createIn s at k r vector = versionIn s (at + createReplicaPlace) (at + createTic
 
 unfoldable pub bothIn : List ℕ → ℕ → List ℕ → ℕ → ℕ → Bool
 bothIn s at k r vector = both (changeIn s at k r vector) (createIn s at k r vector)
-
--- a version, given by its replica and its tick, and the create version of the record at a place of s
-unfoldable pub withCreate : List ℕ → ℕ → List ℕ → ℕ → ℕ → ℕ → ℕ → Bool
-withCreate s at k r vector replica tick = both (tickIn k r vector replica tick) (createIn s at k r vector)
-
--- both versions in the clock vector at a place of l, with m replicas, and the change version not in that of k
-unfoldable pub carriedIn : List ℕ → ℕ → List ℕ → ℕ → ℕ → List ℕ → ℕ → ℕ → Bool
-carriedIn s at k r vector l m learned = both (bothIn s at l m learned) (not (changeIn s at k r vector))
-
--- both versions of a record contained in learned, and its change version not in needed
-unfoldable pub carriedBy : Knowledge → Knowledge → Rec → Bool
-carriedBy needed learned r = both (versionsIn learned r) (lacksChange needed r)

@@ -13,7 +13,7 @@ use Rattle.codec.specs.MethodEnded.{Ended}
 use Rattle.codec.specs.declared.Answer.the-variants.{Written, Refused}
 use Rattle.codec.proofs.Calls.{short-answer, short-after, written-answer, written-after}
 
-part-whole : (s : List ℕ) → part s 0 (length s) ≡ s
+pub part-whole : (s : List ℕ) → part s 0 (length s) ≡ s
 unfolding part
 part-whole s = rw (le-leb (0 + length s) (length s) (omega arith), part) (take-all (length s) s (omega arith))
 

@@ -10,11 +10,11 @@ use native.Mathlib.Omega.{arith}
 use lib.Dec.{ltb}
 use lib.ListN.{length, take, drop}
 use borrow.Author.Tests.{ltb-true, ltb-false}
-use Rattle.codec.specs.Number.{Bytes, beAt}
+use Rattle.codec.specs.Number.{Bytes}
 use Rattle.codec.specs.Parsed.{Parsed}
 use Rattle.codec.specs.Total.{readAt, clamp}
 use Rattle.codec.specs.Words.{words3}
-use Rattle.codec.proofs.Total.{read-there, read-id3}
+use Rattle.codec.proofs.Total.{read-there}
 use Rattle.layout.specs.Knowledge.{Limits, anyId, Knowledge}
 use Rattle.layout.specs.Permitted.{largestRecords, within}
 use Rattle.layout.specs.Decode.{decode}
@@ -30,13 +30,13 @@ use Rattle.lookup.specs.declared.Cursor.{Cursor}
 use Rattle.lookup.specs.Method.{openOf}
 use Rattle.lookup_ranges.specs.Method.{insideOf}
 use Rattle.lookup_ranges.proofs.Outside.{inside-opens}
-use Rattle.records_versions.specs.Method.{carriedBy}
 use Rattle.store_open.specs.declared.KnowledgePart.{KnowledgePart}
 use Rattle.store_open.specs.declared.Normality.{Normality}
 use Rattle.store_open.specs.declared.Normality.the-variants as N
 use Rattle.store_open.specs.declared.OpenedBatch.the-variants as B
 use Rattle.store_open.specs.Method.{sizedPart, NormalOf, NormalityOf, neededBytes, learnedBytes}
 use Rattle.store_open.specs.Method.{batchFrom, batchOpened, BatchHeader}
+use Rattle.store_open.specs.MethodEach.{carriedBy}
 use Rattle.store_open.proofs.Opened.{if-batch, if-not, from-both}
 use Rattle.store_open.proofs.Judged.{normal-accepted, normal-read, normal-opened}
 use Rattle.store_open.proofs.Carried.{carried-by, carried-all}
@@ -53,10 +53,6 @@ unfolding batchOpened
 batch-is L s t = if-batch _ _ (tests-batch L s t)
 
 -- ---- the span, by its words
-
-pub id-words : (s : List ℕ) (at x y z : ℕ) → at + 24 ≤ length s → x ≡ readAt s 8 at → y ≡ readAt s 8 (at + 8) → z ≡ readAt s 8 (at + 16)
-    → words3 x y z ≡ beAt s 24 at
-id-words s at x y z l a b c = rw (a, b, c) (read-id3 s at l)
 
 module _ (s : List ℕ) (f0 f1 f2 l0 l1 l2 : ℕ) (first : words3 f0 f1 f2 ≡ firstId s) (last : words3 l0 l1 l2 ≡ lastId s) (t : Bool) where
   pub span-less : t ≡ ltb (words3 l0 l1 l2) (words3 f0 f1 f2) → t ≡ ltb (lastId s) (firstId s)

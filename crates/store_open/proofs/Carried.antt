@@ -25,7 +25,7 @@ use Rattle.replication.proofs.Tables.Rising.{both-parts, both-holds}
 use Rattle.replication.proofs.Bytes.Record.{rec-fits}
 use Rattle.replication.proofs.Tables.InBytes.{each-nil, each-cons, records-nil, records-cons}
 use Rattle.replication.proofs.Opening.Batch.{NothingOutside, carried-is}
-use Rattle.records_versions.specs.Method.{carriedBy}
+use Rattle.store_open.specs.MethodEach.{carriedBy}
 
 -- ---- properties of each record
 

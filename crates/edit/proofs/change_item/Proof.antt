@@ -23,7 +23,8 @@ put-changed-requires c κs =
     let a = b9 .args in
     let bytes : Bytes (a .store .now) = record { below = λ i. omega (arith, b3 .before .before .before .before .before .shared-slice-known .given i) } in
     change-raises (a .limits .replicas) (a .limits .ranges) (a .limits .records) (a .store .now) bytes (a .k .now) (a .own) (a .found) (a .what)
-    (b9 .pre) _ _ _ _ (c .before .changed-record .ensures .1) (b3 .read8 .ensures .1) (c .before .before .read82 .ensures .1)
+    (b9 .pre) _ _ _ _ (c .before .changed-record .ensures .1) (b3 .read8 .ensures .0) (c .before .before .read82 .ensures .0)
+    (b3 .read8 .ensures .1) (c .before .before .read82 .ensures .1)
 
 returns-2 : tie.Need-returns-2
 returns-2 c =

@@ -1,8 +1,8 @@
--- `records_versions::no_later` meets its contract: the ticks are compared where the replicas are the same.
+-- `store_open::no_later` meets its contract: the ticks are compared where the replicas are the same.
 use Rattle.codec.specs.Ids.{replicaOf}
-use Rattle.records_versions.proofs.Versions.{no-later-same, no-later-other}
-use Rattle.records_versions.proofs.no_later.Statement.{statement}
-use Rattle.records_versions.proofs.no_later.Tie as tie
+use Rattle.store_open.proofs.Asked.{no-later-same, no-later-other}
+use Rattle.store_open.proofs.no_later.Statement.{statement}
+use Rattle.store_open.proofs.no_later.Tie as tie
 
 returns : tie.Need-returns
 returns c =

@@ -1,0 +1,2 @@
+-- The method of raising a tick in a copy.
+pub mod MethodRaised
