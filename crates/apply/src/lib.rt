@@ -122,10 +122,10 @@ fn covers_all(k: &[u8], v: View, l: &[u8], w: View) -> bool
         middle: TOP,
         low: TOP,
     };
-    match cover::lacking(k, v, l, w, Span { first, last }) {
-        Place::Nowhere => true,
-        Place::Here(_) => false,
-    }
+    let Place::Here(_) = cover::lacking(k, v, l, w, Span { first, last }) else {
+        return true;
+    };
+    false
 }
 
 // The knowledge of a store merged with a learned one: the store's own bytes where they cover that.
