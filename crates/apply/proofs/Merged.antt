@@ -9,8 +9,12 @@ use Rattle.codec.specs.Reply.{Reply, gives}
 use Rattle.codec.specs.Words.{words3}
 use Rattle.codec.specs.MethodEnded.{Ended}
 use Rattle.codec.specs.declared.Answer.{Answer}
+use Rattle.layout.specs.Knowledge as K
+use Rattle.layout.specs.Permitted.{largestReplicas}
 use Rattle.layout.specs.declared.Limits.{Limits}
 use Rattle.layout.specs.Decode.{decode}
+use Rattle.layout.proofs.Places.{places}
+use Rattle.layout.proofs.Within.{few-replicas}
 use Rattle.ticks.specs.Meaning.{highest}
 use Rattle.ticks.specs.Operations.{covers, merge}
 use Rattle.ticks.proofs.Algebra.{merge-covered}
@@ -19,12 +23,13 @@ use Rattle.ticks.proofs.Search.{covers-exact}
 use Rattle.lookup.specs.declared.Cursor.{Cursor}
 use Rattle.lookup.specs.declared.View.{View}
 use Rattle.lookup.specs.Method.{Open}
+use Rattle.lookup.proofs.Leaf.{opens-reading}
 use Rattle.cover.specs.declared.Lack as D
 use Rattle.cover.specs.declared.Place.{Place}
 use Rattle.cover.specs.declared.Place.the-variants as O
 use Rattle.cover.specs.Method.{lackingBy, lackOf}
 use Rattle.cover.proofs.FirstLacking.{place-covers}
-use Rattle.results.specs.MethodOpened.{resultOf}
+use Rattle.results.specs.MethodOpened.{Reads, resultOf}
 use Rattle.results.proofs.Copied.{opened-given}
 use Rattle.apply.specs.Method.{OwnAndLearned}
 
@@ -49,9 +54,23 @@ module _ (k : List ℕ) (r : ℕ) (c : Cursor) (l : List ℕ) (m : ℕ) (d : Cur
   pub some-lacking : (x : D.Lack) → p ≡ O.Here x → false ≡ covers (decode k) (decode l) 0 highest
   some-lacking x f = sym (place-covers k r c l m d 0 highest a b (omega arith) p place .1 x f)
 
+-- ---- bytes that were opened under limits are open
+
+open-within : (most : Limits) (s : List ℕ) (v : View) → Reads most s v → Open s (v .r) (v .start)
+open-within most s v x =
+    let R = x .rules in
+    let o = x .opens in
+    let p = places R s (v .r) (o .v) (o .e) (o .g) (opens-reading R s (v .r) (v .start) o) in
+    let few : R .limits .replicas ≤ largestReplicas =
+    omega (arith, ap (λ (L : K.Limits). L .replicas) (x .limits), few-replicas (most .replicas) (most .ranges)) in
+    record { rules = R; opens = o; small = omega (arith, p .replicas, few) }
+
 -- ---- the copy
 
 module _ (most : Limits) (k : List ℕ) (v : View) (l : List ℕ) (w : View) (h : OwnAndLearned most k v l w) where
+  pub both-open : Open k (v .r) (v .start) × Open l (w .r) (w .start)
+  both-open = (open-within most k v (h .mine), open-within most l w (h .theirs))
+
   covered-given : covers (decode k) (decode l) 0 highest ≡ true → resultOf most (merge (decode k) (decode l)) ≡ gives k
   covered-given t =
       let less = covers-exact (decode k) (decode l) 0 highest .0 t in

@@ -12,7 +12,9 @@ use Rattle.apply.proofs.write_applied.Statement.{statement}
 use Rattle.apply.proofs.write_applied.Tie as tie
 
 write-merged-requires : tie.Need-write-merged-requires
-write-merged-requires c κs = ?
+write-merged-requires c κs =
+    let start = c .before .before .before .before .before .before .before .before .before .before .before .before in
+    own-and-learned (start .args .limits) _ _ _ _ _ _ _ _ (start .pre)
 
 returns : tie.Need-returns
 returns c =
