@@ -4,6 +4,7 @@
 #![forbid(unsafe_code)]
 
 mod batches;
+mod borders;
 mod breaches;
 mod calls;
 mod changing;
@@ -30,6 +31,7 @@ mod worst;
 mod writing;
 
 pub use batches::shapes as batch_shapes;
+pub use borders::{AnyCall, BORDERS, Border, End, Side, vector_hash, vector_word};
 pub use calls::{Call, faulty};
 pub use changing::Changing;
 pub use comparing::{Comparing, LARGEST_COMPARISON};

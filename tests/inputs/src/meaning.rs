@@ -117,38 +117,34 @@ impl Knowledge {
         Self { replicas: replicas.into_iter().collect(), vectors, ranges }
     }
 
-    /// Whether it is in normal form, condition by condition.
+    /// Whether it is in normal form.
     pub fn is_normal(&self) -> bool {
-        let replicas_rise = self.replicas.is_sorted_by(|a, b| a < b);
-        let used = |key| self.vectors.iter().flatten().any(|(other, _)| *other == key);
-        let replicas_are_used = (0..self.replicas.len() as u32).all(used);
-        let starts_at_zero = self.ranges.first().is_some_and(|(bound, _)| *bound == FIRST_ITEM);
-        let bounds_rise = self.ranges.is_sorted_by(|(a, _), (b, _)| a < b);
-        let content = |(_, index): &(ItemId, u32)| &self.vectors[*index as usize];
-        let neighbours_differ = self.ranges.is_sorted_by(|a, b| content(a) != content(b));
-        let first_is_empty = self.vectors.first().is_some_and(Vec::is_empty);
+        self.normal_rules().iter().all(|(_, holds)| *holds)
+    }
 
+    /// The rules of the normal form, and whether each of them holds.
+    pub fn normal_rules(&self) -> [(&'static str, bool); 10] {
+        let used = |key| self.vectors.iter().flatten().any(|(other, _)| *other == key);
+        let content = |(_, index): &(ItemId, u32)| &self.vectors[*index as usize];
         let mut first_uses: Vec<u32> = Vec::new();
         for (_, index) in &self.ranges {
             if *index != 0 && !first_uses.contains(index) {
                 first_uses.push(*index);
             }
         }
-        let in_order_of_first_use = first_uses == (1..self.vectors.len() as u32).collect::<Vec<_>>();
         let distinct = self.vectors.iter().collect::<BTreeSet<_>>().len() == self.vectors.len();
-        let elements_rise = self.vectors.iter().all(|vector| vector.is_sorted_by(|(a, _), (b, _)| a < b));
-        let ticks_say_something = self.vectors.iter().flatten().all(|(_, tick)| *tick >= 1);
-
-        replicas_rise
-            && replicas_are_used
-            && starts_at_zero
-            && bounds_rise
-            && neighbours_differ
-            && first_is_empty
-            && in_order_of_first_use
-            && distinct
-            && elements_rise
-            && ticks_say_something
+        [
+            ("replicas rise", self.replicas.is_sorted_by(|a, b| a < b)),
+            ("replicas are used", (0..self.replicas.len() as u32).all(used)),
+            ("starts at zero", self.ranges.first().is_some_and(|(bound, _)| *bound == FIRST_ITEM)),
+            ("bounds rise", self.ranges.is_sorted_by(|(a, _), (b, _)| a < b)),
+            ("neighbours differ", self.ranges.is_sorted_by(|a, b| content(a) != content(b))),
+            ("first is empty", self.vectors.first().is_some_and(Vec::is_empty)),
+            ("in order of first use", first_uses == (1..self.vectors.len() as u32).collect::<Vec<_>>()),
+            ("distinct", distinct),
+            ("elements rise", self.vectors.iter().all(|vector| vector.is_sorted_by(|(a, _), (b, _)| a < b))),
+            ("ticks say something", self.vectors.iter().flatten().all(|(_, tick)| *tick >= 1)),
+        ]
     }
 
     pub fn bounds(&self) -> BTreeSet<ItemId> {

@@ -50,6 +50,11 @@ impl Plan {
         Self { inputs: self.inputs / 5 * 2, ..self }
     }
 
+    /// The run of calls at one border: as many as `SYNC_BORDERS` says, 100,000 where it is not set.
+    pub fn at_a_border(self) -> Self {
+        Self { inputs: number_from_environment("SYNC_BORDERS").map_or(100_000, |inputs| inputs as usize), ..self }
+    }
+
     /// The run of compares: two fifths as many.
     pub fn of_pairs(self) -> Self {
         Self { inputs: self.inputs / 5 * 2, ..self }

@@ -101,7 +101,7 @@ pub fn alike(knowledge: &Knowledge, own: &ReplicaId, tick: u64) -> Knowledge {
 }
 
 /// At most so many records whose versions a knowledge contains, by rising item id.
-fn records(random: &mut SplitMix64, knowledge: &Knowledge, count: usize) -> Vec<Record> {
+pub fn records(random: &mut SplitMix64, knowledge: &Knowledge, count: usize) -> Vec<Record> {
     let style = random.below(3);
     let mut items = BTreeSet::new();
     for place in 0..count {

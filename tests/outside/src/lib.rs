@@ -2,6 +2,7 @@
 
 #![deny(unsafe_code)]
 
+pub mod borders;
 mod buffer;
 pub mod calls;
 pub mod changing;

@@ -1,14 +1,15 @@
 //! Compares the engine with the reference on a run of inputs and on rows of calls, and says how often each answer was given; and tries
-//! the laws of the calls that write a knowledge, and random lists of calls on stores.
+//! the laws of the calls that write a knowledge, calls at the borders of the engine's shorter ways, and random lists of calls on stores.
 //!
-//! `SYNC_INPUTS` sets the number of inputs, and of calls; `SYNC_LISTS` that of lists; `SYNC_SEED` sets the seed.
+//! `SYNC_INPUTS` sets the number of inputs, and of calls; `SYNC_BORDERS` that of calls at each border; `SYNC_LISTS` that of lists;
+//! `SYNC_SEED` sets the seed.
 
 use std::fmt::Display;
 use std::process::ExitCode;
 
-use inputs::Plan;
+use inputs::{BORDERS, Plan};
 use outside::stand_in::Reference;
-use outside::{check, engine, lists};
+use outside::{borders, check, engine, lists};
 
 fn main() -> ExitCode {
     let plan = Plan::from_environment();
@@ -21,6 +22,8 @@ fn main() -> ExitCode {
     let passed = said(outside::laws::run(&plan, &engine::Linked)) && passed;
     let passed = said(outside::reading::run(&plan.on_stores(), &engine::Linked)) && passed;
     let passed = said(outside::changing::run(&plan.on_stores(), &engine::Linked)) && passed;
+    let at_border = |border| said(borders::run(border, &plan.at_a_border(), &engine::Linked));
+    let passed = BORDERS.into_iter().filter(|border| !at_border(*border)).count() == 0 && passed;
     let lists = lists::Plan::from_environment();
     println!("lists of calls: {} from seed {}", lists.lists, lists.seed);
     let passed = said(lists::run(&lists, &engine::Linked, &Reference)) && passed;
