@@ -180,7 +180,7 @@ fn length_from(s: &[u8], t: &[u8], x: usize) -> usize
     records::length_at(t, x - s.len())
 }
 
-// Whether m bytes from an address x on end where y begins, in the same bytes, the first of which are n.
+// Whether m bytes from an address x on end where the address y begins, both in the first bytes, which are n, or both in the second.
 fn goes_on(n: usize, x: usize, m: usize, y: usize) -> bool
     ensures { λ r. ⌜ (r ≡ true → (y ≡ x + m) × (x < n → y < n)) ⌝ }
 {

@@ -40,10 +40,10 @@ loop-again c =
     let e = room .before .beyond .ensures .1 (room .if2 .left) in
     ⊎-elim
     (λ w.
-    pending-longer _ _ _ _ _ _ _ _ _ _ (l .inv) (turn .loop-test .taken) _ _ refl (read .length-from .ensures) e _ _ _ _
+    pending-longer _ _ _ _ _ _ _ _ _ _ (l .inv) (omega arith) _ _ refl (read .length-from .ensures) e _ _ _ _
     (c .before .goes-on .ensures (w .0 .taken)) (w .1) (w .2) (w .3) (w .4))
     (λ w.
-    pending-begun _ _ _ _ _ _ _ _ _ _ (l .inv) (turn .loop-test .taken) _ _ refl (read .length-from .ensures) e _ _ _ _
+    pending-begun _ _ _ _ _ _ _ _ _ _ (l .inv) (omega arith) _ _ refl (read .length-from .ensures) e _ _ _ _
     _ (w .2 .ensures) (w .5) (w .6) (w .7) (w .8))
     (c .if3 .came)
 
@@ -56,7 +56,7 @@ returns-2 c =
     ⊎-elim
     (λ w. pending-end _ _ _ _ _ _ _ _ _ _ (l .inv) (omega (arith, w .left)) _ (c .before .before .copy-run2 .ensures))
     (λ w.
-    pending-full _ _ _ _ _ _ _ _ _ _ (l .inv) (w .0 .taken) _ _ refl (w .2 .ensures) (w .3 .ensures .0 (w .4 .taken)) _
+    pending-full _ _ _ _ _ _ _ _ _ _ (l .inv) (omega (arith, w .0 .taken)) _ _ refl (w .2 .ensures) (w .3 .ensures .0 (w .4 .taken)) _
     (c .before .before .copy-run2 .ensures))
     (c .before .before .before .before .loop-test .came)
 
