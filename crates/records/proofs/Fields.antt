@@ -13,7 +13,7 @@ use lib.Dec.{eqb, ltb, leb}
 use lib.ListN.{length, getD, take, drop, length-take, length-drop, List·getD-eq-default}
 use borrow.Author.Tests.{le-leb, lt-ltb, le-ltb, eq-eqb, ne-eqb, ltb-true, ltb-false, leb-true, leb-false}
 use Rattle.codec.specs.Number.{Bytes, beAt}
-use Rattle.codec.specs.Part.{placed, part}
+use Rattle.codec.specs.Part.{part}
 use Rattle.codec.specs.Total.{readAt}
 use Rattle.codec.specs.Words.{words2, words3}
 use Rattle.codec.proofs.Order.{words2-be, words3-be}
@@ -160,10 +160,6 @@ module _ (s : List ℕ) (at : ℕ) where
   part-by : recordPart s at ≡ part s at (lengthAt s at)
   unfolding recordPart
   part-by = refl
-
-  -- what a copy of so many bytes writes
-  pub part-copied : (n : ℕ) → n ≡ lengthAt s at → (d u : List ℕ) (to : ℕ) → u ≡ placed d to (part s at n) → u ≡ placed d to (recordPart s at)
-  part-copied n e d u to h = h ∙ ap (placed d to) (ap (part s at) e ∙ sym part-by)
 
   pub part-nothing : whole s at ≡ false → recordPart s at ≡ []
   part-nothing w = part-by ∙ (ap (part s at) (length-nothing s at w) ∙ part-none s at)

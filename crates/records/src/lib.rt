@@ -1,5 +1,5 @@
-// Records in the bytes of a store or batch: their lengths and fields, which of two records wins, the copying of a record, the
-// search for an item's record, and the check of a table.
+// Records in the bytes of a store or batch: their lengths and fields, which of two records wins, the search for an item's record,
+// and the check of a table.
 //
 // Every public function is total and takes the whole bytes and a place in them. An item id is three words of 64 bits and a
 // replica id two, the highest first.
@@ -10,7 +10,6 @@ ghost use Prim.Native.Nat.{_+_, _*_, _≤_, _<_};
 ghost use lib.Dec.{eqb, leb};
 ghost use lib.ListN.{length, getD};
 ghost use Rattle.codec.specs.Number.{beAt};
-ghost use Rattle.codec.specs.Part.{placed};
 ghost use Rattle.codec.specs.Total.{readAt};
 ghost use Rattle.codec.specs.Words.{words2, words3};
 ghost use Rattle.replication.specs.Reading.{recLength, behind, recAt, tagKept, validRec};
@@ -18,7 +17,7 @@ ghost use Rattle.replication.specs.Reading.{itemPlace, changeReplicaPlace, chan
 ghost use Rattle.replication.specs.Queries.{places, placeOf, lengthAt};
 ghost use Rattle.replication.specs.Operate.{wins};
 ghost use Rattle.replication.specs.MethodRecords.{WholeAt, shapedAt};
-ghost use Rattle.records.specs.Method.{commonLength, recordPart, readRec, foundPlace, least};
+ghost use Rattle.records.specs.Method.{commonLength, readRec, foundPlace, least};
 
 // the places of a record's fields, counted from its own
 pub const ITEM_PLACE: usize = 1;
@@ -105,14 +104,6 @@ pub fn behind(s: &[u8], at: usize) -> usize
     let kind = one(s, at);
     let n = record_length(kind);
     at + n
-}
-
-// The whole record at a place, written into an output from a place on: nothing where none stands there or there is no room.
-pub fn copy_record(s: &[u8], at: usize, out: &mut [u8], to: usize)
-    ensures { λ _. ⌜ now (out .exit) ≡ placed (now (out .entry)) to (recordPart (now (s .entry)) at) ⌝ }
-{
-    let n = length_at(s, at);
-    codec::copy_part(s, at, n, out, to);
 }
 
 // ---- the fields of the record at a place; a field of which a byte is missing is 0

@@ -1,14 +1,12 @@
 -- The records at addresses, copied one after the other. Where at each address stands a whole record and there is room for all, what is
 -- written is the bytes of the records: for the addresses of two joined tables, the bytes of the join.
-use Prim.Native.Nat.{ℕ, zero, suc, _+_, _-_, _≤_, _<_}
+use Prim.Native.Nat.{ℕ, _+_, _-_, _≤_, _<_}
 use mathlib.Core.Path.{_≡_, refl, sym, ap, ap₂, _∙_}
 use mathlib.Core.Bool.{Bool, true, false}
 use mathlib.Core.List.{List, [], _∷_, _++_}
 use native.Mathlib.Omega.{arith}
-use native.Mathlib.Numerals.{add-one}
 use lib.Dec.{ltb}
-use lib.ListN.{length, take, drop, getD}
-use lib.Seq.{take-nil, drop-nil, drop-cons}
+use lib.ListN.{length, take}
 use borrow.Author.Tests.{ltb-true, ltb-false}
 use Rattle.codec.specs.Number.{Bytes}
 use Rattle.codec.specs.Part.{placed}
@@ -22,7 +20,7 @@ use Rattle.replication.specs.MethodTable.{tableAt}
 use Rattle.replication.proofs.Bytes.Record.{recSize, kind-length, whole-back, rec-length, rec-append}
 use Rattle.replication.specs.Queries.{lengthAt}
 use Rattle.records.specs.Method.{recordPart}
-use Rattle.records.proofs.Fields.{length-whole, length-nothing, part-record}
+use Rattle.records.proofs.Fields.{length-whole, part-record}
 use Rattle.records_join.specs.MethodJoin.{atAddress, recsFrom, sizeFrom, joinAt, fronted, copied}
 use Rattle.records_join.proofs.Addresses.{at-first, at-later, recs-none, recs-more, recs-count, size-none, size-more, fronted-take}
 use Rattle.records_join.proofs.JoinedTables.{joined-table, joined-whole}
@@ -32,46 +30,32 @@ use Rattle.records_join.proofs.JoinedTables.{joined-table, joined-whole
 whole-size : (s : List ℕ) (x : ℕ) → whole s x ≡ true → lengthAt s x ≡ recSize
 whole-size s x w = length-whole s x w ∙ kind-length _ (whole-back s x w .kind)
 
-size-most : (s : List ℕ) (x : ℕ) → lengthAt s x ≤ recSize
-size-most s x = go (whole s x) refl
-  where
-    go : (w : Bool) → whole s x ≡ w → lengthAt s x ≤ recSize
-    go true w = omega (arith, whole-size s x w)
-    go false w = omega (arith, length-nothing s x w)
-
 -- an address is a place of one of the two
 module _ (s t : List ℕ) (x : ℕ) (C : Type 0) (first : x < length s → C) (later : length s ≤ x → C) where
-  either : C
+  pub either : C
   either = go (ltb x (length s)) refl
     where
       go : (b : Bool) → ltb x (length s) ≡ b → C
       go true e = first (ltb-true x (length s) e)
       go false e = later (ltb-false x (length s) e)
 
-module _ (s t : List ℕ) (x : ℕ) where
-  from-most : atAddress lengthAt s t x ≤ recSize
-  from-most =
-      either s t x (atAddress lengthAt s t x ≤ recSize)
-      (λ h. omega (arith, at-first lengthAt s t x h, size-most s x))
-      (λ h. omega (arith, at-later lengthAt s t x h, size-most t (x - length s)))
+module _ (s t : List ℕ) (x : ℕ) (w : atAddress whole s t x ≡ true) where
+  from-size : atAddress lengthAt s t x ≡ recSize
+  from-size =
+      either s t x (atAddress lengthAt s t x ≡ recSize)
+      (λ h. at-first lengthAt s t x h ∙ whole-size s x (sym (at-first whole s t x h) ∙ w))
+      (λ h. at-later lengthAt s t x h ∙ whole-size t (x - length s) (sym (at-later whole s t x h) ∙ w))
 
-  module _ (w : atAddress whole s t x ≡ true) where
-    from-size : atAddress lengthAt s t x ≡ recSize
-    from-size =
-        either s t x (atAddress lengthAt s t x ≡ recSize)
-        (λ h. at-first lengthAt s t x h ∙ whole-size s x (sym (at-first whole s t x h) ∙ w))
-        (λ h. at-later lengthAt s t x h ∙ whole-size t (x - length s) (sym (at-later whole s t x h) ∙ w))
-
-    from-part : Bytes s → Bytes t → atAddress recordPart s t x ≡ putRec (atAddress recAt s t x) []
-    from-part b c =
-        either s t x (atAddress recordPart s t x ≡ putRec (atAddress recAt s t x) [])
-        (λ h.
-        at-first recordPart s t x h
-        ∙ (part-record s x b (sym (at-first whole s t x h) ∙ w) ∙ ap (λ (r : Rec). putRec r []) (sym (at-first recAt s t x h))))
-        (λ h.
-        at-later recordPart s t x h
-        ∙ (part-record t (x - length s) c (sym (at-later whole s t x h) ∙ w)
-        ∙ ap (λ (r : Rec). putRec r []) (sym (at-later recAt s t x h))))
+  from-part : Bytes s → Bytes t → atAddress recordPart s t x ≡ putRec (atAddress recAt s t x) []
+  from-part b c =
+      either s t x (atAddress recordPart s t x ≡ putRec (atAddress recAt s t x) [])
+      (λ h.
+      at-first recordPart s t x h
+      ∙ (part-record s x b (sym (at-first whole s t x h) ∙ w) ∙ ap (λ (r : Rec). putRec r []) (sym (at-first recAt s t x h))))
+      (λ h.
+      at-later recordPart s t x h
+      ∙ (part-record t (x - length s) c (sym (at-later whole s t x h) ∙ w)
+      ∙ ap (λ (r : Rec). putRec r []) (sym (at-later recAt s t x h))))
 
 -- ---- all of them
 
@@ -84,11 +68,11 @@ unfolding putRecs
 put-more r rs = rec-append r (putRecs rs [])
 
 module _ (s t : List ℕ) where
-  copied-none : (d : List ℕ) (at : ℕ) → copied s t d at [] ≡ d
+  pub copied-none : (d : List ℕ) (at : ℕ) → copied s t d at [] ≡ d
   unfolding copied
   copied-none d at = refl
 
-  copied-more : (d : List ℕ) (at x : ℕ) (xs : List ℕ)
+  pub copied-more : (d : List ℕ) (at x : ℕ) (xs : List ℕ)
       → copied s t d at (x ∷ xs) ≡ copied s t (placed d at (atAddress recordPart s t x)) (at + atAddress lengthAt s t x) xs
   unfolding copied
   copied-more d at x xs = refl
@@ -152,53 +136,3 @@ module _ (s : List ℕ) (a : ℕ) (t : List ℕ) (b : ℕ) where
       (ap (λ (k : ℕ). take k (fronted d (joinAt s a t b))) e ∙ fronted-take d (joinAt s a t b) (omega (arith, e)))
       ∙ (copied-fits s t o at (joinAt s a t b) x y (joined-whole s a t b) h
       ∙ ap (λ (rs : List Rec). placed o at (putRecs rs [])) (joined-table s a t b))
-
--- ---- the code
-
--- one record, by the place that its address is
-module _ (s t : List ℕ) (x : ℕ) (d u : List ℕ) (to n : ℕ) where
-  pub first-copied : x < length s → n ≡ lengthAt s x → u ≡ placed d to (recordPart s x)
-      → (n ≡ atAddress lengthAt s t x) × (u ≡ placed d to (atAddress recordPart s t x))
-  first-copied h e f = (e ∙ sym (at-first lengthAt s t x h), f ∙ ap (placed d to) (sym (at-first recordPart s t x h)))
-
-  pub later-copied : length s ≤ x → n ≡ lengthAt t (x - length s) → u ≡ placed d to (recordPart t (x - length s))
-      → (n ≡ atAddress lengthAt s t x) × (u ≡ placed d to (atAddress recordPart s t x))
-  later-copied h e f = (e ∙ sym (at-later lengthAt s t x h), f ∙ ap (placed d to) (sym (at-later recordPart s t x h)))
-
-pub copied-most : (s t : List ℕ) (x n : ℕ) → n ≡ atAddress lengthAt s t x → n ≤ recSize
-copied-most s t x n e = omega (arith, e, from-most s t x)
-
-drop-past : (i : ℕ) (l : List ℕ) → length l ≤ i → drop i l ≡ []
-drop-past i [] h = drop-nil i
-drop-past zero (x ∷ l) h = absurd (omega arith)
-drop-past (suc i) (x ∷ l) h = drop-past i l (omega arith)
-
-module _ (s t : List ℕ) (chosen d : List ℕ) (at n : ℕ) where
-  pub copying-all : copied s t d at (take n chosen) ≡ copied s t d at (take (n - 0) (drop 0 chosen))
-  copying-all = let e : n ≡ n - 0 = omega arith in ap (λ (k : ℕ). copied s t d at (take k chosen)) e
-
-  module _ (u : List ℕ) (p i : ℕ) (inv : copied s t d at (take n chosen) ≡ copied s t u p (take (n - i) (drop i chosen))) where
-    pub copying-end : n ≤ i → u ≡ copied s t d at (take n chosen)
-    copying-end l =
-        let e : n - i ≡ 0 = omega arith in
-        sym (inv ∙ (ap (λ (k : ℕ). copied s t u p (take k (drop i chosen))) e ∙ copied-none s t u p))
-
-    pub copying-out : length u < p → u ≡ copied s t d at (take n chosen)
-    copying-out h = sym (inv ∙ copied-past s t u p (take (n - i) (drop i chosen)) h)
-
-    pub copying-past : length chosen ≤ i → u ≡ copied s t d at (take n chosen)
-    copying-past h =
-        sym (inv ∙ (ap (copied s t u p) (ap (take (n - i)) (drop-past i chosen h) ∙ take-nil (n - i)) ∙ copied-none s t u p))
-
-    pub copying-more : i < n → i < length chosen → (x m : ℕ) (v : List ℕ) → x ≡ getD chosen i 0 → m ≡ atAddress lengthAt s t x
-        → v ≡ placed u p (atAddress recordPart s t x)
-        → copied s t d at (take n chosen) ≡ copied s t v (p + m) (take (n - (i + 1)) (drop (i + 1) chosen))
-    copying-more l h x m v e f g =
-        let k : n - i ≡ suc (n - (i + 1)) = omega arith in
-        let j : drop i chosen ≡ x ∷ drop (i + 1) chosen =
-        drop-cons chosen i 0 h ∙ ap₂ {C = List ℕ} (λ (y j : ℕ). y ∷ drop j chosen) (sym e) (sym (add-one i)) in
-        inv
-        ∙ (ap₂ {C = List ℕ} (λ (c : ℕ) (l : List ℕ). copied s t u p (take c l)) k j
-        ∙ (copied-more s t u p x (take (n - (i + 1)) (drop (i + 1) chosen))
-        ∙ ap₂ {C = List ℕ} (λ (w : List ℕ) (q : ℕ). copied s t w q (take (n - (i + 1)) (drop (i + 1) chosen))) (sym g)
-        (ap (λ (q : ℕ). p + q) (sym f))))

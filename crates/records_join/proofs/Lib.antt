@@ -2,5 +2,6 @@
 pub mod Addresses
 pub mod JoinedTables
 pub mod Copies
+pub mod Runs
 pub mod Steps
 pub mod Written

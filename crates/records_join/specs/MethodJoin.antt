@@ -2,7 +2,7 @@
 -- other bytes t, counted from there. There is nothing to believe here: the laws `joined-table`, `joined-count`, `joined-size` and
 -- `joined-copied` say what these are in the terms of `replication`.
 use Rattle.codec.specs.Prelude.{ℕ, _+_, _-_, true, false, _≤_, _≡_, List, [], _∷_, _++_, ltb, length, take, drop}
-use Rattle.codec.specs.Part.{placed}
+use Rattle.codec.specs.Part.{placed, part}
 use Rattle.replication.specs.Record.{Rec}
 use Rattle.replication.specs.Reading.{recAt}
 use Rattle.replication.specs.Operate.{wins}
@@ -66,6 +66,10 @@ pub record Steps (s : List ℕ) (a : ℕ) (t : List ℕ) (b : ℕ) (r : Step) : 
   pub left : r .size + ((length s - r .first) + (length t - r .second)) ≤ (length s - a) + (length t - b)
 
 -- ---- what is written
+
+-- the n bytes from an address on, none where there are fewer
+unfoldable pub runPart : List ℕ → List ℕ → ℕ → ℕ → List ℕ
+runPart s t x n = atAddress (λ u y. part u y n) s t x
 
 -- a list with numbers at its front, as many as it has room for
 unfoldable pub fronted : List ℕ → List ℕ → List ℕ

@@ -6,14 +6,14 @@
 use codec::Item;
 use codec::Replica;
 ghost use mathlib.Core.Path.{_≡_};
+ghost use mathlib.Core.Bool.{true};
 ghost use mathlib.Core.List.{[]};
 ghost use Prim.Native.Nat.{_+_, _^_, _≤_, _<_};
 ghost use lib.ListN.{length, take, set};
 ghost use Rattle.codec.specs.Part.{placed};
 ghost use Rattle.replication.specs.Formats.{kindOf, putRec};
 ghost use Rattle.replication.specs.Queries.{lengthAt};
-ghost use Rattle.records.specs.Method.{recordPart};
-ghost use Rattle.records_join.specs.MethodJoin.{atAddress, sizeFrom, joinAt, Steps, fronted, copied};
+ghost use Rattle.records_join.specs.MethodJoin.{atAddress, sizeFrom, joinAt, Steps, fronted, runPart, copied};
 ghost use Rattle.codec.specs.MethodWritten.{Wrote};
 ghost use Rattle.records_join.specs.MethodWritten.{recordOf, putVersion, putVersions};
 
@@ -170,18 +170,72 @@ pub fn join(s: &[u8], a: usize, t: &[u8], b: usize, chosen: &mut [usize]) -> Ext
 
 // ---- the copy
 
-// The record at an address, into an output from a place on; its length.
-fn copy_from(s: &[u8], t: &[u8], x: usize, out: &mut [u8], to: usize) -> usize
+// The length of the record at an address, 0 where none stands there.
+fn length_from(s: &[u8], t: &[u8], x: usize) -> usize
     ensures { λ r. ⌜ r ≡ atAddress lengthAt (now (s .entry)) (now (t .entry)) x ⌝ }
-    ensures { λ _. ⌜ now (out .exit) ≡ placed (now (out .entry)) to (atAddress recordPart (now (s .entry)) (now (t .entry)) x) ⌝ }
 {
     if x < s.len() {
-        records::copy_record(s, x, out, to);
         return records::length_at(s, x);
     }
-    let b = x - s.len();
-    records::copy_record(t, b, out, to);
-    records::length_at(t, b)
+    records::length_at(t, x - s.len())
+}
+
+// Whether m bytes from an address x on end where the address y begins, both in the first bytes, which are n, or both in the second.
+fn goes_on(n: usize, x: usize, m: usize, y: usize) -> bool
+    ensures { λ r. ⌜ (r ≡ true → (y ≡ x + m) × (x < n → y < n)) ⌝ }
+{
+    if y < x {
+        return false;
+    }
+    if y - x != m {
+        return false;
+    }
+    if x < n {
+        return y < n;
+    }
+    true
+}
+
+// The m bytes from an address on, into an output from a place on.
+fn copy_run(s: &[u8], t: &[u8], x: usize, m: usize, out: &mut [u8], to: usize)
+    ensures { λ _. ⌜ now (out .exit) ≡ placed (now (out .entry)) to (runPart (now (s .entry)) (now (t .entry)) x m) ⌝ }
+{
+    if x < s.len() {
+        codec::copy_part(s, x, m, out, to);
+        return;
+    }
+    codec::copy_part(t, x - s.len(), m, out, to);
+}
+
+// The records at addresses, neighbours at once: m bytes from the address x on are still to be written, from the place p on.
+fn copy_all(s: &[u8], t: &[u8], chosen: &[usize], out: &mut [u8], at: usize)
+    requires { ⌜ at ≤ length (now out) ⌝ }
+    ensures { λ _. ⌜ now (out .exit) ≡ copied (now (s .entry)) (now (t .entry)) (now (out .entry)) at (now (chosen .entry)) ⌝ }
+{
+    if chosen.len() == 0 {
+        return;
+    }
+    let mut p = at;
+    let mut x = chosen[0];
+    let mut m: usize = 0;
+    let mut i: usize = 0;
+    while i < chosen.len() {
+        let y = chosen[i];
+        let k = length_from(s, t, y);
+        if codec::beyond(out.len(), p + m, k) {
+            break;
+        }
+        if goes_on(s.len(), x, m, y) {
+            m += k;
+        } else {
+            copy_run(s, t, x, m, out, p);
+            p += m;
+            x = y;
+            m = k;
+        }
+        i += 1;
+    }
+    copy_run(s, t, x, m, out, p);
 }
 
 // The records at the first n addresses, one after the other from a place of an output on; one that has no room is not written.
@@ -189,19 +243,14 @@ pub fn copy_picked(s: &[u8], t: &[u8], chosen: &[usize], n: usize, out: &mut [u8
     ensures { λ _. ⌜ now (out .exit)
         ≡ copied (now (s .entry)) (now (t .entry)) (now (out .entry)) at (take n (now (chosen .entry))) ⌝ }
 {
-    let mut p = at;
-    let mut i: usize = 0;
-    while i < n {
-        if chosen.len() <= i {
-            return;
-        }
-        if out.len() < p {
-            return;
-        }
-        let m = copy_from(s, t, chosen[i], out, p);
-        p += m;
-        i += 1;
+    if out.len() < at {
+        return;
     }
+    let mut end = n;
+    if chosen.len() < n {
+        end = chosen.len();
+    }
+    copy_all(s, t, &chosen[0..end], out, at);
 }
 
 // ---- a record written
