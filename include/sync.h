@@ -43,14 +43,15 @@ extern "C" {
 #define SYNC_LARGEST_STORE 37742
 #define SYNC_LARGEST_BATCH 52711
 
-/* No call takes more stack than this, in bytes. This is measured by tests/stack.c, not proved. */
+/* No call takes more stack than this, in bytes. This is measured, and read off the machine code, not proved. */
 #define SYNC_STACK 131072
 
 /*
  * The same for each call by itself: the stack that it took on the largest inputs, on x86-64, rounded up. This too is
  * measured, not proved. The rounding leaves room for the dynamic linker, which took 2.5 KiB more when a call was the
  * first to need memset or memcpy. tests/stack.c fails if a call takes more than its number, or if the number is far
- * above what the call takes.
+ * above what the call takes. tests/frames adds up the frames of the machine code along the calls, and fails if that is
+ * more than the number.
  */
 #define SYNC_STACK_CHECK 1024
 #define SYNC_STACK_CONTAIN 1024
