@@ -14,7 +14,7 @@ returns-2 : tie.Need-returns-2
 returns-2 c e = let z : _≡_ {A = ℕ} 0 1 = cc in absurd (omega arith)
 
 returns-3 : tie.Need-returns-3
-returns-3 c e = (omega arith, λ l. ltb-true _ _ e)
+returns-3 c e = (omega arith, λ l. omega (arith, ltb-true))
 
 pub goes-on-spec : {M : Type 1} → statement M
 goes-on-spec =
