@@ -5,7 +5,6 @@ use codec::Answer;
 use codec::Item;
 use codec::Replica;
 use codec::Span;
-use cover::Place;
 use layout::Limits;
 use store_open::KnowledgePart;
 use store_open::OpenedBatch;
@@ -67,10 +66,7 @@ fn covers_needed(
         middle: l1,
         low: l2,
     };
-    match cover::lacking(k, own.view, n, needed.view, Span { first, last }) {
-        Place::Nowhere => true,
-        Place::Here(_) => false,
-    }
+    cover::covers(k, own.view, n, needed.view, Span { first, last })
 }
 
 // Does a store's knowledge k know at least every tick of the store's own replica that a batch's learned knowledge l knows. The store's own
