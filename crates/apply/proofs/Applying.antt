@@ -39,11 +39,8 @@ use Rattle.lookup.specs.Method.{keyAt, tickFrom, Opens, Open}
 use Rattle.lookup.proofs.Leaf.{leaf-known}
 use Rattle.lookup_ranges.specs.Method.{topKeyOf}
 use Rattle.lookup_ranges.proofs.OneReplica.{top-key-covers}
-use Rattle.cover.specs.declared.Lack as D
-use Rattle.cover.specs.declared.Place.{Place}
-use Rattle.cover.specs.declared.Place.the-variants as O
-use Rattle.cover.specs.Method.{lackingBy, lackOf}
-use Rattle.cover.proofs.FirstLacking.{place-covers}
+use Rattle.cover.specs.Method.{coversBy}
+use Rattle.cover.proofs.Covering.{covers-is}
 use Rattle.codec.specs.MethodEnded.{Ended}
 use Rattle.codec.proofs.Ended.{ended-refused}
 use Rattle.records_join.specs.MethodJoin.{sizeFrom, joinAt, fronted}
@@ -75,19 +72,13 @@ item-is s at x y z w h = rw (w .high, w .middle, w .low) (read-id3 s at h)
 
 module _ (k : List ℕ) (r : ℕ) (c : Cursor) (n : List ℕ) (m : ℕ) (d : Cursor) (t : List ℕ) (a : Open k r c) (b : Open n m d)
     (header : batchNeeded ≤ length t) (span : firstId t ≤ lastId t) (f0 f1 f2 l0 l1 l2 : ℕ) (first : Words3 t 1 f0 f1 f2)
-    (last : Words3 t 25 l0 l1 l2) (p : Place) (e : lackOf p ≡ lackingBy k r c n m d (words3 f0 f1 f2) (words3 l0 l1 l2)) where
-  place : lackOf p ≡ lackingBy k r c n m d (firstId t) (lastId t)
-  place =
+    (last : Words3 t 25 l0 l1 l2) (z : Bool) (e : z ≡ coversBy k r c n m d (words3 f0 f1 f2) (words3 l0 l1 l2)) where
+  pub needed-covered : z ≡ covers (decode k) (decode n) (firstId t) (lastId t)
+  needed-covered =
       e
-      ∙ ap₂ (lackingBy k r c n m d) (item-is t 1 f0 f1 f2 first (omega (arith, header)))
+      ∙ ap₂ (coversBy k r c n m d) (item-is t 1 f0 f1 f2 first (omega (arith, header)))
       (item-is t 25 l0 l1 l2 last (omega (arith, header)))
-
-  pub needed-covered : p ≡ O.Nowhere → true ≡ covers (decode k) (decode n) (firstId t) (lastId t)
-  needed-covered f = sym (place-covers k r c n m d (firstId t) (lastId t) a b span p place .0 f)
-
-  pub needed-lacking : (l : D.Lack) → p ≡ O.Here l → false ≡ covers (decode k) (decode n) (firstId t) (lastId t)
-  needed-lacking l f =
-      sym (place-covers k r c n m d (firstId t) (lastId t) a b span p place .1 l f)
+      ∙ covers-is k r c n m d (firstId t) (lastId t) a b span
 
 -- ---- the own tick
 

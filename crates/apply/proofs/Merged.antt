@@ -24,11 +24,8 @@ use Rattle.lookup.specs.declared.Cursor.{Cursor}
 use Rattle.lookup.specs.declared.View.{View}
 use Rattle.lookup.specs.Method.{Open}
 use Rattle.lookup.proofs.Leaf.{opens-reading}
-use Rattle.cover.specs.declared.Lack as D
-use Rattle.cover.specs.declared.Place.{Place}
-use Rattle.cover.specs.declared.Place.the-variants as O
-use Rattle.cover.specs.Method.{lackingBy, lackOf}
-use Rattle.cover.proofs.FirstLacking.{place-covers}
+use Rattle.cover.specs.Method.{coversBy}
+use Rattle.cover.proofs.Covering.{covers-is}
 use Rattle.results.specs.MethodOpened.{Reads, resultOf}
 use Rattle.results.proofs.Copied.{opened-given}
 use Rattle.apply.specs.Method.{OwnAndLearned}
@@ -43,16 +40,10 @@ first-item : words3 0 0 0 ≡ 0
 unfolding words3
 first-item = refl
 
-module _ (k : List ℕ) (r : ℕ) (c : Cursor) (l : List ℕ) (m : ℕ) (d : Cursor) (a : Open k r c) (b : Open l m d) (p : Place)
-    (e : lackOf p ≡ lackingBy k r c l m d (words3 0 0 0) (words3 top top top)) where
-  place : lackOf p ≡ lackingBy k r c l m d 0 highest
-  place = e ∙ ap₂ (lackingBy k r c l m d) first-item highest-words
-
-  pub all-covered : p ≡ O.Nowhere → true ≡ covers (decode k) (decode l) 0 highest
-  all-covered f = sym (place-covers k r c l m d 0 highest a b (omega arith) p place .0 f)
-
-  pub some-lacking : (x : D.Lack) → p ≡ O.Here x → false ≡ covers (decode k) (decode l) 0 highest
-  some-lacking x f = sym (place-covers k r c l m d 0 highest a b (omega arith) p place .1 x f)
+pub all-covered : (k : List ℕ) (r : ℕ) (c : Cursor) (l : List ℕ) (m : ℕ) (d : Cursor) → Open k r c → Open l m d → (z : Bool)
+    → z ≡ coversBy k r c l m d (words3 0 0 0) (words3 top top top) → z ≡ covers (decode k) (decode l) 0 highest
+all-covered k r c l m d a b z e =
+    e ∙ ap₂ (coversBy k r c l m d) first-item highest-words ∙ covers-is k r c l m d 0 highest a b (omega arith)
 
 -- ---- bytes that were opened under limits are open
 

@@ -5,7 +5,6 @@ use codec::Answer;
 use codec::Item;
 use codec::Replica;
 use codec::Span;
-use cover::Place;
 use layout::Limits;
 use lookup::View;
 use store_open::KnowledgePart;
@@ -72,10 +71,7 @@ fn covers_needed(
         middle: l1,
         low: l2,
     };
-    match cover::lacking(k, own.view, n, needed.view, Span { first, last }) {
-        Place::Nowhere => true,
-        Place::Here(_) => false,
-    }
+    cover::covers(k, own.view, n, needed.view, Span { first, last })
 }
 
 // Does a store's knowledge k know at least every tick of the store's own replica that a batch's learned knowledge l knows. The store's own
@@ -122,10 +118,7 @@ fn covers_all(k: &[u8], v: View, l: &[u8], w: View) -> bool
         middle: TOP,
         low: TOP,
     };
-    let Place::Here(_) = cover::lacking(k, v, l, w, Span { first, last }) else {
-        return true;
-    };
-    false
+    cover::covers(k, v, l, w, Span { first, last })
 }
 
 // The knowledge of a store merged with a learned one: the store's own bytes where they cover that.

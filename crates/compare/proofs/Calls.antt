@@ -33,11 +33,11 @@ use Rattle.ticks.proofs.LawfulResults.{highest-words}
 use Rattle.lookup.specs.declared.Cursor.{Cursor}
 use Rattle.lookup.specs.Method.{Opens, Open, tickFrom}
 use Rattle.lookup.proofs.Leaf.{opens-reading, leaf-known}
-use Rattle.cover.specs.declared.Lack as D
-use Rattle.cover.specs.declared.Place.{Place}
-use Rattle.cover.specs.declared.Place.the-variants as O
-use Rattle.cover.specs.Method.{lackingBy, lackOf}
-use Rattle.cover.proofs.FirstLacking.{lacking-is}
+use Rattle.lacking.specs.declared.Lack as D
+use Rattle.lacking.specs.declared.Place.{Place}
+use Rattle.lacking.specs.declared.Place.the-variants as O
+use Rattle.lacking.specs.Method.{lackingBy, lackOf}
+use Rattle.lacking.proofs.FirstLacking.{lacking-is}
 use Rattle.compare.specs.declared.Alike.{Alike}
 use Rattle.compare.specs.declared.Alike.the-variants as L
 use Rattle.compare.specs.Method.{Reached, sizeOf, Compared}

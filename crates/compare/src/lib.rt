@@ -4,7 +4,7 @@
 use codec::Answer;
 use codec::Item;
 use codec::Span;
-use cover::Place;
+use lacking::Place;
 use layout::Limits;
 use lookup::Cursor;
 use lookup::Opened;
@@ -24,7 +24,7 @@ ghost use Rattle.ticks.specs.Meaning.{highest};
 ghost use Rattle.ticks.specs.Operations.{lacking};
 ghost use Rattle.ticks.specs.Compare.{orderOf, putLack, compareReply, orderValue};
 ghost use Rattle.lookup.specs.Method.{elementsHere, Opens, Open};
-ghost use Rattle.cover.specs.Method.{lackOf};
+ghost use Rattle.lacking.specs.Method.{lackOf};
 ghost use Rattle.compare.specs.Method.{Reached, SameBound, GoesOn, sizeOf, Compared};
 
 // a word that is full: the top item id is three of them
@@ -232,7 +232,7 @@ fn lacking_place(s: &[u8], v: View, t: &[u8], w: View, e: Alike) -> Place
         middle: TOP,
         low: TOP,
     };
-    cover::lacking(s, v, t, w, Span { first: i, last })
+    lacking::lacking(s, v, t, w, Span { first: i, last })
 }
 
 fn order_of(x: Place, y: Place) -> u32

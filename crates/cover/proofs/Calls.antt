@@ -1,25 +1,22 @@
 -- Cover from what was opened on, by any rules that accept both knowledges: the ids of a span are three words each, and each way
 -- that the call goes has its equation. Document 01's rules are those of its two numbers (`cover-basic`).
-use Prim.Native.Nat.{ℕ, zero, suc, _≤_, _<_}
+use Prim.Native.Nat.{ℕ, _≤_, _<_}
 use mathlib.Core.Path.{_≡_, refl, sym, ap, ap₂, _∙_}
 use mathlib.Core.Bool.{Bool, true, false}
 use mathlib.Core.List.{List}
 use native.Mathlib.Omega.{arith}
 use lib.Dec.{ltb}
-use lib.ListN.{length, getD, replicate, take, length-take}
-use lib.Seq.{getD-take}
+use lib.ListN.{length}
 use borrow.Author.Tests.{ltb-true, ltb-false}
 use Rattle.codec.specs.Number.{beAt}
-use Rattle.codec.specs.Total.{readAt}
 use Rattle.codec.specs.declared.Item.{Item}
 use Rattle.codec.specs.Ids.{itemOf, itemRead}
 use Rattle.codec.proofs.Ids.{item-there}
-use Rattle.codec.proofs.Total.{read-id3}
 use Rattle.layout.specs.Knowledge.{Rules, basic, base}
 use Rattle.layout.specs.Permitted.{rulesWithin}
 use Rattle.layout.specs.Decode.{decode}
 use Rattle.layout.proofs.Within.{basic-within}
-use Rattle.ticks.specs.Operations.{lacking, isNowhere}
+use Rattle.ticks.specs.Operations.{covers}
 use Rattle.ticks.specs.declared.Cover.{Cover}
 use Rattle.ticks.specs.declared.Cover.the-variants as E
 use Rattle.ticks.specs.Calls.{coverFound, coverAnswer}
@@ -29,31 +26,8 @@ use Rattle.ticks.proofs.ForRows.{cover-refuses-first, cover-refuses-second, cov
 use Rattle.lookup.specs.declared.Cursor.{Cursor}
 use Rattle.lookup.specs.Method.{Opens, Open}
 use Rattle.lookup.proofs.Leaf.{opens-reading}
-use Rattle.cover.specs.declared.Lack as D
-use Rattle.cover.specs.declared.Place.{Place}
-use Rattle.cover.specs.declared.Place.the-variants as O
-use Rattle.cover.specs.Method.{Keyed, Zeros, lackingBy, lackOf}
-use Rattle.cover.proofs.FirstLacking.{lacking-is}
-
--- Scratch
-
-zero-at : (n c : ℕ) → getD (replicate {A = ℕ} n 0) c 0 ≡ 0
-zero-at zero c = refl
-zero-at (suc n) zero = refl
-zero-at (suc n) (suc c) = zero-at n c
-
-pub zeros : (n : ℕ) → Zeros (replicate {A = ℕ} n 0)
-zeros n = record { is = zero-at n }
-
--- the keys that are looked for, and no more
-pub keyed-length : (s : List ℕ) (r : ℕ) (t : List ℕ) (m : ℕ) (keys : List ℕ) → Keyed s r t m keys → m ≡ length (take m keys)
-keyed-length s r t m keys h = omega (arith, length-take m keys, h .size)
-
-pub keyed-part : (s : List ℕ) (r : ℕ) (t : List ℕ) (m : ℕ) (keys : List ℕ) → Keyed s r t m keys → Keyed s r t m (take m keys)
-keyed-part s r t m keys h = record {
-  is = λ k l. getD-take m keys k 0 l ∙ h .is k l;
-  size = omega (arith, length-take m keys, h .size);
-}
+use Rattle.cover.specs.Method.{coversBy}
+use Rattle.cover.proofs.Covering.{covers-is}
 
 -- The ids of a span
 
@@ -98,22 +72,22 @@ module _ (R : Rules) (s t first last : List ℕ) where
             let n : itemOf j < itemOf i = ltb-true (itemOf j) (itemOf i) (sym is ∙ f) in
             bad (λ p. absurd (omega (arith, p .1 .1, item-is first i k ei, item-is last j l ej)))
 
-        module _ (inside : b ≡ false) (open-first : Open s r x) (open-second : Open t m y) (p : Place)
-            (e : lackOf p ≡ lackingBy s r x t m y (itemOf i) (itemOf j)) where
-          answer : coverAnswer R s t first last ≡ coverFound (isNowhere (lackOf p))
+        module _ (inside : b ≡ false) (open-first : Open s r x) (open-second : Open t m y) (a : Bool)
+            (e : a ≡ coversBy s r x t m y (itemOf i) (itemOf j)) where
+          answer : coverAnswer R s t first last ≡ coverFound a
+          unfolding covers
           answer =
               let n = proper i j b is inside in
-              let found = e ∙ lacking-is s r x t m y (itemOf i) (itemOf j) open-first open-second n in
+              let found = e ∙ covers-is s r x t m y (itemOf i) (itemOf j) open-first open-second n in
               cover-answers R s t first last r (o .v) (o .e) (o .g) (opens-reading R s r x o) m (q .v) (q .e) (q .g)
               (opens-reading R t m y q)
               (k, (l, omega (arith, item-is first i k ei, item-is last j l ej)))
-              ∙ ap (λ w. coverFound (isNowhere w))
-              (sym (found ∙ ap₂ (lacking (decode s) (decode t)) (item-is first i k ei) (item-is last j l ej)))
+              ∙ ap coverFound (sym (found ∙ ap₂ (covers (decode s) (decode t)) (item-is first i k ei) (item-is last j l ej)))
 
-          pub cover-yes : p ≡ O.Nowhere → E.Covers ≡ coverAnswer R s t first last
-          unfolding coverFound isNowhere lackOf
-          cover-yes f = sym (answer ∙ ap (λ w. coverFound (isNowhere (lackOf w))) f)
+          pub cover-yes : a ≡ true → E.Covers ≡ coverAnswer R s t first last
+          unfolding coverFound
+          cover-yes f = sym (answer ∙ ap coverFound f)
 
-          pub cover-no : (d : D.Lack) → p ≡ O.Here d → E.Lacks ≡ coverAnswer R s t first last
-          unfolding coverFound isNowhere lackOf
-          cover-no d f = sym (answer ∙ ap (λ w. coverFound (isNowhere (lackOf w))) f)
+          pub cover-no : a ≡ false → E.Lacks ≡ coverAnswer R s t first last
+          unfolding coverFound
+          cover-no f = sym (answer ∙ ap coverFound f)

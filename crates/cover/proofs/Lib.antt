@@ -1,5 +1,4 @@
--- The laws that the rows are proved by.
-pub mod Cells
-pub mod Walking
-pub mod FirstLacking
+-- The laws that cover is proved by.
+pub mod Steps
+pub mod Covering
 pub mod Calls

@@ -1,2 +1,2 @@
--- The method of the rows.
+-- The method of cover.
 pub mod Method

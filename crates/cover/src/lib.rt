@@ -1,56 +1,32 @@
-// Rows of ticks in the bytes of a knowledge, the first place where one knowledge lacks a tick of another, and cover.
+// Whether one knowledge knows everything that another knows in a span, and the call cover.
 //
-// Every public function is total. The keys of two knowledges meet through their ids only.
+// Every public function is total. The keys of two knowledges meet through their ids only. The elements of the second's vectors are
+// compared in place with those of the first's; nothing is copied.
 use codec::Item;
 use codec::Replica;
 use codec::Span;
 use layout::Limits;
 use layout::ReplicaKey;
+use layout::VectorIndex;
 use lookup::Cursor;
 use lookup::Opened;
 use lookup::View;
 use ticks::Cover;
 ghost use mathlib.Core.Path.{_≡_};
 ghost use mathlib.Core.Bool.{true};
-ghost use mathlib.Core.Option.{none};
 ghost use Prim.Native.Nat.{_+_, _*_, _^_, _≤_, _<_};
 ghost use lib.ListN.{length};
+ghost use Rattle.codec.specs.Number.{beAt};
 ghost use Rattle.codec.specs.Ids.{itemOf, replicaOf};
 ghost use Rattle.layout.specs.Knowledge.{Rules, basic};
 ghost use Rattle.layout.specs.Permitted.{rulesWithin};
-ghost use Rattle.ticks.specs.MethodRows.{lesser, leastWith, leastOf};
 ghost use Rattle.ticks.specs.Calls.{coverAnswer};
-ghost use Rattle.lookup.specs.Method.{elementAt, elementsHere, Opens, Open};
-ghost use Rattle.cover.specs.Method.{idFrom, levelOf, leastId, Blank, Zeros, RowWritten, Filled, Keyed, stopAt, boundOf, nearerOf, lackOf};
-ghost use Rattle.cover.specs.Method.{laidOut, LaidOut, walkFrom, lackingBy};
+ghost use Rattle.lookup.specs.Method.{elementsHere, tickOf, There, Opens, Open};
+ghost use Rattle.lacking.specs.Method.{Keyed, boundOf, LaidOut};
+ghost use Rattle.cover.specs.Method.{levelIn, noneAbove, hasBound, orderOf, turnOf, stepIf, clearFrom, coversBy};
 
-// a row has a cell for each key that a clock vector may have, and one for the key of no replica
-const CELLS: usize = layout::LARGEST_REPLICAS as usize + 1;
-
-// The least replica id that was met.
-pub enum Least {
-    Nothing,
-    Id(Replica),
-}
-
-// The next item at which a knowledge may change.
-pub enum Stop {
-    // none up to the end of the span
-    Past,
-    At(Item),
-}
-
-// An item and a replica of which a knowledge lacks ticks.
-pub struct Lack {
-    pub item: Item,
-    pub replica: Replica,
-}
-
-// The first place where the first knowledge knows less.
-pub enum Place {
-    Nowhere,
-    Here(Lack),
-}
+// scratch for the keys of the most replicas
+const CELLS: usize = layout::LARGEST_REPLICAS as usize;
 
 // ---- the key of an id
 
@@ -72,157 +48,53 @@ fn keys_of(s: &[u8], r: u32, t: &[u8], m: u32, keys: &mut [u32])
     }
 }
 
-// ---- the range of an item
-
-// The next bound, where it is not above the last item.
-fn bound_of(s: &[u8], c: Cursor, last: Item) -> Stop
-    requires { ⌜ c .next + 28 * c .left ≤ length (now s) ⌝ }
-    ensures { λ r. ⌜ stopAt r ≡ boundOf (now (s .entry)) c (itemOf last) ⌝ }
-{
-    if c.left == 0 {
-        return Stop::Past;
-    }
-    let next = c.next;
-    let high = leaves::eight(&s[next..next + 8]);
-    let middle = leaves::eight(&s[next + 8..next + 8 + 8]);
-    let low = leaves::eight(&s[next + 16..next + 16 + 8]);
-    if codec::less3(last.high, last.middle, last.low, high, middle, low) {
-        return Stop::Past;
-    }
-    Stop::At(Item { high, middle, low })
-}
-
-// The nearer of two stops.
-fn nearer(a: Stop, b: Stop) -> Stop
-    ensures { λ r. ⌜ stopAt r ≡ nearerOf (stopAt a) (stopAt b) ⌝ }
-{
-    let Stop::At(i) = a else {
-        return b;
-    };
-    let Stop::At(j) = b else {
-        return a;
-    };
-    if codec::less3(j.high, j.middle, j.low, i.high, i.middle, i.low) {
-        return b;
-    }
-    a
-}
-
-// ---- the row of a vector
-
-fn clear(row: &mut [u64])
-    ensures { λ _. ⌜ Blank (now (row .entry)) (now (row .exit)) ⌝ }
-{
-    let mut k: usize = 0;
-    while k < row.len() {
-        row[k] = 0;
-        k += 1;
-    }
-}
-
-// The ticks of the elements of the vector at a place, each in the cell of its key, from the last one to the first, in a row that
-// is clear.
-fn write_row(s: &[u8], vector: usize, row: &mut [u64])
-    requires { ⌜ Zeros (now row) ⌝ }
-    ensures { λ _. ⌜ RowWritten (now (s .entry)) vector (now (row .entry)) (now (row .exit)) ⌝ }
-{
-    let n = lookup::elements_at(s, vector);
-    if n == 0 {
-        return;
-    }
-    let mut left = n;
-    let mut at = vector + 8 + 12 * n;
-    while 0 < left {
-        at -= 12;
-        let key = leaves::four(&s[at..at + 4]) as usize;
-        if key < row.len() {
-            row[key] = leaves::eight(&s[at + 4..at + 4 + 8]);
-        }
-        left -= 1;
-    }
-}
-
-// The same in a row that was filled from the vector at another place, or the same.
-fn fill(s: &[u8], before: usize, vector: usize, row: &mut [u64])
-    ensures { λ _. ⌜ Filled (now (s .entry)) before vector (now (row .entry)) (now (row .exit)) ⌝ }
-{
-    if before == vector {
-        return;
-    }
-    clear(row);
-    write_row(s, vector, row);
-}
-
 // ---- what lacks at an item
 
-// The tick in the row of the first knowledge for a key of the second.
-fn level(keys: &[u32], row: &[u64], key: ReplicaKey) -> u64
-    ensures { λ r. ⌜ r ≡ levelOf (now (keys .entry)) (now (row .entry)) (key .0) ⌝ }
+// The tick of a key in the vector at a place with n elements. The element at the key's index is looked at here, and others where it is
+// another key's.
+fn tick_in(s: &[u8], vector: usize, n: usize, key: ReplicaKey) -> u64
+    requires { ⌜ There (now s) vector n ⌝ }
+    ensures { λ t. ⌜ t ≡ tickOf (now (s .entry)) vector key ⌝ }
+{
+    let guess = key.0 as usize;
+    if n <= guess {
+        return lookup::tick_at(&s[..], vector, key);
+    }
+    let at = vector + 8 + 12 * guess;
+    if leaves::four(&s[at..at + 4]) == key.0 as u64 {
+        return leaves::eight(&s[at + 4..at + 4 + 8]);
+    }
+    lookup::tick_at(&s[..], vector, key)
+}
+
+// The tick of the first knowledge, in the vector at a place with n elements, for a key of the second.
+fn level(keys: &[u32], s: &[u8], vector: usize, n: usize, key: ReplicaKey) -> u64
+    requires { ⌜ There (now s) vector n ⌝ }
+    ensures { λ t. ⌜ t ≡ levelIn (now (keys .entry)) (now (s .entry)) vector (key .0) ⌝ }
 {
     let k = key.0 as usize;
     if keys.len() <= k {
         return 0;
     }
     let other = ReplicaKey(keys[k]);
-    let c = other.0 as usize;
-    if row.len() <= c {
-        return 0;
-    }
-    row[c]
+    tick_in(s, vector, n, other)
 }
 
-fn lesser(best: Least, p: Replica) -> Least
-    ensures { λ r. ⌜ leastId r ≡ lesser (leastId best) (replicaOf p) ⌝ }
+// Is no element of t's vector at the place y above what the vector of s at the place x has for its replica.
+fn none_above(t: &[u8], y: usize, keys: &[u32], s: &[u8], x: usize) -> bool
+    ensures { λ b. ⌜ b ≡ noneAbove (levelIn (now (keys .entry)) (now (s .entry)) x) (elementsHere (now (t .entry)) y) ⌝ }
 {
-    let Least::Id(q) = best else {
-        return Least::Id(p);
-    };
-    if codec::less2(p.high, p.low, q.high, q.low) {
-        return Least::Id(p);
-    }
-    best
-}
-
-// The least lacking id so far, with the element at a place.
-fn least_with(t: &[u8], at: usize, keys: &[u32], row: &[u64], best: Least) -> Least
-    requires { ⌜ at + 12 ≤ length (now t) ⌝ }
-    ensures { λ r. ⌜ leastId r ≡ leastWith
-        (levelOf (now (keys .entry)) (now (row .entry)))
-        (idFrom (now (t .entry)))
-        (leastId best)
-        (elementAt (now (t .entry)) at) ⌝ }
-{
-    let n = leaves::four(&t[at..at + 4]) as u32;
-    let key = ReplicaKey(n);
-    let tick = leaves::eight(&t[at + 4..at + 4 + 8]);
-    if tick <= level(keys, row, key) {
-        return best;
-    }
-    let place = layout::IDS_PLACE + 16 * (n as usize);
-    let high = codec::read8(t, place);
-    let low = codec::read8(t, place + 8);
-    lesser(best, Replica { high, low })
-}
-
-// Is no element of the vector at a place above the row. This is what cover spends its time on; the least id is looked for
-// only where one is.
-fn none_above(t: &[u8], vector: usize, keys: &[u32], row: &[u64]) -> bool
-    ensures { λ r. ⌜ (r ≡ true → leastOf
-        (levelOf (now (keys .entry)) (now (row .entry)))
-        (idFrom (now (t .entry)))
-        none
-        (elementsHere (now (t .entry)) vector) ≡ none) ⌝ }
-{
-    let n = lookup::elements_at(t, vector);
+    let n = lookup::elements_at(t, y);
     if n == 0 {
         return true;
     }
+    let m = lookup::elements_at(s, x);
     let mut i: usize = 0;
-    let mut at = vector + 8;
+    let mut at = y + 8;
     while i < n {
         let k = leaves::four(&t[at..at + 4]) as u32;
         let key = ReplicaKey(k);
-        if level(keys, row, key) < leaves::eight(&t[at + 4..at + 4 + 8]) {
+        if level(keys, s, x, m, key) < leaves::eight(&t[at + 4..at + 4 + 8]) {
             return false;
         }
         at += 12;
@@ -231,111 +103,132 @@ fn none_above(t: &[u8], vector: usize, keys: &[u32], row: &[u64]) -> bool
     true
 }
 
-// The least id of an element of the vector at a place with a tick above the row's.
-fn least_lacking(t: &[u8], vector: usize, keys: &[u32], row: &[u64]) -> Least
-    ensures { λ r. ⌜ leastId r ≡ leastOf
-        (levelOf (now (keys .entry)) (now (row .entry)))
-        (idFrom (now (t .entry)))
-        none
-        (elementsHere (now (t .entry)) vector) ⌝ }
+// ---- the next stop
+
+// Is there a next bound, not above the last item.
+fn comes(s: &[u8], c: Cursor, last: Item) -> bool
+    requires { ⌜ c .next + 28 * c .left ≤ length (now s) ⌝ }
+    ensures { λ b. ⌜ b ≡ hasBound (boundOf (now (s .entry)) c (itemOf last)) ⌝ }
 {
-    if none_above(t, vector, keys, row) {
-        return Least::Nothing;
+    if c.left == 0 {
+        return false;
     }
-    let mut best = Least::Nothing;
-    let n = lookup::elements_at(t, vector);
-    if n == 0 {
-        return best;
-    }
-    let mut i: usize = 0;
-    let mut at = vector + 8;
-    while i < n {
-        best = least_with(t, at, keys, row, best);
-        at += 12;
-        i += 1;
-    }
-    best
+    let next = c.next;
+    let high = leaves::eight(&s[next..next + 8]);
+    let middle = leaves::eight(&s[next + 8..next + 8 + 8]);
+    let low = leaves::eight(&s[next + 16..next + 16 + 8]);
+    !codec::less3(last.high, last.middle, last.low, high, middle, low)
 }
 
-// ---- the first lacking place
-
-// Is there room for the replicas, and are all ids and ranges there.
-fn laid_out(s: &[u8], v: View) -> bool
-    ensures { λ b. ⌜ b ≡ laidOut (now (s .entry)) (v .r) (v .start) ⌝ }
+// Which of two bounds is the nearer: 0 the first, 2 the second, 1 both.
+fn order(s: &[u8], a: usize, t: &[u8], b: usize) -> u32
+    requires { ⌜ (a + 24 ≤ length (now s)) × (b + 24 ≤ length (now t)) ⌝ }
+    ensures { λ o. ⌜ o ≡ orderOf (beAt (now (s .entry)) 24 a) (beAt (now (t .entry)) 24 b) ⌝ }
 {
-    if layout::LARGEST_REPLICAS < v.r {
-        return false;
+    let a0 = leaves::eight(&s[a..a + 8]);
+    let a1 = leaves::eight(&s[a + 8..a + 8 + 8]);
+    let a2 = leaves::eight(&s[a + 16..a + 16 + 8]);
+    let b0 = leaves::eight(&t[b..b + 8]);
+    let b1 = leaves::eight(&t[b + 8..b + 8 + 8]);
+    let b2 = leaves::eight(&t[b + 16..b + 16 + 8]);
+    if codec::less3(a0, a1, a2, b0, b1, b2) {
+        return 0;
     }
-    if s.len() < layout::IDS_PLACE + 16 * (v.r as usize) {
-        return false;
+    if codec::less3(b0, b1, b2, a0, a1, a2) {
+        return 2;
     }
-    let c = v.start;
-    if s.len() < c.next {
-        return false;
-    }
-    28 * (c.left as usize) <= s.len() - c.next
+    1
 }
 
-// The first place of a span where the knowledge of s knows less than that of t, with a key among those of s for each of t,
-// and a row that is clear. Item by item: at the first one, and at each bound of either up to the last.
-fn walk(s: &[u8], v: View, t: &[u8], w: View, span: Span, keys: &[u32], row: &mut [u64]) -> Place
+// Whose bound is the next stop: 0 the first's, 2 the second's, 1 that of both, 3 none up to the last item.
+fn turn(s: &[u8], x: Cursor, t: &[u8], y: Cursor, last: Item) -> u32
+    requires { ⌜ (x .next + 28 * x .left ≤ length (now s)) × (y .next + 28 * y .left ≤ length (now t)) ⌝ }
+    ensures { λ o. ⌜ o ≡ turnOf (boundOf (now (s .entry)) x (itemOf last)) (boundOf (now (t .entry)) y (itemOf last)) ⌝ }
+{
+    let f = comes(s, x, last);
+    let g = comes(t, y, last);
+    if f {
+        if g {
+            return order(s, x.next, t, y.next);
+        }
+        return 0;
+    }
+    if g {
+        return 2;
+    }
+    3
+}
+
+// Past the next range, where the cursor is to go.
+fn step(s: &[u8], r: u32, c: Cursor, go: bool) -> Cursor
+    requires { ⌜ (c .next + 28 * c .left ≤ length (now s)) × (go ≡ true → 0 < c .left) ⌝ }
+    ensures { λ d. ⌜ d ≡ stepIf (now (s .entry)) r go c ⌝ }
+{
+    if !go {
+        return c;
+    }
+    let next = c.next;
+    let n = leaves::four(&s[next + 24..next + 24 + 4]) as u32;
+    let index = VectorIndex(n);
+    let vector = lookup::vector_place(&s[..], r, c.index, c.vector, index);
+    Cursor {
+        left: c.left - 1,
+        next: next + 28,
+        index,
+        vector,
+    }
+}
+
+// ---- whether there is a lacking place
+
+// Item by item: at the first one, and at each bound of either up to the last, with a key among those of s for each of t.
+fn walk(s: &[u8], v: View, t: &[u8], w: View, span: Span, keys: &[u32]) -> bool
     requires { ⌜ (v .start .next + 28 * v .start .left ≤ length (now s)) × (w .start .next + 28 * w .start .left ≤ length (now t))
-        × (Keyed (now s) (v .r) (now t) (w .r) (now keys)) × (w .r ≡ length (now keys)) × (Zeros (now row)) × (v .r < length (now row)) ⌝ }
-    ensures { λ a. ⌜ lackOf a ≡ walkFrom (now (s .entry)) (v .r) (v .start) (now (t .entry)) (w .r) (w .start)
+        × (Keyed (now s) (v .r) (now t) (w .r) (now keys)) × (w .r ≡ length (now keys)) ⌝ }
+    ensures { λ b. ⌜ b ≡ clearFrom (now (s .entry)) (v .r) (v .start) (now (t .entry)) (w .r) (w .start)
         (itemOf (span .first)) (itemOf (span .last)) ⌝ }
 {
     let r = v.r;
     let m = w.r;
     let last = span.last;
-    let mut i = span.first;
-    let mut x = lookup::advance(s, r, v.start, i);
-    let mut y = lookup::advance(t, m, w.start, i);
-    write_row(s, x.vector, row);
+    let mut x = lookup::advance(s, r, v.start, span.first);
+    let mut y = lookup::advance(t, m, w.start, span.first);
     loop {
-        let least = least_lacking(t, y.vector, keys, row);
-        if let Least::Id(p) = least {
-            return Place::Here(Lack {
-                item: i,
-                replica: p,
-            });
+        if !none_above(t, y.vector, keys, s, x.vector) {
+            return false;
         }
-        let stop = nearer(bound_of(s, x, last), bound_of(t, y, last));
-        let Stop::At(n) = stop else {
-            return Place::Nowhere;
-        };
-        let before = x.vector;
-        x = lookup::advance(s, r, x, n);
-        y = lookup::advance(t, m, y, n);
-        fill(s, before, x.vector, row);
-        i = n;
+        let o = turn(s, x, t, y, last);
+        if o == 3 {
+            return true;
+        }
+        x = step(s, r, x, o <= 1);
+        y = step(t, m, y, 1 <= o);
     }
 }
 
-// The same, with scratch for the keys and the row.
-fn search(s: &[u8], v: View, t: &[u8], w: View, span: Span) -> Place
+// The same, with scratch for the keys.
+fn search(s: &[u8], v: View, t: &[u8], w: View, span: Span) -> bool
     requires { ⌜ (LaidOut (now s) (v .r) (v .start)) × (LaidOut (now t) (w .r) (w .start)) ⌝ }
-    ensures { λ a. ⌜ lackOf a ≡ walkFrom (now (s .entry)) (v .r) (v .start) (now (t .entry)) (w .r) (w .start)
+    ensures { λ b. ⌜ b ≡ clearFrom (now (s .entry)) (v .r) (v .start) (now (t .entry)) (w .r) (w .start)
         (itemOf (span .first)) (itemOf (span .last)) ⌝ }
 {
     let mut keys = [0u32; CELLS];
-    let mut row = [0u64; CELLS];
     let m = w.r;
     keys_of(s, v.r, t, m, &mut keys);
-    walk(s, v, t, w, span, &keys[..m as usize], &mut row)
+    walk(s, v, t, w, span, &keys[..m as usize])
 }
 
-// The first place of a span where the knowledge of s knows less than the other, both opened before; nowhere where ids or ranges
-// are not all there.
-pub fn lacking(s: &[u8], v: View, other: &[u8], w: View, span: Span) -> Place
-    ensures { λ a. ⌜ lackOf a ≡ lackingBy (now (s .entry)) (v .r) (v .start) (now (other .entry)) (w .r) (w .start)
+// Does the knowledge of s know everything in a span that the other knows, both opened before; yes where ids or ranges are not all there.
+pub fn covers(s: &[u8], v: View, other: &[u8], w: View, span: Span) -> bool
+    ensures { λ b. ⌜ b ≡ coversBy (now (s .entry)) (v .r) (v .start) (now (other .entry)) (w .r) (w .start)
         (itemOf (span .first)) (itemOf (span .last)) ⌝ }
 {
-    if laid_out(s, v) {
-        if laid_out(other, w) {
+    if lacking::laid_out(s, v) {
+        if lacking::laid_out(other, w) {
             return search(s, v, other, w, span);
         }
     }
-    Place::Nowhere
+    true
 }
 
 // ---- cover
@@ -365,10 +258,10 @@ fn cover_in(s: &[u8], v: View, t: &[u8], w: View, first: &[u8], last: &[u8]) -> 
     if codec::less3(l.high, l.middle, l.low, f.high, f.middle, f.low) {
         return Cover::Refused(17);
     }
-    match lacking(s, v, t, w, Span { first: f, last: l }) {
-        Place::Nowhere => Cover::Covers,
-        Place::Here(_) => Cover::Lacks,
+    if covers(s, v, t, w, Span { first: f, last: l }) {
+        return Cover::Covers;
     }
+    Cover::Lacks
 }
 
 // Cover with limits of the caller's, where the first knowledge is accepted.

@@ -4,8 +4,8 @@ use mathlib.Core.Path.{_≡_, refl}
 use lib.ListN.{length, length-set}
 use Rattle.layout.specs.MethodPlaces.{idsPlace}
 use Rattle.leaves.proofs.Part.{part-is}
-use Rattle.cover.specs.Method.{Keyed}
-use Rattle.cover.proofs.Cells.{keyed-none, keyed-more}
+use Rattle.lacking.specs.Method.{Keyed}
+use Rattle.lacking.proofs.Cells.{keyed-none, keyed-more}
 use native.Mathlib.Omega.{arith}
 use Rattle.cover.proofs.keys_of.Statement.{statement}
 use Rattle.cover.proofs.keys_of.Tie as tie

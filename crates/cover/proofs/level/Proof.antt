@@ -1,28 +1,22 @@
--- `cover::level` meets its contract: the cell of the other key, 0 where there is none.
-use Rattle.cover.proofs.Cells.{level-none, level-short, level-is}
-use native.Mathlib.Omega.{arith}
+-- `cover::level` meets its contract: a key that there is none of has no tick.
+use mathlib.Core.Path.{refl}
+use Rattle.cover.proofs.Steps.{level-none, level-is}
+use borrow.Author.Needs.{needs}
 use Rattle.cover.proofs.level.Statement.{statement}
 use Rattle.cover.proofs.level.Tie as tie
 
 returns : tie.Need-returns
-returns c = level-none _ _ _ (omega arith)
+returns c = level-none _ _ _ _ (c .if1 .taken)
 
 returns-2 : tie.Need-returns-2
-returns-2 c = level-short _ _ _ (omega arith) (omega arith)
-
-returns-3 : tie.Need-returns-3
-returns-3 c = level-is _ _ _ (omega arith)
+returns-2 c = level-is _ _ _ _ _ _ (c .before .before .if1 .left) refl (c .tick-in .ensures)
 
 pub level-spec : {M : Type 1} → statement M
 level-spec =
-    tie.close
-    (tie.spec
-    (λ c. omega arith)  -- cast-k
+    tie.close (tie.spec
+    (λ c. search needs)  -- cast-k
     returns
-    (λ c. omega arith)  -- mul-t7
-    (λ c. omega arith)  -- shared-slice-read-t10
-    (λ c. omega arith)  -- cast-c
-    returns-2
-    (λ c. omega arith)  -- mul-result
-    (λ c. omega arith)  -- shared-slice-read-result
-    returns-3)
+    (λ c. search needs)  -- mul-t8
+    (λ c. search needs)  -- shared-slice-read-t11
+    (λ c κs. search needs)  -- tick-in-requires
+    returns-2)

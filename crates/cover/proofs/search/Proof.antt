@@ -1,7 +1,5 @@
--- `cover::search` meets its contract: with scratch that is clear, the walk over the span.
-use Prim.Native.Nat.{suc}
-use Rattle.layout.specs.Permitted.{largestReplicas}
-use Rattle.cover.proofs.Calls.{zeros, keyed-length, keyed-part}
+-- `cover::search` meets its contract: with scratch for the keys, the walk over the span.
+use Rattle.lacking.proofs.Calls.{keyed-length, keyed-part}
 use native.Mathlib.Omega.{arith}
 use Rattle.cover.proofs.search.Statement.{statement}
 use Rattle.cover.proofs.search.Tie as tie
@@ -19,18 +17,12 @@ slice-aggregate-walk c = keyed-length _ _ _ _ _ (c .before .before .keys-of .ens
 
 walk-requires : tie.Need-walk-requires
 walk-requires c κs =
-    let p = (c .before .before .before .before .before .before .before .pre) in
-    let k = (c .before .before .before .keys-of .ensures) in (
-      p .0 .ranges,
-      p .1 .ranges,
-      keyed-part _ _ _ _ _ k,
-      keyed-length _ _ _ _ _ k,
-      zeros (suc largestReplicas),
-      omega (arith, p .0 .small),
-    )
+    let p = (c .before .before .before .before .before .before .pre) in
+    let k = (c .before .before .keys-of .ensures) in
+    (p .0 .ranges, p .1 .ranges, keyed-part _ _ _ _ _ k, keyed-length _ _ _ _ _ k)
 
 returns : tie.Need-returns
-returns c = (c .before .walk .ensures)
+returns c = c .walk .ensures
 
 pub search-spec : {M : Type 1} → statement M
 search-spec =
@@ -41,6 +33,5 @@ search-spec =
     (λ c. omega arith)  -- cast-keys
     array-share-prefix-keys
     slice-aggregate-walk
-    (λ c. omega arith)  -- slice-aggregate-walk-2
     walk-requires
     returns)

@@ -1,127 +1,90 @@
 -- `cover::walk` meets its contract. The loop's invariant: the whole answer is the one from the item on to which both cursors have
--- come, and the row is the first one's there.
+-- come.
 use Prim.Native.Nat.{_+_}
-use mathlib.Core.Path.{_≡_, refl}
-use lib.ListN.{length}
+use mathlib.Core.Path.{_≡_}
+use borrow.Author.Tests.{not-true, not-false}
 use Rattle.codec.specs.Ids.{itemOf}
-use Rattle.cover.specs.Method.{walkBy}
-use Rattle.cover.proofs.Walking.{Walks, walk-starts, walk-whole, walk-here, walk-past, walk-on, walk-less}
-use native.Mathlib.Omega.{arith}
+use Rattle.cover.specs.Method.{clearBy}
+use Rattle.cover.proofs.Steps.{Clears, clears-starts, clears-whole, clears-not, clears-ends, clears-less, clears-on, first-goes, second-goes}
 use Rattle.cover.proofs.walk.Statement.{statement}
 use Rattle.cover.proofs.walk.Tie as tie
 
 abbrev Inv-loop : tie.InvT-loop
-Inv-loop s t keys row₀ r m last i₀ x₀ y₀ row i x y =
-    Walks s r t m (itemOf last) keys row x y (itemOf i)
-    (walkBy s r t m (itemOf last) (x₀ .left + y₀ .left) x₀ y₀ (itemOf i₀))
-    × (length row ≡ length row₀)
+Inv-loop s t keys r m last x₀ y₀ x y =
+    Clears s r t m (itemOf last) keys x y (clearBy s r t m (itemOf last) (x₀ .left + y₀ .left) x₀ y₀)
 
 abbrev μ-loop : tie.MeasureT-loop
-μ-loop s t keys row₀ r m last i₀ x₀ y₀ row i x y = x .left + y .left
-
-advance-requires : tie.Need-advance-requires Inv-loop μ-loop
-advance-requires c κs = tt
-
-advance-requires-2 : tie.Need-advance-requires-2 Inv-loop μ-loop
-advance-requires-2 c κs = tt
-
-write-row-requires : tie.Need-write-row-requires Inv-loop μ-loop
-write-row-requires c κs = (c .before .before .before .before .before .before .before .before .before .pre .4)
+μ-loop s t keys r m last x₀ y₀ x y = x .left + y .left
 
 loop-holds : tie.Need-loop-holds Inv-loop μ-loop
 loop-holds c =
-    let p = (c .before .before .before .before .before .before .before .before .before .before .before .before .pre) in (
-      walk-starts _ _ _ _ _ _ _ _ _ _ (c .before .before .before .before .before .advance .ensures)
-          (c .before .before .before .before .advance2 .ensures) _ _ _ (p .0) (p .1) (p .2) (p .3) (p .5)
-          (c .before .before .write-row .ensures),
-      refl,
-    )
-
-least-lacking-requires : tie.Need-least-lacking-requires Inv-loop μ-loop
-least-lacking-requires c κs = tt
-
-enum-known-least : tie.Need-enum-known-least Inv-loop μ-loop
-enum-known-least c = omega arith
-
-same-length : tie.Need-same-length Inv-loop μ-loop
-same-length c =
-    let b5 = c .before .before .before .before .before in
-    omega (arith, b5 .loop .inv .1, b5 .before .before .before .write-row .ensures .size)
+    let b6 = c .before .before .before .before .before .before in
+    clears-starts _ _ _ _ _ _ _ _ _ _ (c .before .advance .ensures) (c .advance2 .ensures) _ (b6 .pre .0) (b6 .pre .1)
+    (b6 .pre .2) (b6 .pre .3)
 
 returns : tie.Need-returns Inv-loop μ-loop
 returns c =
-    let b5 = c .before .before .before .before .before in
-    let b10 = b5 .before .before .before .before .before in
-    walk-whole _ _ _ _ _ _ _ _ _ _ (b10 .before .advance .ensures) (b10 .advance2 .ensures) _
-    (walk-here _ _ _ _ _ _ _ _ _ _ _ (b5 .loop .inv .0) _ (c .before .before .before .least-lacking .ensures) _ _ refl
-    (c .before .least .given .1))
+    let b2 = c .before .before in
+    let b3 = b2 .before in
+    let b4 = b3 .before in
+    clears-whole _ _ _ _ _ _ _ _ _ _ (b4 .advance .ensures) (b3 .advance2 .ensures) _
+    (clears-not _ _ _ _ _ _ _ _ _ (b2 .loop .inv) _ (c .before .none-above .ensures) (not-true _ (c .if1 .taken)))
 
-enum-told : tie.Need-enum-told Inv-loop μ-loop
-enum-told c = omega arith
-
-bound-of-requires : tie.Need-bound-of-requires Inv-loop μ-loop
-bound-of-requires c κs = c .before .before .before .before .loop .inv .0 .first
-
-bound-of-requires-2 : tie.Need-bound-of-requires-2 Inv-loop μ-loop
-bound-of-requires-2 c κs = c .before .before .before .before .before .loop .inv .0 .second
-
-nearer-requires : tie.Need-nearer-requires Inv-loop μ-loop
-nearer-requires c κs = tt
-
-enum-known-stop : tie.Need-enum-known-stop Inv-loop μ-loop
-enum-known-stop c = omega arith
-
-enum-told-2 : tie.Need-enum-told-2 Inv-loop μ-loop
-enum-told-2 c = omega arith
-
-same-length-2 : tie.Need-same-length-2 Inv-loop μ-loop
-same-length-2 c =
-    let b5 = c .before .before .before .before .before in
-    let b10 = b5 .before .before .before .before .before in
-    omega (arith, b5 .before .before .before .before .loop .inv .1, b10 .before .before .write-row .ensures .size)
+turn-requires : tie.Need-turn-requires Inv-loop μ-loop
+turn-requires c κs =
+    let b2 = c .before .before in
+    (b2 .loop .inv .first, b2 .loop .inv .second)
 
 returns-2 : tie.Need-returns-2 Inv-loop μ-loop
 returns-2 c =
-    let b5 = c .before .before .before .before .before in
-    let b10 = b5 .before .before .before .before .before in
-    let b15 = b10 .before .before .before .before .before in
-    walk-whole _ _ _ _ _ _ _ _ _ _ (b15 .advance .ensures)
-    (b10 .before .before .before .before .advance2 .ensures) _
-    (walk-past _ _ _ _ _ _ _ _ _ _ _ (b5 .before .before .before .before .loop .inv .0) _
-    (b5 .before .before .least-lacking .ensures) (b5 .enum-told .given .1) _ _ _
-    (c .before .before .before .before .bound-of .ensures) (c .before .before .before .bound-of2 .ensures)
-    (c .before .before .nearer .ensures) (c .enum-told2 .given .1))
+    let b2 = c .before .before in
+    let b3 = b2 .before in
+    let b4 = b3 .before in
+    let b5 = b4 .before in
+    let b6 = b5 .before in
+    clears-whole _ _ _ _ _ _ _ _ _ _ (b6 .advance .ensures) (b5 .advance2 .ensures) _
+    (clears-ends _ _ _ _ _ _ _ _ _ (b4 .loop .inv) _ (b3 .none-above .ensures) (not-false _ (b2 .if1 .left)) _ (c .before .turn .ensures) (c .if2 .taken))
 
-advance-requires-3 : tie.Need-advance-requires-3 Inv-loop μ-loop
-advance-requires-3 c κs = tt
+step-requires : tie.Need-step-requires Inv-loop μ-loop
+step-requires c κs =
+    let b2 = c .before .before in
+    let b3 = b2 .before in
+    let b4 = b3 .before in (
+      b4 .loop .inv .first,
+      first-goes _ _ _ _ _ _ _ _ _ (b4 .loop .inv) _ (b3 .none-above .ensures) (not-false _ (b2 .if1 .left))
+          _ (c .before .turn .ensures),
+    )
 
-advance-requires-4 : tie.Need-advance-requires-4 Inv-loop μ-loop
-advance-requires-4 c κs = tt
-
-fill-requires : tie.Need-fill-requires Inv-loop μ-loop
-fill-requires c κs = tt
+step-requires-2 : tie.Need-step-requires-2 Inv-loop μ-loop
+step-requires-2 c κs =
+    let b2 = c .before .before in
+    let b3 = b2 .before in
+    let b4 = b3 .before in
+    let b5 = b4 .before in (
+      b5 .loop .inv .second,
+      second-goes _ _ _ _ _ _ _ _ _ (b5 .loop .inv) _ (b4 .none-above .ensures)
+          (not-false _ (b3 .if1 .left)) _ (b2 .turn .ensures) (c .before .if2 .left),
+    )
 
 loop-less : tie.Need-loop-less Inv-loop μ-loop
 loop-less c =
-    let b5 = c .before .before .before .before .before in
-    let b10 = b5 .before .before .before .before .before in
-    let b15 = b10 .before .before .before .before .before in
-    walk-less _ _ _ _ _ _ _ _ _ _ _ (b15 .before .loop .inv .0) _ (b10 .before .before .before .before .least-lacking .ensures)
-    (b10 .before .before .enum-told .given .1) _ _ _ (b10 .before .bound-of .ensures) (b10 .bound-of2 .ensures)
-    (b5 .before .before .before .before .nearer .ensures) _ (b5 .before .before .stop .given .1) _ _ (b5 .advance3 .ensures)
-    (c .before .before .before .before .advance4 .ensures)
+    let b2 = c .before .before in
+    let b3 = b2 .before in
+    let b4 = b3 .before in
+    let b5 = b4 .before in
+    let b6 = b5 .before in
+    clears-less _ _ _ _ _ _ _ _ _ (b6 .loop .inv) _ (b5 .none-above .ensures) (not-false _ (b4 .if1 .left)) _ (b3 .turn .ensures)
+    (b2 .if2 .left) _ _ (c .before .step .ensures) (c .step2 .ensures)
 
 loop-again : tie.Need-loop-again Inv-loop μ-loop
 loop-again c =
-    let b5 = c .before .before .before .before .before in
-    let b10 = b5 .before .before .before .before .before in
-    let b15 = b10 .before .before .before .before .before in (
-      walk-on _ _ _ _ _ _ _ _ _ _ _ (b15 .before .loop .inv .0) _ (b10 .before .before .before .before .least-lacking .ensures)
-          (b10 .before .before .enum-told .given .1) _ _ _ (b10 .before .bound-of .ensures) (b10 .bound-of2 .ensures)
-          (b5 .before .before .before .before .nearer .ensures) _ (b5 .before .before .stop .given .1) _ _ (b5 .advance3 .ensures)
-          (c .before .before .before .before .advance4 .ensures) _ (c .before .before .fill .ensures),
-      omega (arith, b15 .before .loop .inv .1, c .before .before .fill .ensures .size),
-    )
+    let b2 = c .before .before in
+    let b3 = b2 .before in
+    let b4 = b3 .before in
+    let b5 = b4 .before in
+    let b6 = b5 .before in
+    clears-on _ _ _ _ _ _ _ _ _ (b6 .loop .inv) _ (b5 .none-above .ensures) (not-false _ (b4 .if1 .left)) _ (b3 .turn .ensures)
+    (b2 .if2 .left) _ _ (c .before .step .ensures) (c .step2 .ensures)
 
 pub walk-spec : {M : Type 1} → statement M
 walk-spec =
@@ -129,24 +92,14 @@ walk-spec =
     (tie.spec
     Inv-loop
     μ-loop
-    advance-requires
-    advance-requires-2
-    write-row-requires
+    (λ c κs. tt)  -- advance-requires
+    (λ c κs. tt)  -- advance-requires-2
     loop-holds
-    least-lacking-requires
-    enum-known-least
-    same-length
+    (λ c κs. tt)  -- none-above-requires
     returns
-    enum-told
-    bound-of-requires
-    bound-of-requires-2
-    nearer-requires
-    enum-known-stop
-    enum-told-2
-    same-length-2
+    turn-requires
     returns-2
-    advance-requires-3
-    advance-requires-4
-    fill-requires
+    step-requires
+    step-requires-2
     loop-less
     loop-again)

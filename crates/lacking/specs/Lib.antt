@@ -1,0 +1,2 @@
+-- The method of the rows.
+pub mod Method
