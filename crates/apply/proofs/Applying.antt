@@ -40,7 +40,7 @@ use Rattle.lookup.proofs.Leaf.{leaf-known}
 use Rattle.lookup_ranges.specs.Method.{topKeyOf}
 use Rattle.lookup_ranges.proofs.OneReplica.{top-key-covers}
 use Rattle.cover.specs.Method.{coversBy}
-use Rattle.cover.proofs.Covering.{covers-is}
+use Rattle.cover.proofs.Covering.{covers-is as by-places}
 use Rattle.codec.specs.MethodEnded.{Ended}
 use Rattle.codec.proofs.Ended.{ended-refused}
 use Rattle.records_join.specs.MethodJoin.{sizeFrom, joinAt, fronted}
@@ -78,7 +78,7 @@ module _ (k : List ℕ) (r : ℕ) (c : Cursor) (n : List ℕ) (m : ℕ) (d : Cur
       e
       ∙ ap₂ (coversBy k r c n m d) (item-is t 1 f0 f1 f2 first (omega (arith, header)))
       (item-is t 25 l0 l1 l2 last (omega (arith, header)))
-      ∙ covers-is k r c n m d (firstId t) (lastId t) a b span
+      ∙ by-places k r c n m d (firstId t) (lastId t) a b span
 
 -- ---- the own tick
 

@@ -21,63 +21,6 @@ abbrev μ-loop : tie.MeasureT-loop
 loop-holds : tie.Need-loop-holds Inv-loop μ-loop
 loop-holds c = (keyed-none _ _ _ _, omega arith, omega arith, refl, omega arith, omega arith)
 
-add-eight : tie.Need-add-eight Inv-loop μ-loop
-add-eight c = omega arith
-
-sub-eight : tie.Need-sub-eight Inv-loop μ-loop
-sub-eight c = omega arith
-
-part-eight-start : tie.Need-part-eight-start Inv-loop μ-loop
-part-eight-start c = omega arith
-
-part-eight-end : tie.Need-part-eight-end Inv-loop μ-loop
-part-eight-end c = omega arith
-
-eight-requires : tie.Need-eight-requires Inv-loop μ-loop
-eight-requires c κs = tt
-
-add-eight-2 : tie.Need-add-eight-2 Inv-loop μ-loop
-add-eight-2 c = omega arith
-
-add-eight-3 : tie.Need-add-eight-3 Inv-loop μ-loop
-add-eight-3 c = omega arith
-
-add-eight-4 : tie.Need-add-eight-4 Inv-loop μ-loop
-add-eight-4 c = omega arith
-
-sub-eight-2 : tie.Need-sub-eight-2 Inv-loop μ-loop
-sub-eight-2 c = omega arith
-
-part-eight-start-2 : tie.Need-part-eight-start-2 Inv-loop μ-loop
-part-eight-start-2 c = omega arith
-
-part-eight-end-2 : tie.Need-part-eight-end-2 Inv-loop μ-loop
-part-eight-end-2 c = omega arith
-
-eight-requires-2 : tie.Need-eight-requires-2 Inv-loop μ-loop
-eight-requires-2 c κs = tt
-
-key-of-requires : tie.Need-key-of-requires Inv-loop μ-loop
-key-of-requires c κs = tt
-
-cast-keys : tie.Need-cast-keys Inv-loop μ-loop
-cast-keys c = omega arith
-
-mul-keys : tie.Need-mul-keys Inv-loop μ-loop
-mul-keys c = omega arith
-
-slice-write-keys : tie.Need-slice-write-keys Inv-loop μ-loop
-slice-write-keys c = omega arith
-
-add-at : tie.Need-add-at Inv-loop μ-loop
-add-at c = omega arith
-
-add-n : tie.Need-add-n Inv-loop μ-loop
-add-n c = omega arith
-
-loop-less : tie.Need-loop-less Inv-loop μ-loop
-loop-less c = omega arith
-
 loop-again : tie.Need-loop-again Inv-loop μ-loop
 loop-again c = (
   keyed-more _ _ _ _ _ _ _ _ _ (c .before .before .before .before .before .before .before .before .before .loop .inv .0) (omega arith)
@@ -91,9 +34,6 @@ loop-again c = (
   omega arith,
 )
 
-same-length : tie.Need-same-length Inv-loop μ-loop
-same-length c = omega arith
-
 returns : tie.Need-returns Inv-loop μ-loop
 returns c =
     let e : c .before .before .loop .key .0 ≡ c .before .before .before .before .before .before .args .m = omega arith in
@@ -106,25 +46,25 @@ keys-of-spec =
     Inv-loop
     μ-loop
     loop-holds
-    add-eight
-    sub-eight
-    part-eight-start
-    part-eight-end
-    eight-requires
-    add-eight-2
-    add-eight-3
-    add-eight-4
-    sub-eight-2
-    part-eight-start-2
-    part-eight-end-2
-    eight-requires-2
-    key-of-requires
-    cast-keys
-    mul-keys
-    slice-write-keys
-    add-at
-    add-n
-    loop-less
+    (λ c. omega arith)  -- add-eight
+    (λ c. omega arith)  -- sub-eight
+    (λ c. omega arith)  -- part-eight-start
+    (λ c. omega arith)  -- part-eight-end
+    (λ c κs. tt)  -- eight-requires
+    (λ c. omega arith)  -- add-eight-2
+    (λ c. omega arith)  -- add-eight-3
+    (λ c. omega arith)  -- add-eight-4
+    (λ c. omega arith)  -- sub-eight-2
+    (λ c. omega arith)  -- part-eight-start-2
+    (λ c. omega arith)  -- part-eight-end-2
+    (λ c κs. tt)  -- eight-requires-2
+    (λ c κs. tt)  -- key-of-requires
+    (λ c. omega arith)  -- cast-keys
+    (λ c. omega arith)  -- mul-keys
+    (λ c. omega arith)  -- slice-write-keys
+    (λ c. omega arith)  -- add-at
+    (λ c. omega arith)  -- add-n
+    (λ c. omega arith)  -- loop-less
     loop-again
-    same-length
+    (λ c. omega arith)  -- same-length
     returns)

@@ -44,24 +44,20 @@ level-requires c κs =
 
 returns-2 : tie.Need-returns-2 Inv-loop μ-loop
 returns-2 c =
-    let b3 = c .before .before .before in
-    let b4 = b3 .before in
-    let b6 = b4 .before .before in
-    let b7 = b6 .before in
-    none-stop _ _ _ _ _ _ (b7 .loop .inv .0) _ _ _ (part-is _ _ _ _ (b4 .four .ensures .0) (omega arith))
-    (part-is _ _ _ _ (c .before .eight .ensures .0) (omega arith)) (b3 .level .ensures) (b6 .loop-test .taken) (c .if2 .taken)
+    let b4 = c .before .before .before .before in
+    none-stop _ _ _ _ _ _ (b4 .before .before .before .loop .inv .0) _ _ _
+    (part-is _ _ _ _ (b4 .four .ensures .0) (omega arith)) (part-is _ _ _ _ (c .before .eight .ensures .0) (omega arith))
+    (c .before .before .before .level .ensures) (b4 .before .before .loop-test .taken) (c .if2 .taken)
 
 loop-again : tie.Need-loop-again Inv-loop μ-loop
 loop-again c =
-    let b3 = c .before .before .before in
-    let b4 = b3 .before in
-    let b6 = b4 .before .before in
-    let b7 = b6 .before in (
-      none-next _ _ _ _ _ _ (b7 .loop .inv .0) _ _ _ (part-is _ _ _ _ (b4 .four .ensures .0) (omega arith))
-          (part-is _ _ _ _ (c .before .eight .ensures .0) (omega arith)) (b3 .level .ensures) (b6 .loop-test .taken) (c .if2 .left),
+    let b4 = c .before .before .before .before in (
+      none-next _ _ _ _ _ _ (b4 .before .before .before .loop .inv .0) _ _ _
+          (part-is _ _ _ _ (b4 .four .ensures .0) (omega arith)) (part-is _ _ _ _ (c .before .eight .ensures .0) (omega arith))
+          (c .before .before .before .level .ensures) (b4 .before .before .loop-test .taken) (c .if2 .left),
       omega arith,
       omega arith,
-      b7 .loop .inv .3,
+      b4 .before .before .before .loop .inv .3,
     )
 
 returns-3 : tie.Need-returns-3 Inv-loop μ-loop

@@ -8,48 +8,45 @@ use Rattle.cover.proofs.order.Tie as tie
 
 returns : tie.Need-returns
 returns c =
-    let b2 = c .before .before in
-    let b4 = b2 .before .before in
-    let b6 = b4 .before .before in
-    let b8 = b6 .before .before in
-    let b10 = b8 .before .before in
-    let b12 = b10 .before .before in
-    words-first _ _ _ _ _ _ _ _ _ _ (part-is _ _ _ _ (b12 .eight .ensures .0) (omega arith))
-    (part-is _ _ _ _ (b10 .eight2 .ensures .0) (omega arith)) (part-is _ _ _ _ (b8 .eight3 .ensures .0) (omega arith))
-    (part-is _ _ _ _ (b6 .eight4 .ensures .0) (omega arith)) (part-is _ _ _ _ (b4 .eight5 .ensures .0) (omega arith))
-    (part-is _ _ _ _ (b2 .eight6 .ensures .0) (omega arith)) _ (c .before .less3 .ensures) (c .if1 .taken)
+    let second = c .before .before in
+    let first = second .before .before .before .before .before .before in
+    let pre = first .before .before .before .before .before .before .before .before .pre in
+    words-first _ _ _ _ _ _ _ _ _ _
+    (part-is _ _ _ _ (first .before .before .before .before .eight .ensures .0) (omega (arith, pre .0)))
+    (part-is _ _ _ _ (first .before .before .eight2 .ensures .0) (omega (arith, pre .0)))
+    (part-is _ _ _ _ (first .eight3 .ensures .0) (omega (arith, pre .0)))
+    (part-is _ _ _ _ (second .before .before .before .before .eight4 .ensures .0) (omega (arith, pre .1)))
+    (part-is _ _ _ _ (second .before .before .eight5 .ensures .0) (omega (arith, pre .1)))
+    (part-is _ _ _ _ (second .eight6 .ensures .0) (omega (arith, pre .1)))
+    _ (c .before .less3 .ensures) (c .if1 .taken)
 
 returns-2 : tie.Need-returns-2
 returns-2 c =
-    let b2 = c .before .before in
-    let b3 = b2 .before in
-    let b4 = b3 .before in
-    let b6 = b4 .before .before in
-    let b8 = b6 .before .before in
-    let b10 = b8 .before .before in
-    let b12 = b10 .before .before in
-    let b14 = b12 .before .before in
-    words-second _ _ _ _ _ _ _ _ _ _ (part-is _ _ _ _ (b14 .eight .ensures .0) (omega arith))
-    (part-is _ _ _ _ (b12 .eight2 .ensures .0) (omega arith)) (part-is _ _ _ _ (b10 .eight3 .ensures .0) (omega arith))
-    (part-is _ _ _ _ (b8 .eight4 .ensures .0) (omega arith)) (part-is _ _ _ _ (b6 .eight5 .ensures .0) (omega arith))
-    (part-is _ _ _ _ (b4 .eight6 .ensures .0) (omega arith)) _ (b3 .less3 .ensures) (b2 .if1 .left) _
-    (c .before .less32 .ensures) (c .if2 .taken)
+    let second = c .before .before .before .before in
+    let first = second .before .before .before .before .before .before in
+    let pre = first .before .before .before .before .before .before .before .before .pre in
+    words-second _ _ _ _ _ _ _ _ _ _
+    (part-is _ _ _ _ (first .before .before .before .before .eight .ensures .0) (omega (arith, pre .0)))
+    (part-is _ _ _ _ (first .before .before .eight2 .ensures .0) (omega (arith, pre .0)))
+    (part-is _ _ _ _ (first .eight3 .ensures .0) (omega (arith, pre .0)))
+    (part-is _ _ _ _ (second .before .before .before .before .eight4 .ensures .0) (omega (arith, pre .1)))
+    (part-is _ _ _ _ (second .before .before .eight5 .ensures .0) (omega (arith, pre .1)))
+    (part-is _ _ _ _ (second .eight6 .ensures .0) (omega (arith, pre .1)))
+    _ (c .before .before .before .less3 .ensures) (c .before .before .if1 .left) _ (c .before .less32 .ensures) (c .if2 .taken)
 
 returns-3 : tie.Need-returns-3
 returns-3 c =
-    let b2 = c .before .before in
-    let b3 = b2 .before in
-    let b4 = b3 .before in
-    let b6 = b4 .before .before in
-    let b8 = b6 .before .before in
-    let b10 = b8 .before .before in
-    let b12 = b10 .before .before in
-    let b14 = b12 .before .before in
-    words-both _ _ _ _ _ _ _ _ _ _ (part-is _ _ _ _ (b14 .eight .ensures .0) (omega arith))
-    (part-is _ _ _ _ (b12 .eight2 .ensures .0) (omega arith)) (part-is _ _ _ _ (b10 .eight3 .ensures .0) (omega arith))
-    (part-is _ _ _ _ (b8 .eight4 .ensures .0) (omega arith)) (part-is _ _ _ _ (b6 .eight5 .ensures .0) (omega arith))
-    (part-is _ _ _ _ (b4 .eight6 .ensures .0) (omega arith)) _ (b3 .less3 .ensures) (b2 .if1 .left) _
-    (c .before .less32 .ensures) (c .if2 .left)
+    let second = c .before .before .before .before in
+    let first = second .before .before .before .before .before .before in
+    let pre = first .before .before .before .before .before .before .before .before .pre in
+    words-both _ _ _ _ _ _ _ _ _ _
+    (part-is _ _ _ _ (first .before .before .before .before .eight .ensures .0) (omega (arith, pre .0)))
+    (part-is _ _ _ _ (first .before .before .eight2 .ensures .0) (omega (arith, pre .0)))
+    (part-is _ _ _ _ (first .eight3 .ensures .0) (omega (arith, pre .0)))
+    (part-is _ _ _ _ (second .before .before .before .before .eight4 .ensures .0) (omega (arith, pre .1)))
+    (part-is _ _ _ _ (second .before .before .eight5 .ensures .0) (omega (arith, pre .1)))
+    (part-is _ _ _ _ (second .eight6 .ensures .0) (omega (arith, pre .1)))
+    _ (c .before .before .before .less3 .ensures) (c .before .before .if1 .left) _ (c .before .less32 .ensures) (c .if2 .left)
 
 pub order-spec : {M : Type 1} → statement M
 order-spec =

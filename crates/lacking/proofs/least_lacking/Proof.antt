@@ -21,14 +21,8 @@ Inv-loop t vector keys row best₀ n i₀ at₀ best i at =
 abbrev μ-loop : tie.MeasureT-loop
 μ-loop t vector keys row best₀ n i₀ at₀ best i at = n - i
 
-none-above-requires : tie.Need-none-above-requires Inv-loop μ-loop
-none-above-requires c κs = tt
-
 returns : tie.Need-returns Inv-loop μ-loop
 returns c = least-none-above _ (c .before .none-above .ensures (c .if1 .taken))
-
-elements-at-requires : tie.Need-elements-at-requires Inv-loop μ-loop
-elements-at-requires c κs = tt
 
 returns-2 : tie.Need-returns-2 Inv-loop μ-loop
 returns-2 c = least-nothing _ _ _ _ _ (c .before .elements-at .ensures) (c .if2 .taken)
@@ -42,18 +36,6 @@ loop-holds c = (
   omega arith,
   omega (arith, c .before .elements-at .ensures .room (omega arith)),
 )
-
-least-with-requires : tie.Need-least-with-requires Inv-loop μ-loop
-least-with-requires c κs = omega arith
-
-add-at-2 : tie.Need-add-at-2 Inv-loop μ-loop
-add-at-2 c = omega arith
-
-add-i : tie.Need-add-i Inv-loop μ-loop
-add-i c = omega arith
-
-loop-less : tie.Need-loop-less Inv-loop μ-loop
-loop-less c = omega arith
 
 loop-again : tie.Need-loop-again Inv-loop μ-loop
 loop-again c = (
@@ -71,15 +53,15 @@ least-lacking-spec =
     (tie.spec
     Inv-loop
     μ-loop
-    none-above-requires
+    (λ c κs. tt)  -- none-above-requires
     returns
-    elements-at-requires
+    (λ c κs. tt)  -- elements-at-requires
     returns-2
     add-at
     loop-holds
-    least-with-requires
-    add-at-2
-    add-i
-    loop-less
+    (λ c κs. omega arith)  -- least-with-requires
+    (λ c. omega arith)  -- add-at-2
+    (λ c. omega arith)  -- add-i
+    (λ c. omega arith)  -- loop-less
     loop-again
     returns-3)

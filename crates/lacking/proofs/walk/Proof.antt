@@ -19,12 +19,6 @@ Inv-loop s t keys row₀ r m last i₀ x₀ y₀ row i x y =
 abbrev μ-loop : tie.MeasureT-loop
 μ-loop s t keys row₀ r m last i₀ x₀ y₀ row i x y = x .left + y .left
 
-advance-requires : tie.Need-advance-requires Inv-loop μ-loop
-advance-requires c κs = tt
-
-advance-requires-2 : tie.Need-advance-requires-2 Inv-loop μ-loop
-advance-requires-2 c κs = tt
-
 write-row-requires : tie.Need-write-row-requires Inv-loop μ-loop
 write-row-requires c κs = (c .before .before .before .before .before .before .before .before .before .pre .4)
 
@@ -36,12 +30,6 @@ loop-holds c =
           (c .before .before .write-row .ensures),
       refl,
     )
-
-least-lacking-requires : tie.Need-least-lacking-requires Inv-loop μ-loop
-least-lacking-requires c κs = tt
-
-enum-known-least : tie.Need-enum-known-least Inv-loop μ-loop
-enum-known-least c = omega arith
 
 same-length : tie.Need-same-length Inv-loop μ-loop
 same-length c =
@@ -56,23 +44,11 @@ returns c =
     (walk-here _ _ _ _ _ _ _ _ _ _ _ (b5 .loop .inv .0) _ (c .before .before .before .least-lacking .ensures) _ _ refl
     (c .before .least .given .1))
 
-enum-told : tie.Need-enum-told Inv-loop μ-loop
-enum-told c = omega arith
-
 bound-of-requires : tie.Need-bound-of-requires Inv-loop μ-loop
 bound-of-requires c κs = c .before .before .before .before .loop .inv .0 .first
 
 bound-of-requires-2 : tie.Need-bound-of-requires-2 Inv-loop μ-loop
 bound-of-requires-2 c κs = c .before .before .before .before .before .loop .inv .0 .second
-
-nearer-requires : tie.Need-nearer-requires Inv-loop μ-loop
-nearer-requires c κs = tt
-
-enum-known-stop : tie.Need-enum-known-stop Inv-loop μ-loop
-enum-known-stop c = omega arith
-
-enum-told-2 : tie.Need-enum-told-2 Inv-loop μ-loop
-enum-told-2 c = omega arith
 
 same-length-2 : tie.Need-same-length-2 Inv-loop μ-loop
 same-length-2 c =
@@ -91,15 +67,6 @@ returns-2 c =
     (b5 .before .before .least-lacking .ensures) (b5 .enum-told .given .1) _ _ _
     (c .before .before .before .before .bound-of .ensures) (c .before .before .before .bound-of2 .ensures)
     (c .before .before .nearer .ensures) (c .enum-told2 .given .1))
-
-advance-requires-3 : tie.Need-advance-requires-3 Inv-loop μ-loop
-advance-requires-3 c κs = tt
-
-advance-requires-4 : tie.Need-advance-requires-4 Inv-loop μ-loop
-advance-requires-4 c κs = tt
-
-fill-requires : tie.Need-fill-requires Inv-loop μ-loop
-fill-requires c κs = tt
 
 loop-less : tie.Need-loop-less Inv-loop μ-loop
 loop-less c =
@@ -129,24 +96,24 @@ walk-spec =
     (tie.spec
     Inv-loop
     μ-loop
-    advance-requires
-    advance-requires-2
+    (λ c κs. tt)  -- advance-requires
+    (λ c κs. tt)  -- advance-requires-2
     write-row-requires
     loop-holds
-    least-lacking-requires
-    enum-known-least
+    (λ c κs. tt)  -- least-lacking-requires
+    (λ c. omega arith)  -- enum-known-least
     same-length
     returns
-    enum-told
+    (λ c. omega arith)  -- enum-told
     bound-of-requires
     bound-of-requires-2
-    nearer-requires
-    enum-known-stop
-    enum-told-2
+    (λ c κs. tt)  -- nearer-requires
+    (λ c. omega arith)  -- enum-known-stop
+    (λ c. omega arith)  -- enum-told-2
     same-length-2
     returns-2
-    advance-requires-3
-    advance-requires-4
-    fill-requires
+    (λ c κs. tt)  -- advance-requires-3
+    (λ c κs. tt)  -- advance-requires-4
+    (λ c κs. tt)  -- fill-requires
     loop-less
     loop-again)

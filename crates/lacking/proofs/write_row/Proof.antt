@@ -20,9 +20,6 @@ Inv-loop s vector row₀ n left₀ at₀ row left at =
 abbrev μ-loop : tie.MeasureT-loop
 μ-loop s vector row₀ n left₀ at₀ row left at = left
 
-elements-at-requires : tie.Need-elements-at-requires Inv-loop μ-loop
-elements-at-requires c κs = tt
-
 returns : tie.Need-returns Inv-loop μ-loop
 returns c =
     row-nothing _ _ _ _ (c .before .elements-at .ensures) (c .before .before .before .before .pre) (c .if1 .taken)
@@ -46,57 +43,6 @@ loop-holds c = (
   c .before .elements-at .ensures,
 )
 
-sub-at : tie.Need-sub-at Inv-loop μ-loop
-sub-at c = omega arith
-
-add-four : tie.Need-add-four Inv-loop μ-loop
-add-four c = omega arith
-
-sub-four : tie.Need-sub-four Inv-loop μ-loop
-sub-four c = omega arith
-
-part-four-start : tie.Need-part-four-start Inv-loop μ-loop
-part-four-start c = omega arith
-
-part-four-end : tie.Need-part-four-end Inv-loop μ-loop
-part-four-end c = omega arith
-
-four-requires : tie.Need-four-requires Inv-loop μ-loop
-four-requires c κs = tt
-
-add-eight : tie.Need-add-eight Inv-loop μ-loop
-add-eight c = omega arith
-
-add-eight-2 : tie.Need-add-eight-2 Inv-loop μ-loop
-add-eight-2 c = omega arith
-
-add-eight-3 : tie.Need-add-eight-3 Inv-loop μ-loop
-add-eight-3 c = omega arith
-
-sub-eight : tie.Need-sub-eight Inv-loop μ-loop
-sub-eight c = omega arith
-
-part-eight-start : tie.Need-part-eight-start Inv-loop μ-loop
-part-eight-start c = omega arith
-
-part-eight-end : tie.Need-part-eight-end Inv-loop μ-loop
-part-eight-end c = omega arith
-
-eight-requires : tie.Need-eight-requires Inv-loop μ-loop
-eight-requires c κs = tt
-
-mul-row : tie.Need-mul-row Inv-loop μ-loop
-mul-row c = omega arith
-
-slice-write-row : tie.Need-slice-write-row Inv-loop μ-loop
-slice-write-row c = omega arith
-
-sub-left : tie.Need-sub-left Inv-loop μ-loop
-sub-left c = omega arith
-
-loop-less : tie.Need-loop-less Inv-loop μ-loop
-loop-less c = omega arith
-
 loop-again : tie.Need-loop-again Inv-loop μ-loop
 loop-again c =
     let l = c .before .before .before .before .loop in
@@ -114,9 +60,6 @@ loop-again c =
     (omega arith) f after (x .0 .left) (x .1)) (c .if2 .came) in
     (w .cells, omega arith, omega arith, omega (arith, w .size), omega arith, l .inv .5)
 
-same-length : tie.Need-same-length Inv-loop μ-loop
-same-length c = omega arith
-
 returns-2 : tie.Need-returns-2 Inv-loop μ-loop
 returns-2 c = row-whole _ _ _ _ (c .before .loop .inv .5) _ _ _ (c .before .loop .inv .0) (omega arith) (omega arith) (omega arith)
 
@@ -126,29 +69,29 @@ write-row-spec =
     (tie.spec
     Inv-loop
     μ-loop
-    elements-at-requires
+    (λ c κs. tt)  -- elements-at-requires
     returns
     add-at
     mul-at
     add-at-2
     loop-holds
-    sub-at
-    add-four
-    sub-four
-    part-four-start
-    part-four-end
-    four-requires
-    add-eight
-    add-eight-2
-    add-eight-3
-    sub-eight
-    part-eight-start
-    part-eight-end
-    eight-requires
-    mul-row
-    slice-write-row
-    sub-left
-    loop-less
+    (λ c. omega arith)  -- sub-at
+    (λ c. omega arith)  -- add-four
+    (λ c. omega arith)  -- sub-four
+    (λ c. omega arith)  -- part-four-start
+    (λ c. omega arith)  -- part-four-end
+    (λ c κs. tt)  -- four-requires
+    (λ c. omega arith)  -- add-eight
+    (λ c. omega arith)  -- add-eight-2
+    (λ c. omega arith)  -- add-eight-3
+    (λ c. omega arith)  -- sub-eight
+    (λ c. omega arith)  -- part-eight-start
+    (λ c. omega arith)  -- part-eight-end
+    (λ c κs. tt)  -- eight-requires
+    (λ c. omega arith)  -- mul-row
+    (λ c. omega arith)  -- slice-write-row
+    (λ c. omega arith)  -- sub-left
+    (λ c. omega arith)  -- loop-less
     loop-again
-    same-length
+    (λ c. omega arith)  -- same-length
     returns-2)

@@ -34,28 +34,13 @@ add-at-2 c = omega (arith, there-inside _ _ _ _ (c .before .before .before .befo
 add-four : tie.Need-add-four Inv-loop μ-loop
 add-four c = omega (arith, there-inside _ _ _ _ (c .before .before .before .before .pre) (c .loop-test .taken))
 
-sub-four : tie.Need-sub-four Inv-loop μ-loop
-sub-four c = omega arith
-
-part-four-start : tie.Need-part-four-start Inv-loop μ-loop
-part-four-start c = omega arith
-
 part-four-end : tie.Need-part-four-end Inv-loop μ-loop
 part-four-end c = omega (arith, there-inside _ _ _ _ (c .before .before .before .before .pre) (c .loop-test .taken))
-
-four-requires : tie.Need-four-requires Inv-loop μ-loop
-four-requires c κs = tt
-
-cast-if1 : tie.Need-cast-if1 Inv-loop μ-loop
-cast-if1 c = omega arith
 
 add-write8 : tie.Need-add-write8 Inv-loop μ-loop
 add-write8 c =
     let b5 = c .before .before .before .before .before in
     omega (arith, there-inside _ _ _ _ (b5 .before .before .before .before .pre) (b5 .loop-test .taken))
-
-write8-requires : tie.Need-write8-requires Inv-loop μ-loop
-write8-requires c κs = tt
 
 same-length : tie.Need-same-length Inv-loop μ-loop
 same-length c =
@@ -70,12 +55,6 @@ returns c =
     let room = there-inside _ _ _ _ (b8 .before .before .before .before .pre) took in
     first-found _ _ _ _ _ _ _ _ (b8 .before .loop .inv .0) took _ _ refl (part-is _ _ _ _ (b4 .before .before .four .ensures .0) (omega (arith, room)))
     _ (b4 .if1 .taken) (c .before .before .write8 .ensures)
-
-add-i : tie.Need-add-i Inv-loop μ-loop
-add-i c = omega arith
-
-loop-less : tie.Need-loop-less Inv-loop μ-loop
-loop-less c = omega arith
 
 loop-again : tie.Need-loop-again Inv-loop μ-loop
 loop-again c =
@@ -104,17 +83,17 @@ write-first-spec =
     mul-at
     add-at-2
     add-four
-    sub-four
-    part-four-start
+    (λ c. omega arith)  -- sub-four
+    (λ c. omega arith)  -- part-four-start
     part-four-end
-    four-requires
-    cast-if1
+    (λ c κs. tt)  -- four-requires
+    (λ c. omega arith)  -- cast-if1
     add-write8
-    write8-requires
+    (λ c κs. tt)  -- write8-requires
     same-length
     returns
-    add-i
-    loop-less
+    (λ c. omega arith)  -- add-i
+    (λ c. omega arith)  -- loop-less
     loop-again
     same-length-2
     returns-2)

@@ -21,9 +21,6 @@ abbrev μ-loop : tie.MeasureT-loop
 loop-holds : tie.Need-loop-holds Inv-loop μ-loop
 loop-holds c = (vectors-start _ _ _ _ _ _, refl, omega arith)
 
-elements-at-requires : tie.Need-elements-at-requires Inv-loop μ-loop
-elements-at-requires c κs = tt
-
 write-tick-requires : tie.Need-write-tick-requires Inv-loop μ-loop
 write-tick-requires c κs = c .before .elements-at .ensures
 
@@ -44,12 +41,6 @@ add-at-2 c =
     let b4 = c .before .before .before .before in
     let b6 = b4 .before .before in
     omega (arith, there-next _ (b6 .before .before .before .args .start) _ _ _ (b4 .elements-at .ensures) (b6 .loop .inv .2))
-
-add-k : tie.Need-add-k Inv-loop μ-loop
-add-k c = omega arith
-
-loop-less : tie.Need-loop-less Inv-loop μ-loop
-loop-less c = omega arith
 
 loop-again : tie.Need-loop-again Inv-loop μ-loop
 loop-again c =
@@ -74,13 +65,13 @@ write-ticks-spec =
     Inv-loop
     μ-loop
     loop-holds
-    elements-at-requires
+    (λ c κs. tt)  -- elements-at-requires
     write-tick-requires
     add-at
     mul-at
     add-at-2
-    add-k
-    loop-less
+    (λ c. omega arith)  -- add-k
+    (λ c. omega arith)  -- loop-less
     loop-again
     same-length
     returns)

@@ -48,15 +48,6 @@ returns c =
     (sym (not-true _ (c .if1 .taken))
     ∙ follows-asked _ _ _ _ _ _ (i .follows) some _ (c .before .before .move-on .ensures) _ _ (c .before .asked-by .ensures))
 
-behind-requires : tie.Need-behind-requires Inv-loop μ-loop
-behind-requires c κs = tt
-
-sub-left : tie.Need-sub-left Inv-loop μ-loop
-sub-left c = omega arith
-
-loop-less : tie.Need-loop-less Inv-loop μ-loop
-loop-less c = omega arith
-
 loop-again : tie.Need-loop-again Inv-loop μ-loop
 loop-again c =
     let moved = c .before .before .before in
@@ -80,8 +71,8 @@ each-by-spec =
     move-on-requires
     asked-by-requires
     returns
-    behind-requires
-    sub-left
-    loop-less
+    (λ c κs. tt)  -- behind-requires
+    (λ c. omega arith)  -- sub-left
+    (λ c. omega arith)  -- loop-less
     loop-again
     returns-2)

@@ -13,12 +13,6 @@ Inv-loop k r n places₀ j₀ at₀ places j at = Filling k r n j at places × (
 abbrev μ-loop : tie.MeasureT-loop
 μ-loop k r n places₀ j₀ at₀ places j at = n - j
 
-mul-at : tie.Need-mul-at Inv-loop μ-loop
-mul-at c = omega arith
-
-add-at : tie.Need-add-at Inv-loop μ-loop
-add-at c = omega arith
-
 loop-holds : tie.Need-loop-holds Inv-loop μ-loop
 loop-holds c = (filling-start _ _ _ _ (c .before .before .pre), refl)
 
@@ -27,15 +21,6 @@ mul-places c = omega (arith, c .before .loop .inv .0 .room)
 
 slice-write-places : tie.Need-slice-write-places Inv-loop μ-loop
 slice-write-places c = omega (arith, c .before .loop .inv .0 .room)
-
-next-vector-requires : tie.Need-next-vector-requires Inv-loop μ-loop
-next-vector-requires c κs = tt
-
-add-j : tie.Need-add-j Inv-loop μ-loop
-add-j c = omega arith
-
-loop-less : tie.Need-loop-less Inv-loop μ-loop
-loop-less c = omega arith
 
 loop-again : tie.Need-loop-again Inv-loop μ-loop
 loop-again c = (
@@ -55,14 +40,14 @@ fill-places-spec =
     (tie.spec
     Inv-loop
     μ-loop
-    mul-at
-    add-at
+    (λ c. omega arith)  -- mul-at
+    (λ c. omega arith)  -- add-at
     loop-holds
     mul-places
     slice-write-places
-    next-vector-requires
-    add-j
-    loop-less
+    (λ c κs. tt)  -- next-vector-requires
+    (λ c. omega arith)  -- add-j
+    (λ c. omega arith)  -- loop-less
     loop-again
     same-length
     returns)

@@ -22,44 +22,8 @@ abbrev μ-loop : tie.MeasureT-loop
 loop-holds : tie.Need-loop-holds Inv-loop μ-loop
 loop-holds c = (refl, omega arith)
 
-below-requires : tie.Need-below-requires Inv-loop μ-loop
-below-requires c κs = omega arith
-
 returns : tie.Need-returns Inv-loop μ-loop
 returns c = pass-stop _ _ _ _ _ _ _ (c .before .before .before .loop .inv .0) _ (c .before .below .ensures) (c .if1 .taken)
-
-add-four : tie.Need-add-four Inv-loop μ-loop
-add-four c = omega arith
-
-add-four-2 : tie.Need-add-four-2 Inv-loop μ-loop
-add-four-2 c = omega arith
-
-add-four-3 : tie.Need-add-four-3 Inv-loop μ-loop
-add-four-3 c = omega arith
-
-sub-four : tie.Need-sub-four Inv-loop μ-loop
-sub-four c = omega arith
-
-part-four-start : tie.Need-part-four-start Inv-loop μ-loop
-part-four-start c = omega arith
-
-part-four-end : tie.Need-part-four-end Inv-loop μ-loop
-part-four-end c = omega arith
-
-four-requires : tie.Need-four-requires Inv-loop μ-loop
-four-requires c κs = search needs
-
-cast-n : tie.Need-cast-n Inv-loop μ-loop
-cast-n c = omega arith
-
-add-next : tie.Need-add-next Inv-loop μ-loop
-add-next c = omega arith
-
-sub-left : tie.Need-sub-left Inv-loop μ-loop
-sub-left c = omega arith
-
-loop-less : tie.Need-loop-less Inv-loop μ-loop
-loop-less c = omega arith
 
 loop-again : tie.Need-loop-again Inv-loop μ-loop
 loop-again c =
@@ -80,18 +44,18 @@ pass-spec =
     Inv-loop
     μ-loop
     loop-holds
-    below-requires
+    (λ c κs. omega arith)  -- below-requires
     returns
-    add-four
-    add-four-2
-    add-four-3
-    sub-four
-    part-four-start
-    part-four-end
-    four-requires
-    cast-n
-    add-next
-    sub-left
-    loop-less
+    (λ c. omega arith)  -- add-four
+    (λ c. omega arith)  -- add-four-2
+    (λ c. omega arith)  -- add-four-3
+    (λ c. omega arith)  -- sub-four
+    (λ c. omega arith)  -- part-four-start
+    (λ c. omega arith)  -- part-four-end
+    (λ c κs. search needs)  -- four-requires
+    (λ c. omega arith)  -- cast-n
+    (λ c. omega arith)  -- add-next
+    (λ c. omega arith)  -- sub-left
+    (λ c. omega arith)  -- loop-less
     loop-again
     returns-2)
