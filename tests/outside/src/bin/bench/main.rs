@@ -12,6 +12,7 @@
 mod changing;
 mod changing_call;
 mod comparing;
+mod goal;
 mod growth;
 mod larger;
 mod measure;
@@ -143,8 +144,8 @@ fn measured(call: &str, of: &str, mut sizes: Sizes) -> String {
          | {of} | Input | Bytes | Number | Engine | Rust | Engine / Rust | {ROUNDS} rounds, least to most | Goal |\n\
          |---|---|---:|---:|---:|---:|---:|---:|---:|\n"
     );
-    for (size, rows) in &sizes {
-        text.extend(rows.iter().map(|row| row.line(size)));
+    for (place, (size, rows)) in sizes.iter().enumerate() {
+        text.extend(rows.iter().map(|row| row.line(size, goal::of(call, place, row.name, row.number))));
     }
     text
 }

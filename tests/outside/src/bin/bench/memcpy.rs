@@ -9,7 +9,7 @@ use crate::measure::{ROUNDS, Times};
 use crate::stores::{self, Sample};
 
 /// How many copies an apply may take.
-const GOAL: u32 = 6;
+const GOAL: u32 = 7;
 
 struct Row {
     store: Vec<u8>,

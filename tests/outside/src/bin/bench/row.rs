@@ -28,7 +28,7 @@ pub struct Row {
     pub name: &'static str,
     asked: Asked,
     /// The number that is given, 0 for acceptance.
-    number: u32,
+    pub number: u32,
     pub times: Times,
 }
 
@@ -144,15 +144,9 @@ impl Row {
     }
 
     /// A line of a table.
-    pub fn line(&self, size: &str) -> String {
-        format!(
-            "| {size} | {} | {} | {} | {} | {} |\n",
-            self.name,
-            self.bytes(),
-            self.number,
-            self.times.cells(),
-            if self.number == 0 { "0.8" } else { "1.0" },
-        )
+    pub fn line(&self, size: &str, goal: &str) -> String {
+        let (name, bytes, number) = (self.name, self.bytes(), self.number);
+        format!("| {size} | {name} | {bytes} | {number} | {} | {goal} |\n", self.times.cells())
     }
 
     /// How many bytes the knowledges, stores and batches have together.
