@@ -1,7 +1,7 @@
 /*
  * How much stack each call of the engine takes: it runs on a stack of its own that is filled with a pattern, and what the pattern has lost
- * is counted. The inputs are as large as they can be. Fails if a call takes more than the header says of it, or so much less that the
- * header should say less. Prints the most of all of them; with any argument, each of them.
+ * is counted. The inputs are as large as they can be, and such that nothing is copied instead of built. Fails if a call takes more than
+ * the header says of it, or so much less that the header should say less. Prints the most of all of them; with any argument, each of them.
  */
 
 #define _XOPEN_SOURCE 700
@@ -17,10 +17,10 @@ enum { PROMISED = SYNC_STACK, ROOM = 8 * PROMISED, PATTERN = 0xa5 };
 enum { REPLICAS = 16, RANGES = 64, RECORDS = 256 };
 
 static uint8_t stack[ROOM];
-static uint8_t knowledge[SYNC_LARGEST_KNOWLEDGE], other[SYNC_LARGEST_KNOWLEDGE];
-static uint8_t store[SYNC_LARGEST_STORE], batch[SYNC_LARGEST_BATCH], out[SYNC_LARGEST_BATCH];
-static uint64_t knowledge_n, other_n, store_n, batch_n;
-static uint8_t first[24], last[24], item[24], replica[16], tag[16];
+static uint8_t knowledge[SYNC_LARGEST_KNOWLEDGE], other[SYNC_LARGEST_KNOWLEDGE], falling[SYNC_LARGEST_KNOWLEDGE];
+static uint8_t store[SYNC_LARGEST_STORE], unedited[SYNC_LARGEST_STORE], batch[SYNC_LARGEST_BATCH], out[SYNC_LARGEST_BATCH];
+static uint64_t knowledge_n, other_n, store_n, unedited_n, batch_n;
+static uint8_t first[24], last[24], middle[24], item[24], replica[16], tag[16];
 
 static uint8_t *put(uint8_t *to, uint64_t number, int width)
 {
@@ -37,21 +37,21 @@ static uint8_t *put_id(uint8_t *to, uint64_t number, int width)
     return to + width;
 }
 
-/* A knowledge of all replicas and ranges. The first replica has the same tick everywhere, the others one that grows from range to range. */
-static uint64_t put_knowledge(uint8_t *bytes, uint64_t base, uint64_t step)
+/* A knowledge of so many replicas and all ranges. The first has the same tick everywhere, the others one that grows from range to range. */
+static uint64_t put_knowledge(uint8_t *bytes, uint64_t replicas, uint64_t base, uint64_t step)
 {
     uint8_t *to = bytes;
     uint64_t range, key;
     to = put(put(put(put(to, 5, 4), 0, 4), 1, 4), 0, 4);
-    to = put(put(put(put(to, 5, 4), 0, 1), 16, 2), REPLICAS, 4);
-    for (key = 0; key < REPLICAS; key++)
+    to = put(put(put(put(to, 5, 4), 0, 1), 16, 2), replicas, 4);
+    for (key = 0; key < replicas; key++)
         to = put_id(to, 1 + key, 16);
     to = put(put(put(put(put(put(put(to, 24, 4), 0, 1), 16, 2), 0, 1), 24, 2), 0, 1), 1, 2);
     to = put(put(to, 21, 4), 1 + RANGES, 4);
     to = put(put(to, 1, 4), 0, 4);
     for (range = 0; range < RANGES; range++) {
-        to = put(put(to, 1, 4), REPLICAS, 4);
-        for (key = 0; key < REPLICAS; key++)
+        to = put(put(to, 1, 4), replicas, 4);
+        for (key = 0; key < replicas; key++)
             to = put(put(to, key, 4), key == 0 ? 9000 : base + step * range + key, 8);
     }
     to = put(put(put(put(to, 23, 4), 1, 4), 22, 4), RANGES, 4);
@@ -73,19 +73,32 @@ static uint8_t *put_records(uint8_t *to)
     return to;
 }
 
-/* The largest inputs: two knowledges of which each knows something that the other does not, a store, and a batch that it can take. */
+/* A store of a knowledge and all records; its length. */
+static uint64_t put_store(uint8_t *bytes, uint64_t own, const uint8_t *known, uint64_t known_n)
+{
+    uint8_t *to = put(put(put_id(put(bytes, 3, 1), own, 16), known_n, 4), RECORDS, 4);
+    memcpy(to, known, known_n);
+    return (uint64_t)(put_records(to + known_n) - bytes);
+}
+
+/*
+ * The largest inputs: two knowledges of which each knows something that the other does not, and the second with its last two ids in
+ * falling order, which is not normal form; a store, one whose replica has not edited yet, and a batch that the first can take.
+ */
 static void put_all(void)
 {
     uint8_t *to;
-    knowledge_n = put_knowledge(knowledge, 1000, 16);
-    other_n = put_knowledge(other, 1500, 8);
+    knowledge_n = put_knowledge(knowledge, REPLICAS - 1, 1000, 16);
+    unedited_n = put_store(unedited, REPLICAS, knowledge, knowledge_n);
+    knowledge_n = put_knowledge(knowledge, REPLICAS, 1000, 16);
+    other_n = put_knowledge(other, REPLICAS, 1500, 8);
+    memcpy(falling, other, other_n);
+    put_id(put_id(falling + 27 + 16 * (REPLICAS - 2), REPLICAS, 16), REPLICAS - 1, 16);
     memset(last, 255, sizeof last);
+    put_id(middle, 100, 24);
     put_id(item, 255, 24);
     put_id(replica, REPLICAS, 16);
-    to = put(put_id(put(store, 3, 1), 1, 16), knowledge_n, 4);
-    to = put(to, RECORDS, 4);
-    memcpy(to, knowledge, knowledge_n);
-    store_n = (uint64_t)(put_records(to + knowledge_n) - store);
+    store_n = put_store(store, 1, knowledge, knowledge_n);
     to = put(put_id(put(batch, 4, 1), 0, 24), 0, 0);
     memcpy(to, last, 24);
     to = put(put(put(to + 24, knowledge_n, 4), other_n, 4), 0, 4);
@@ -115,13 +128,13 @@ static uint32_t call(int number)
     case 1: return sync_contain(k, knowledge_n, item, 24, replica, 16, 1, &word);
     case 2: return sync_lead(k, knowledge_n, o, other_n, item, 24, replica, 16, &lead);
     case 3: return sync_cover(k, knowledge_n, o, other_n, first, 24, last, 24, &word);
-    case 4: return sync_normalise(k, knowledge_n, out, sizeof out, &written);
+    case 4: return sync_normalise(falling, other_n, out, sizeof out, &written);
     case 5: return sync_merge(k, knowledge_n, o, other_n, out, sizeof out, &written);
     case 6: return sync_project(k, knowledge_n, first, 24, last, 24, out, sizeof out, &written);
     case 7: return sync_new(replica, 16, out, sizeof out, &written);
-    case 8: return sync_edit(store, store_n, item, 24, tag, 16, out, sizeof out, &written);
-    case 9: return sync_delete(store, store_n, item, 24, out, sizeof out, &written);
-    case 10: return sync_make(store, store_n, o, other_n, first, 24, last, 24, out, sizeof out, &written);
+    case 8: return sync_edit(unedited, unedited_n, item, 24, tag, 16, out, sizeof out, &written);
+    case 9: return sync_delete(unedited, unedited_n, item, 24, out, sizeof out, &written);
+    case 10: return sync_make(store, store_n, falling, other_n, first, 24, middle, 24, out, sizeof out, &written);
     case 11: return sync_apply(store, store_n, batch, batch_n, out, sizeof out, &written);
     case 12: return sync_winner(store, store_n, batch, batch_n, item, 24, &word, &at, &length);
     case 13: return sync_learned(batch, batch_n, &at, &length);
