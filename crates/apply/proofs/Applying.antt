@@ -82,7 +82,7 @@ module _ (k : List ℕ) (r : ℕ) (c : Cursor) (n : List ℕ) (m : ℕ) (d : Cur
 
 -- ---- the own tick
 
-first-item : words3 0 0 0 ≡ 0
+pub first-item : words3 0 0 0 ≡ 0
 unfolding words3
 first-item = refl
 

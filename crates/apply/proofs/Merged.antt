@@ -29,16 +29,13 @@ use Rattle.cover.proofs.Covering.{covers-is}
 use Rattle.results.specs.MethodOpened.{Reads, resultOf}
 use Rattle.results.proofs.Copied.{opened-given}
 use Rattle.apply.specs.Method.{OwnAndLearned}
+use Rattle.apply.proofs.Applying.{first-item}
 
 -- a full word, three of which are the top item id
 abbrev pub top : ℕ
 top = 18446744073709551615
 
 -- ---- everything that another knows
-
-first-item : words3 0 0 0 ≡ 0
-unfolding words3
-first-item = refl
 
 pub all-covered : (k : List ℕ) (r : ℕ) (c : Cursor) (l : List ℕ) (m : ℕ) (d : Cursor) → Open k r c → Open l m d → (z : Bool)
     → z ≡ coversBy k r c l m d (words3 0 0 0) (words3 top top top) → z ≡ covers (decode k) (decode l) 0 highest

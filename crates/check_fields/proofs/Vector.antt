@@ -139,10 +139,12 @@ module _ (s : List ℕ) (r e at : ℕ) (f g : Got) (c : f ≡ (fields s beforeEl
         vector-end = repeat-went s 12 (element s r start) (element-went s r start) n 0 start m b (vector-start .inside) (sym u ∙ o)
 
 -- a vector counted alone, and after e elements
-vector-open : (s : List ℕ) (r e at : ℕ) → vector s r e at ≡ (fields s beforeElements 0 at ▷ number s 4 ▷ limit 0 r ▷ λ n start. repeat (element s r start) n 0 start ▷ λ m next. Num (e + m) next)
+vector-open : (s : List ℕ) (r e at : ℕ) → vector s r e at
+    ≡ (fields s beforeElements 0 at ▷ number s 4 ▷ limit 0 r ▷ λ n start. repeat (element s r start) n 0 start ▷ λ m next. Num (e + m) next)
 vector-open s r e at = vector-after s r e at (fields s beforeElements 0 at ▷ number s 4) (fields s beforeElements 0 at ▷ number s 4 ▷ limit 0 r) refl refl
 
-shifted : (e : ℕ) (g : Got) (f : ℕ → ℕ → Got) → (g ▷ λ n start. f n start ▷ λ m next. Num (e + m) next) ≡ (g ▷ λ n start. f n start ▷ λ m next. Num (0 + m) next) ▷ λ m next. Num (e + m) next
+shifted : (e : ℕ) (g : Got) (f : ℕ → ℕ → Got) → (g ▷ λ n start. f n start ▷ λ m next. Num (e + m) next)
+    ≡ (g ▷ λ n start. f n start ▷ λ m next. Num (0 + m) next) ▷ λ m next. Num (e + m) next
 shifted e (Fault k) f = refl
 shifted e (Num n start) f = inner (f n start)
   where

@@ -65,7 +65,8 @@ module _ (R : Rules) (permitted : Permitted (R .limits)) where
   encode-injective a b la lb h = sym (decoded R a permitted la) ∙ ap decode h ∙ decoded R b permitted lb
 
   -- the sizes that the check answers, and the length that they give
-  pub sizes-exact : (s : List ℕ) (k : Knowledge) → Bytes s → parse R s ≡ accepted k → checkedBy R s ≡ Accepted (length (k .replicas)) (length (k .vectors)) (elements (k .vectors)) (length (k .ranges))
+  pub sizes-exact : (s : List ℕ) (k : Knowledge) → Bytes s → parse R s ≡ accepted k
+      → checkedBy R s ≡ Accepted (length (k .replicas)) (length (k .vectors)) (elements (k .vectors)) (length (k .ranges))
   sizes-exact s k b h =
       let m = exact s k b .0 h in
       ap (checkedBy R) (m .0) ∙ forward R k permitted (m .1)

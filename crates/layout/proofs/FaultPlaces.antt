@@ -17,7 +17,8 @@ use Rattle.layout.specs.Read.{_▷_, repeat, number, fields, limit, empt
 use Rattle.layout.specs.Parse.{replicaMap, vectorCount, vectorList, rangeList, checked, checkedBy}
 use Rattle.layout.proofs.Parts.{LawfulVector}
 use Rattle.layout.proofs.Chain.{Stands, over, fields-over, fields-read, fresh-all, beforeElements-fits}
-use Rattle.layout.proofs.ForwardRead.{num, ids-over, ids-read, elements-over, elements-read, vector-begun, vector-over, vectors-over, vectors-read, first-read, ranges-over, ranges-read, lowest}
+use Rattle.layout.proofs.ForwardRead.{num, ids-over, ids-read, elements-over, elements-read, vector-begun, vector-over}
+use Rattle.layout.proofs.ForwardRead.{vectors-over, vectors-read, first-read, ranges-over, ranges-read, lowest}
 use Rattle.layout.proofs.Forward.{map-over, map-begun, map-read, vectors-start, count-read, list-read, ranges-count, ranges-start, spans-begun, spans-read}
 use Rattle.layout.proofs.FaultSteps.{repeat-fault}
 use Rattle.layout.proofs.Table.{mapBytes, vectorBytes, elementBytes, rangeBytes, FirstIds, FirstVectors, FirstElements, FirstRanges}

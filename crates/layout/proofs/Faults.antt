@@ -95,7 +95,8 @@ unfolding example bytesOf change cutAt answer changed cut beFrom beAt put openin
 fault-2 = (refl, refl, refl, refl, refl, refl, refl, refl)
 
 -- 3: r above 16, v 0 or above 65, an element count above r, g 0 or above 64
-pub fault-3 : (changed 7 17 ≡ Refused 3) × (changed 18 0 ≡ Refused 3) × (changed 18 66 ≡ Refused 3) × (changed 22 3 ≡ Refused 3) × (changed 30 0 ≡ Refused 3) × (changed 30 65 ≡ Refused 3)
+pub fault-3 : (changed 7 17 ≡ Refused 3) × (changed 18 0 ≡ Refused 3) × (changed 18 66 ≡ Refused 3)
+    × (changed 22 3 ≡ Refused 3) × (changed 30 0 ≡ Refused 3) × (changed 30 65 ≡ Refused 3)
 unfolding example bytesOf change cutAt answer changed cut beFrom beAt put opening beforeVectors beforeElements beforeRanges closing repeat
     number same fields limit empty among judged replicaId tick element firstVector vector index range replicaMap vectorCount vectorList
     rangeList ended checked

@@ -222,7 +222,8 @@ module _ (R : Rules) (permitted : Permitted (R .limits)) (w : World) (m : State)
       → i ≤ highest → q ≡ p → known (x .follows .b .learned) i q ≤ known (f .stores p small .st .knowledge) i q
   own-behind p small n s x i q h e = go (leb (x .follows .b .first) i) refl (leb i (x .follows .b .last)) refl
     where
-      go : (a : Bool) → leb (x .follows .b .first) i ≡ a → (b : Bool) → leb i (x .follows .b .last) ≡ b → known (x .follows .b .learned) i q ≤ known (f .stores p small .st .knowledge) i q
+      go : (a : Bool) → leb (x .follows .b .first) i ≡ a → (b : Bool) → leb i (x .follows .b .last) ≡ b
+          → known (x .follows .b .learned) i q ≤ known (f .stores p small .st .knowledge) i q
       go true a true b =
           let o : m .ticks q i q ≡ m .ticks p i q = ap (λ (y : ℕ). m .ticks y i q) e in
           omega (

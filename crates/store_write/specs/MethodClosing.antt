@@ -51,7 +51,8 @@ pub record Between (may : Bool) (room front size from to : ℕ) : Type 0 where
 -- but for one that is no own fault of it where there may be no part: that is 13
 unfoldable pub answerAround : Bool → ℕ → ℕ → Answer → ℕ → Answer
 answerAround may front size (Written n) room = endsWith (front + n + size) room
-answerAround may front size (Refused n) room = elim may [ true ↦ Refused n | false ↦ elim (ltb n 14) [ true ↦ Refused n | false ↦ Refused 13 ] ]
+answerAround may front size (Refused n) room =
+    elim may [ true ↦ Refused n | false ↦ elim (ltb n 14) [ true ↦ Refused n | false ↦ Refused 13 ] ]
 
 unfoldable pub afterAround : ℕ → ℕ → (ℕ → List ℕ) → Answer → List ℕ → List ℕ
 afterAround front size around (Written n) out = leaves (front + n + size) out (around n)

@@ -167,7 +167,8 @@ lawful-elements : (r : ℕ) (es : List Element) → All (λ x. x .key .0 < r) es
 lawful-elements r [] a b = tt
 lawful-elements r (x ∷ xs) a b = (record { key = a .0; tick = b .0 }, lawful-elements r xs (a .1) (b .1))
 
-lawful-vectors : (r : ℕ) (vs : List (List Element)) → All (All (λ x. x .key .0 < r)) vs → All (λ es. Rising 0 (keys es)) vs → All (All (λ x. x .tick ≤ largestTick)) vs → All (LawfulVector r) vs
+lawful-vectors : (r : ℕ) (vs : List (List Element)) → All (All (λ x. x .key .0 < r)) vs → All (λ es. Rising 0 (keys es)) vs
+    → All (All (λ x. x .tick ≤ largestTick)) vs → All (LawfulVector r) vs
 lawful-vectors r [] a o b = tt
 lawful-vectors r (es ∷ vs) a o b = (
   record {
