@@ -32,10 +32,10 @@ pub record Adds (r : Rec) (before after : List Rec) : Type 0 where
 
 -- a batch brings one record of a new item: the item had none and the batch has this one; of every other item that the batch has, the
 -- store has a record already, and the batch's is not of a greater version
-pub record OneNew (r : Rec) (before clamp : List Rec) : Type 0 where
+pub record OneNew (r : Rec) (before brought : List Rec) : Type 0 where
   pub absent : find (r .item) before ≡ none
-  pub carried : find (r .item) clamp ≡ some r
-  pub stay : (i : ℕ) (y : Rec) → (i ≡ r .item → ⊥) → find i clamp ≡ some y
+  pub carried : find (r .item) brought ≡ some r
+  pub stay : (i : ℕ) (y : Rec) → (i ≡ r .item → ⊥) → find i brought ≡ some y
       → (x : Rec) × ((find i before ≡ some x) × (later x y ≡ false))
 
 -- "the figure" of a store and a compared knowledge: the third number of coverage. The 0 is the value before the call, which only a

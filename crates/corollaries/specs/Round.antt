@@ -19,7 +19,7 @@ Server p (q ∷ qs) = (p ≡ q) ⊎ Server p qs
 
 -- "no other edit, deletion or apply on these servers": the call is none on p, refused or not
 abbrev pub Still : ℕ → Call → Type 0
-Still p (edit who item clamp room) = who ≡ p → ⊥
+Still p (edit who item brought room) = who ≡ p → ⊥
 Still p (delete who item room) = who ≡ p → ⊥
 Still p (make who knowledge first last room) = Unit {0}
 Still p (apply who which room) = who ≡ p → ⊥

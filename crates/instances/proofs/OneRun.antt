@@ -35,7 +35,7 @@ number-keep : (w : World) (c : Call) (o : Option (List ℕ)) (n : ℕ) (b : List
     → batchNumber n (keep w c o .batches) ≡ some b
 unfolding keep
 number-keep w c none n b e = e
-number-keep w (edit who item clamp room) (some bs) n b e = e
+number-keep w (edit who item brought room) (some bs) n b e = e
 number-keep w (delete who item room) (some bs) n b e = e
 number-keep w (make who knowledge first last room) (some bs) n b e = number-append n (w .batches) (bs ∷ []) b e
 number-keep w (apply who which room) (some bs) n b e = e
@@ -52,7 +52,7 @@ idle-step : (p : ℕ) (w : World) (c : Call) (o : Option (List ℕ)) (cs : List 
     → Idle 0 p (c ∷ cs) (elim o [ none ↦ true | some bs ↦ false ] ∷ fs) → (keep w c o .stores p ≡ w .stores p) × Idle 0 p cs fs
 unfolding keep putAt
 idle-step p w c none cs fs h = (refl, h)
-idle-step p w (edit who item clamp room) (some bs) cs fs h = (rw (h .0, putAt), h .1)
+idle-step p w (edit who item brought room) (some bs) cs fs h = (rw (h .0, putAt), h .1)
 idle-step p w (delete who item room) (some bs) cs fs h = (rw (h .0, putAt), h .1)
 idle-step p w (make who knowledge first last room) (some bs) cs fs h = (refl, h .1)
 idle-step p w (apply who which room) (some bs) cs fs h = (rw (h .0, putAt), h .1)
@@ -74,7 +74,7 @@ pub record Stage (R : Rules) (ps : List ℕ) (before cs : List Call) (x : Seen) 
 module _ (R : Rules) where
   writes-replied : (w : World) (c : Call) → writes R w c ≡ outcome (replied R w c) (roomOf c)
   unfolding writes replied
-  writes-replied w (edit who item clamp room) = refl
+  writes-replied w (edit who item brought room) = refl
   writes-replied w (delete who item room) = refl
   writes-replied w (make who knowledge first last room) = refl
   writes-replied w (apply who which room) = apply-replied (R .limits) (w .stores who) (batchNumber which (w .batches)) room

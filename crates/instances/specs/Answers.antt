@@ -18,7 +18,7 @@ appliedTo L s none = refuses 0
 appliedTo L s (some batch) = applyReply L s batch
 
 unfoldable pub replied : Rules → World → Call → Reply
-replied R w (edit who item clamp room) = editReply (R .limits) (w .stores who) item clamp
+replied R w (edit who item brought room) = editReply (R .limits) (w .stores who) item brought
 replied R w (delete who item room) = deleteReply (R .limits) (w .stores who) item
 replied R w (make who knowledge first last room) = makeReply R (w .stores who) knowledge first last
 replied R w (apply who which room) = appliedTo (R .limits) (w .stores who) (batchNumber which (w .batches))

@@ -54,7 +54,7 @@ inStages R ps w [] = []
 inStages R ps w (cs ∷ stages) = let r = ranOnce R w cs in seen ps r ∷ inStages R ps (r .ends) stages
 
 abbrev pub callerOf : Call → ℕ
-callerOf (edit who item clamp room) = who
+callerOf (edit who item brought room) = who
 callerOf (delete who item room) = who
 callerOf (make who knowledge first last room) = who
 callerOf (apply who which room) = who

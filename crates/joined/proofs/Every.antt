@@ -75,12 +75,12 @@ module _ (calls : List Call) (w : World) (r : Reached calls w) where
         )
 
   more : (c : Call) → Given c → (next : World) × Reached (calls ++ one c) next
-  more (edit who item clamp room) g =
+  more (edit who item brought room) g =
       let s = w .stores who in
-      let reply = editReply base s item clamp in
-      makes-some (edit who item clamp room) reply (zeros room) g (
+      let reply = editReply base s item brought in
+      makes-some (edit who item brought room) reply (zeros room) g (
         length-replicate room 0,
-        edit-called (number room reply) 0 (written room reply) (zeros room) (after reply (zeros room)) s item (clamp .tag)
+        edit-called (number room reply) 0 (written room reply) (zeros room) (after reply (zeros room)) s item (brought .tag)
             (told-of reply (zeros room)),
       )
   more (delete who item room) g =

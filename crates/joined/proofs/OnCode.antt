@@ -47,8 +47,8 @@ zero-or n = elim (order n 0) [ less l ↦ absurd (omega arith) | same e ↦ inl 
 -- what the program was told is what the call writes in its own world
 pub makes-step : (w : World) (c : Call) (number old written : ℕ) (out left : List ℕ) → Makes w c number old written out left
     → Step number old written out left (writes basic w c)
-makes-step w (edit who item clamp room) number old written out left m =
-    subst (λ (n : ℕ). Step number old written out left (writes basic w (edit who item clamp n))) (m .0) (m .1 .lists w who refl)
+makes-step w (edit who item brought room) number old written out left m =
+    subst (λ (n : ℕ). Step number old written out left (writes basic w (edit who item brought n))) (m .0) (m .1 .lists w who refl)
 makes-step w (delete who item room) number old written out left m =
     subst (λ (n : ℕ). Step number old written out left (writes basic w (delete who item n))) (m .0) (m .1 .lists w who refl)
 makes-step w (make who knowledge first last room) number old written out left m =

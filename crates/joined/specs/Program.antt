@@ -22,8 +22,8 @@ pub record Begun (p : ℕ) (store : List ℕ) : Type 0 where
 -- the program makes a call: it hands over the bytes that it keeps for the replica, for an apply the batch of that number as it was written,
 -- and a buffer of the call's length; and it is told what the function's contract says
 abbrev pub Makes : World → Call → ℕ → ℕ → ℕ → List ℕ → List ℕ → Type 0
-Makes w (edit who item clamp room) number old written out left =
-    (length out ≡ room) × EditStep (w .stores who) item (clamp .tag) number old written out left
+Makes w (edit who item brought room) number old written out left =
+    (length out ≡ room) × EditStep (w .stores who) item (brought .tag) number old written out left
 Makes w (delete who item room) number old written out left =
     (length out ≡ room) × DeleteStep (w .stores who) item number old written out left
 Makes w (make who knowledge first last room) number old written out left =

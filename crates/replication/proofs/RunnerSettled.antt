@@ -89,7 +89,7 @@ stored-same who bs w v a b s x y = record {
 }
 
 pub leaves-same : (c : Call) (bs : List ℕ) (w v a b : World) → SameWorld w v → Leaves c bs w a → Leaves c bs v b → SameWorld a b
-leaves-same (edit who item clamp room) bs w v a b s x y = stored-same who bs w v a b s x y
+leaves-same (edit who item brought room) bs w v a b s x y = stored-same who bs w v a b s x y
 leaves-same (delete who item room) bs w v a b s x y = stored-same who bs w v a b s x y
 leaves-same (apply who which room) bs w v a b s x y = stored-same who bs w v a b s x y
 leaves-same (make who knowledge first last room) bs w v a b s x y = record {

@@ -21,7 +21,7 @@ pub record IsBatch (L : Limits) (s : List ℕ) (b : Batch) : Type 0 where
 unfoldable pub asks : Call → Option (List ℕ) → List (List ℕ)
 asks c none = []
 asks (make who knowledge first last room) (some bs) = knowledge ∷ []
-asks (edit who item clamp room) (some bs) = []
+asks (edit who item brought room) (some bs) = []
 asks (delete who item room) (some bs) = []
 asks (apply who which room) (some bs) = []
 

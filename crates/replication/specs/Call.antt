@@ -15,7 +15,7 @@ brings tag = record { tag = tag }
 -- a call: its replica's id, its arguments as bytes, for an apply the number of the batch in the order in which the list made them, and
 -- the length of the output buffer
 pub data Call : Type 0 where
-  edit : (who : ℕ) (item : List ℕ) (clamp : Brought) (room : ℕ) → Call
+  edit : (who : ℕ) (item : List ℕ) (brought : Brought) (room : ℕ) → Call
   delete : (who : ℕ) (item : List ℕ) (room : ℕ) → Call
   make : (who : ℕ) (knowledge first last : List ℕ) (room : ℕ) → Call
   apply : (who which : ℕ) (room : ℕ) → Call
@@ -25,7 +25,7 @@ pub record BytesBrought (b : Brought) : Type 0 where
 
 -- what is given of a call: the id has 16 bytes, and the arguments are bytes
 abbrev pub Given : Call → Type 0
-Given (edit who item clamp room) = ReplicaId who × (Bytes item × BytesBrought clamp)
+Given (edit who item brought room) = ReplicaId who × (Bytes item × BytesBrought brought)
 Given (delete who item room) = ReplicaId who × Bytes item
 Given (make who knowledge first last room) = ReplicaId who × (Bytes knowledge × (Bytes first × Bytes last))
 Given (apply who which room) = ReplicaId who

@@ -31,7 +31,7 @@ applyTo L s none room = none
 applyTo L s (some batch) room = outcome (applyReply L s batch) room
 
 unfoldable pub writes : Rules → World → Call → Option (List ℕ)
-writes R w (edit who item clamp room) = outcome (editReply (R .limits) (w .stores who) item clamp) room
+writes R w (edit who item brought room) = outcome (editReply (R .limits) (w .stores who) item brought) room
 writes R w (delete who item room) = outcome (deleteReply (R .limits) (w .stores who) item) room
 writes R w (make who knowledge first last room) = outcome (makeReply R (w .stores who) knowledge first last) room
 writes R w (apply who which room) = applyTo (R .limits) (w .stores who) (batchNumber which (w .batches)) room
@@ -44,7 +44,7 @@ putAt p x f q = elim (eqb q p) [ true ↦ x | false ↦ f q ]
 unfoldable pub keep : World → Call → Option (List ℕ) → World
 keep w c none = w
 keep w (make who knowledge first last room) (some bs) = record { stores = w .stores; batches = w .batches ++ (bs ∷ []) }
-keep w (edit who item clamp room) (some bs) = record { stores = putAt who bs (w .stores); batches = w .batches }
+keep w (edit who item brought room) (some bs) = record { stores = putAt who bs (w .stores); batches = w .batches }
 keep w (delete who item room) (some bs) = record { stores = putAt who bs (w .stores); batches = w .batches }
 keep w (apply who which room) (some bs) = record { stores = putAt who bs (w .stores); batches = w .batches }
 

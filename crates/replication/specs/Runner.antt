@@ -21,7 +21,7 @@ pub record Number {A : Type 0} (n : ℕ) (l : List A) (x : A) : Type 0 where
 -- the call's reply gives bs. "Each call gets its replica's store bytes"; "An apply gets a batch just as an earlier make of the list
 -- wrote it", by its number in the order made
 abbrev pub Replies : Rules → World → Call → List ℕ → Type 0
-Replies R w (edit who item clamp room) bs = editReply (R .limits) (w .stores who) item clamp ≡ gives bs
+Replies R w (edit who item brought room) bs = editReply (R .limits) (w .stores who) item brought ≡ gives bs
 Replies R w (delete who item room) bs = deleteReply (R .limits) (w .stores who) item ≡ gives bs
 Replies R w (make who knowledge first last room) bs = makeReply R (w .stores who) knowledge first last ≡ gives bs
 Replies R w (apply who which room) bs =
@@ -29,7 +29,7 @@ Replies R w (apply who which room) bs =
 
 -- the length of the call's output buffer
 abbrev pub roomOf : Call → ℕ
-roomOf (edit who item clamp room) = room
+roomOf (edit who item brought room) = room
 roomOf (delete who item room) = room
 roomOf (make who knowledge first last room) = room
 roomOf (apply who which room) = room
@@ -56,7 +56,7 @@ pub record Joined (bs : List ℕ) (w after : World) : Type 0 where
 
 -- what a call that wrote bs leaves
 abbrev pub Leaves : Call → List ℕ → World → World → Type 0
-Leaves (edit who item clamp room) bs w after = Stored who bs w after
+Leaves (edit who item brought room) bs w after = Stored who bs w after
 Leaves (delete who item room) bs w after = Stored who bs w after
 Leaves (make who knowledge first last room) bs w after = Joined bs w after
 Leaves (apply who which room) bs w after = Stored who bs w after

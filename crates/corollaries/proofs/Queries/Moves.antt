@@ -219,16 +219,16 @@ module _ (L : Limits) (st : Store) (b : Batch) (bs : List ℕ) (w : Applies L st
   adds-applied a =
       record {
         absent = gone;
-        carried = clamp (find (r .item) (b .records)) refl;
+        carried = brought (find (r .item) (b .records)) refl;
         stay = λ i y n f. stays i y (find i (st .records)) refl f (a .others i n);
       }
     where
       gone : find (r .item) (st .records) ≡ none
       gone = a .new
 
-      clamp : (y : Option Rec) → find (r .item) (b .records) ≡ y → find (r .item) (b .records) ≡ some r
-      clamp none f = not-found r (sym (w .neither (r .item) gone f) ∙ a .there)
-      clamp (some y) f = f ∙ (sym (w .batchOnly (r .item) y gone f) ∙ a .there)
+      brought : (y : Option Rec) → find (r .item) (b .records) ≡ y → find (r .item) (b .records) ≡ some r
+      brought none f = not-found r (sym (w .neither (r .item) gone f) ∙ a .there)
+      brought (some y) f = f ∙ (sym (w .batchOnly (r .item) y gone f) ∙ a .there)
 
       -- where the batch's record wins, it is there afterwards in place of the store's
       loses : (i : ℕ) (x y : Rec) → find i (st .records) ≡ some x → find i (b .records) ≡ some y

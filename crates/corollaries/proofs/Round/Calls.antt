@@ -177,8 +177,8 @@ module _ (R : Rules) (before : List Call) (centre : ℕ) (ds : List ℕ) (into :
   apart : (d : ℕ) → Server d ds → centre ≡ d → ⊥
   apart d s = of-server (λ x. centre ≡ x → ⊥) ds (distinct .0) d s
 
-  pub clamp : (d : ℕ) → Server d ds → Delivered R before gather d centre × All (Still d) gather
-  clamp d s = (
+  pub brought : (d : ℕ) → Server d ds → Delivered R before gather d centre × All (Still d) gather
+  brought d s = (
     sends-delivers R (λ e. e) (λ e. centre) into (λ c. Unit {0}) d (λ e. tt) (λ e n other. tt) ds before
         (length (ends R before .batches)) refl first (distinct .1) s .0,
     sends-still (λ e. e) (λ e. centre) into d (length (ends R before .batches)) ds
@@ -204,4 +204,4 @@ module _ (R : Rules) (before : List Call) (centre : ℕ) (ds : List ℕ) (into :
         (length (ends R half .batches)) refl second (distinct .1) s
 
     pub calls-round : Round R before gather spread centre ds
-    calls-round = round-from R before gather spread centre ds clamp rest taken
+    calls-round = round-from R before gather spread centre ds brought rest taken

@@ -29,7 +29,7 @@ use Rattle.replication.proofs.Runner.{batch-after, batch-exact-number, runner}
 use Rattle.corollaries.proofs.Round.Moments.{all-append}
 use Rattle.corollaries.proofs.Round.Premises.{done-writes, sent-there}
 use Rattle.corollaries.proofs.Round.Calls.{of-server, id-length, lowest-id, highest-id, making, taking, one-more}
-use Rattle.corollaries.proofs.Round.Calls.{gatherCalls, spreadCalls, clamp, calls-round}
+use Rattle.corollaries.proofs.Round.Calls.{gatherCalls, spreadCalls, brought, calls-round}
 use Rattle.corollaries.proofs.Round.Refused.{make-never-refused, second-half}
 
 -- a buffer for the longest batch, and one for the longest store
@@ -121,7 +121,7 @@ module _ (R : Rules) (permitted : Permitted (R .limits)) (before : List Call) (c
     pub taken-done : Done R ((half ++ earlier) ++ one (makes d)) (takes d n)
     taken-done =
         let f = for d s in
-        let b = clamp R before centre ds into distinct first d s in
+        let b = brought R before centre ds into distinct first d s in
         let w = second-half R permitted before gather through gb gg through-given centre d n sc (small d s) (b .0) (b .1)
         (all-append (Still centre) earlier (one (makes d)) rests (tt, tt)) (all-append (Still d) earlier (one (makes d)) quiet (tt, tt))
         sent half earlier refl (f .store) (f .is) (f .knowledge) (made .0) batch in

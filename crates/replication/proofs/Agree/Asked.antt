@@ -95,7 +95,7 @@ module _ (R : Rules) (permitted : Permitted (R .limits)) (w : World) (m : State)
     step-made c h none e = unasked
     step-made (make who knowledge first last room) h (some bs) e =
         made-add R bs knowledge (w .batches) ks (make-for who knowledge first last room bs h e) a
-    step-made (edit who item clamp room) h (some bs) e = unasked
+    step-made (edit who item brought room) h (some bs) e = unasked
     step-made (delete who item room) h (some bs) e = unasked
     step-made (apply who which room) h (some bs) e = unasked
 

@@ -89,7 +89,7 @@ exhausted-below st h = leb-false largestTick (largest (st .knowledge)) h
 
 pub record EditMet (L : Limits) (st : Store) (item : List ℕ) (b : Brought) (bs : List ℕ) : Type 0 where
   pub item24 : length item ≡ 24
-  pub clamp : RightBrought b
+  pub brought : RightBrought b
   pub below : largest (st .knowledge) < largestTick
   pub room : Room L (changed (liveContent b) (idOf 24 item) st)
   pub bytes : bs ≡ encodeStore (changed (liveContent b) (idOf 24 item) st)
@@ -114,7 +114,7 @@ edit-met L s item b st room bs o e =
     let result = changed (liveContent b) (idOf 24 item) st in
     let m = outcome-lines (editLines L (accepted st) item b result) (encodeStore result) bs room (ap (λ (r : Reply). outcome r room) (sym (edit-reply L s item b st o)) ∙ e) in
     let l = edit-lines L st item b bs result (m .0) in
-    record { item24 = l .0; clamp = l .1 .0; below = l .1 .1 .0; room = l .1 .1 .1; bytes = sym (m .1) }
+    record { item24 = l .0; brought = l .1 .0; below = l .1 .1 .0; room = l .1 .1 .1; bytes = sym (m .1) }
 
 -- ---- delete
 

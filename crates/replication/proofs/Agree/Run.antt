@@ -115,7 +115,7 @@ module _ (R : Rules) (permitted : Permitted (R .limits)) (w : World) (m : State)
       let d = edit-met (R .limits) (w .stores who) item b (s .st) room bs (opens (R .limits) permitted w m f who (h .0)) e in
       let below = id-below 24 item (h .1 .0) in
       subst (λ (i : ℕ). Follows (R .limits) (stored who bs w) (changes (live b) who i m)) (id-value 24 item (d .item24))
-      (subst (λ (c : Content). Follows (R .limits) (stored who bs w) (changes c who (idOf 24 item) m)) (live-same b (d .clamp))
+      (subst (λ (c : Content). Follows (R .limits) (stored who bs w) (changes c who (idOf 24 item) m)) (live-same b (d .brought))
       (change-follows (R .limits) w m f (liveContent b) who (idOf 24 item) (h .0) bs
       (good-changes (liveContent b) who (idOf 24 item) m (h .0) (f .good)) (below-top (idOf 24 item) below)
       (changed-lawful (R .limits) (s .st) (s .valid) (liveContent b) (idOf 24 item) below (live-lawful b (h .1 .1)) (d .below) (d .room)) (d .bytes)))

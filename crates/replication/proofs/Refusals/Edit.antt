@@ -84,7 +84,7 @@ module _ (L : Limits) (st : Store) (item : List ℕ) (b : Brought) where
 -- what is met where edit gives bytes
 pub record EditGives (L : Limits) (st : Store) (item : List ℕ) (b : Brought) (bs : List ℕ) : Type 0 where
   pub item24 : length item ≡ 24
-  pub clamp : RightBrought b
+  pub brought : RightBrought b
   pub unexhausted : Unexhausted st
   pub replicas : length (editedStore st item b .knowledge .replicas) ≤ L .replicas
   pub ranges : length (editedStore st item b .knowledge .ranges) ≤ L .ranges
@@ -124,8 +124,8 @@ module _ (L : Limits) (permitted : Permitted L) (s item : List ℕ) (b : Brought
       let law = given-none (editReply L s item b) (edit-lines L st item b) (editRules L st item b) (encodeStore (editedStore st item b)) (edit-table L st item b s os) told bs in (
         (λ h.
             let w = law .0 h in
-            record { item24 = w .0 .0 .0; clamp = w .0 .0 .1; unexhausted = w .0 .1 .0; replicas = w .0 .1 .1 .0; ranges = w .0 .1 .1 .1 .0; records = w .0 .1 .1 .1 .1 .0; bytes = w .1 }),
-        λ m. law .1 (((m .item24, m .clamp), (m .unexhausted, (m .replicas, (m .ranges, (m .records, tt))))), m .bytes),
+            record { item24 = w .0 .0 .0; brought = w .0 .0 .1; unexhausted = w .0 .1 .0; replicas = w .0 .1 .1 .0; ranges = w .0 .1 .1 .1 .0; records = w .0 .1 .1 .1 .1 .0; bytes = w .1 }),
+        λ m. law .1 (((m .item24, m .brought), (m .unexhausted, (m .replicas, (m .ranges, (m .records, tt))))), m .bytes),
       )
 
 module _ (L : Limits) (permitted : Permitted L) (s item : List ℕ) (b : Brought) (octets : Bytes s) where

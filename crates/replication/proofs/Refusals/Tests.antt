@@ -264,26 +264,26 @@ means-length n s = record {
 
 -- an item id of 24 bytes and a tag of 16
 -- what an edit brings
-pub clamp-exact : (b : Brought) → (wrongBrought b ≡ false) ↔ RightBrought b
+pub brought-exact : (b : Brought) → (wrongBrought b ≡ false) ↔ RightBrought b
 unfolding wrongBrought
-clamp-exact b = ((λ e. record { tag = length-exact 16 (b .tag) .0 e }), λ r. length-exact 16 (b .tag) .1 (r .tag))
+brought-exact b = ((λ e. record { tag = length-exact 16 (b .tag) .0 e }), λ r. length-exact 16 (b .tag) .1 (r .tag))
 
-clamp-or : (b : Brought) → RightBrought b ⊎ (RightBrought b → ⊥)
-clamp-or b = ⊎-elim (λ (e : length (b .tag) ≡ 16). inl (record { tag = e })) (λ (n : length (b .tag) ≡ 16 → ⊥). inr (λ (r : RightBrought b). n (r .tag))) (same-or (length (b .tag)) 16)
+brought-or : (b : Brought) → RightBrought b ⊎ (RightBrought b → ⊥)
+brought-or b = ⊎-elim (λ (e : length (b .tag) ≡ 16). inl (record { tag = e })) (λ (n : length (b .tag) ≡ 16 → ⊥). inr (λ (r : RightBrought b). n (r .tag))) (same-or (length (b .tag)) 16)
 
 pub means-lengths : (item : List ℕ) (b : Brought) → Means (line 17 (wrongLength 24 item || wrongBrought b))
     (rule 17 ((length item ≡ 24 → ⊥) ⊎ (RightBrought b → ⊥)) ((length item ≡ 24) × RightBrought b))
 means-lengths item b = record {
   number = refl;
-  yes = λ e. found e (same-or (length item) 24) (clamp-or b);
-  no = λ e. let w = neither (wrongLength 24 item) (wrongBrought b) e in (length-exact 24 item .0 (w .0), clamp-exact b .0 (w .1));
+  yes = λ e. found e (same-or (length item) 24) (brought-or b);
+  no = λ e. let w = neither (wrongLength 24 item) (wrongBrought b) e in (length-exact 24 item .0 (w .0), brought-exact b .0 (w .1));
   apart = λ x y. ⊎-elim (λ f. f (y .0)) (λ f. f (y .1)) x;
 }
   where
     found : (wrongLength 24 item || wrongBrought b) ≡ true → (length item ≡ 24) ⊎ (length item ≡ 24 → ⊥) → RightBrought b ⊎ (RightBrought b → ⊥) → (length item ≡ 24 → ⊥) ⊎ (RightBrought b → ⊥)
     found e (inr f) y = inl f
     found e (inl x) (inr f) = inr f
-    found e (inl x) (inl y) = clash (wrongLength 24 item || wrongBrought b) e (both-false (wrongLength 24 item) (wrongBrought b) (length-exact 24 item .1 x) (clamp-exact b .1 y))
+    found e (inl x) (inl y) = clash (wrongLength 24 item || wrongBrought b) e (both-false (wrongLength 24 item) (wrongBrought b) (length-exact 24 item .1 x) (brought-exact b .1 y))
 
 -- both ends of a span of 24 bytes, first not above last
 pub record Span (first last : List ℕ) : Type 0 where
