@@ -1,6 +1,8 @@
 // The call apply: a store takes over a batch's records, each where it wins, and its learned knowledge.
 //
 // The store is checked first, then the batch, each once. Everything that refuses the call is decided before the first byte is written.
+#![tactic(auto)]
+
 ghost use Rattle.std.specs.Prelude.{◌≡◌, true, ◌≤◌, length};
 ghost use Rattle.codec.specs.Reply.{answer, after};
 ghost use Rattle.codec.specs.Words.{words2};

@@ -3,6 +3,8 @@
 //
 // A run of fixed fields is compared in whole words; only where a word differs is it read field by field, which finds the
 // first fault. Each constant has the bytes of the fields that it stands for.
+#![tactic(auto)]
+
 ghost use Rattle.std.specs.Prelude.{◌≡◌, ◌+◌, ◌*◌, ◌≤◌, length};
 ghost use Rattle.codec.specs.Number.{be_at};
 ghost use Rattle.layout.specs.Knowledge.{opening, before_vectors, before_elements, before_ranges, closing};

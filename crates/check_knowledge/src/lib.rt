@@ -1,5 +1,7 @@
 // The check of a knowledge's bytes, for every input of any length: one part after the other. Inside, the answer is one number, which
 // goes from function to function in a register.
+#![tactic(auto)]
+
 ghost use Rattle.std.specs.Prelude.{◌≡◌};
 ghost use Rattle.codec.specs.Total.{clamp};
 ghost use Rattle.layout.specs.Knowledge.{basic};

@@ -3,6 +3,8 @@
 //
 // Bytes are read in loops here, so the reads are private, and their places are inside the bytes. A clock vector is tested
 // as a whole; only one with a fault is read field by field.
+#![tactic(auto)]
+
 ghost use Rattle.std.specs.Prelude.{◌≡◌, true, suc, ◌+◌, ◌-◌, ◌*◌, ◌≤◌, ◌<◌, length, get_or};
 ghost use Rattle.codec.specs.Words.{words2, words3};
 ghost use Rattle.layout.specs.Knowledge.{basic};

@@ -1,6 +1,8 @@
 // Numbers and ids as bytes, copying, and the answer of a call that writes.
 //
 // Every public function is total: a number of which a byte is missing is read as 0, and what has no room is not written at all.
+#![tactic(auto)]
+
 ghost use Rattle.std.specs.Prelude.{◌≡◌, ◌+◌, ◌^◌, ◌<◌, ◌≤◌, max, true, false, length, ◌==◌, nat_lt, slice_index};
 ghost use Rattle.std.proofs.lemmas.List.Edits.{sets};
 ghost use Rattle.codec.specs.Number.{be_at};
@@ -10,7 +12,7 @@ ghost use Rattle.codec.specs.Ids.{InWords, item_read, replica_read};
 ghost use Rattle.codec.specs.Part.{placed, part, bytes};
 
 // An item id, as words of 64 bits, the highest first.
-#[derive(Drop)]
+#[derive(Clone, Copy)]
 pub struct Item {
     pub high: u64,
     pub middle: u64,
@@ -18,20 +20,20 @@ pub struct Item {
 }
 
 // A replica id likewise.
-#[derive(Drop)]
+#[derive(Clone, Copy)]
 pub struct Replica {
     pub high: u64,
     pub low: u64,
 }
 
 // The items from a first to a last, both included.
-#[derive(Drop)]
+#[derive(Clone, Copy)]
 pub struct Span {
     pub first: Item,
     pub last: Item,
 }
 
-#[derive(Drop)]
+#[derive(Clone, Copy)]
 pub enum Answer {
     // a success: how many bytes were written from the front of the buffer
     Written(usize),

@@ -1,4 +1,6 @@
 // The C interface: each function is thin, and its contract says what every byte behind every pointer is afterwards.
+#![tactic(auto)]
+
 ghost use Rattle.std.specs.Prelude.{◌≡◌, length};
 ghost use Rattle.codec.specs.Reply.{answer, number_of, written_of};
 ghost use Rattle.layout.specs.Knowledge.{basic, base};

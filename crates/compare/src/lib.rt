@@ -1,6 +1,8 @@
 // Which of two knowledges is ahead, over all ids, and for each that lacks something the first place where it does.
 //
 // The public function is total.
+#![tactic(auto)]
+
 ghost use Rattle.std.specs.Prelude.{◌≡◌, true, ℕ, ◌+◌, ◌*◌, ◌^◌, ◌≤◌, ◌<◌, length, get_or};
 ghost use Rattle.codec.specs.Number.{be_at};
 ghost use Rattle.codec.specs.MethodWritten.{Wrote};
@@ -28,7 +30,7 @@ const TOP: u64 = 18446744073709551615;
 const LACK: usize = 56;
 
 // How far two knowledges are alike: from the first item on nothing lacks, either way.
-#[derive(Drop)]
+#[derive(Clone, Copy)]
 enum Alike {
     // in no item
     Throughout,
@@ -37,7 +39,7 @@ enum Alike {
 }
 
 // How two cursors go on that stand at one item.
-#[derive(Drop)]
+#[derive(Clone, Copy)]
 enum Next {
     // no bound is left to either, and the vectors are the same
     Done,

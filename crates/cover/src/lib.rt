@@ -2,6 +2,8 @@
 //
 // Every public function is total. The keys of two knowledges meet through their ids only. The elements of the second's vectors are
 // compared in place with those of the first's; nothing is copied.
+#![tactic(auto)]
+
 ghost use Rattle.std.specs.Prelude.{◌≡◌, true, ◌+◌, ◌*◌, ◌^◌, ◌≤◌, ◌<◌, length};
 ghost use Rattle.codec.specs.Number.{be_at};
 ghost use Rattle.codec.specs.Ids.{item_of, replica_of};

@@ -4,6 +4,8 @@
 // The changed store is the store's table joined with the table of the one new record, which wins over the item's record as its tick is larger.
 // Its knowledge is a copy with the new tick over the old one where the own replica has a tick already.
 // The calls are total; inside, the limits are numbers.
+#![tactic(auto)]
+
 ghost use Rattle.std.specs.Prelude.{◌≡◌, [], true, ◌<◌, length};
 ghost use Rattle.codec.specs.Number.{be_at};
 ghost use Rattle.codec.specs.Reply.{answer, after};
@@ -39,7 +41,7 @@ const LARGEST_TICK: u64 = 9223372036854775807;
 const PICKS: usize = layout::LARGEST_RECORDS as usize;
 
 // What an edit or a delete writes: an item, and its content.
-#[derive(Drop)]
+#[derive(Clone, Copy)]
 struct Change {
     item: Item,
     deleted: bool,

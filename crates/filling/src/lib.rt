@@ -7,6 +7,8 @@
 //
 // Column c of a table has its id in words 2c and 2c + 1 of `ids`, row k its bound in words 3k, 3k + 1 and 3k + 2 of `bounds`,
 // the highest word first; the tick of row k and column c is word STRIDE * k + c of `t`. The order of a replica map is never used.
+#![tactic(auto)]
+
 ghost use Rattle.std.specs.Prelude.{◌≡◌, ◌+◌, ◌*◌, ◌^◌, ◌≤◌, ◌<◌, length, get_or};
 ghost use Rattle.codec.specs.Number.{be_at};
 ghost use Rattle.codec.specs.Words.{words2};
@@ -26,7 +28,7 @@ use sampling::Filled;
 const KEYS: usize = layout::LARGEST_REPLICAS as usize;
 
 // The column of an id, and how many columns there are then.
-#[derive(Drop)]
+#[derive(Clone, Copy)]
 struct Joined {
     column: ReplicaKey,
     count: u32,

@@ -3,6 +3,8 @@
 //
 // The longest knowledge within the limits has 14,933 bytes. The program reads at most one byte more, and the contract of
 // `check_front` says that this decides the answer for all of the input.
+#![tactic(auto)]
+
 ghost use Rattle.std.specs.Prelude.{◌≡◌, ◌≤◌, length, take};
 ghost use Rattle.inspect.specs.Front.{DecidesAll};
 

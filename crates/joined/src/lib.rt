@@ -1,5 +1,7 @@
 // A call of a list, made by its C function. Each contract has the three equations of the C function, and says that what the function
 // returned and left is what a list of calls takes from the call.
+#![tactic(auto)]
+
 ghost use Rattle.joined.specs.Step.{NewStep, EditStep, DeleteStep, MakeStep, ApplyStep};
 
 pub fn new_step(own: &[u8], out: &mut [u8], written: &mut u64) -> u32

@@ -1,6 +1,8 @@
 // Rows of ticks in the bytes of a knowledge, and the first place where one knowledge lacks a tick of another.
 //
 // Every public function is total. The keys of two knowledges meet through their ids only.
+#![tactic(auto)]
+
 ghost use Rattle.std.specs.Prelude.{◌≡◌, true, ◌+◌, ◌*◌, ◌^◌, ◌≤◌, ◌<◌, length};
 ghost use Rattle.std.proofs.Math.Option.{none};
 ghost use Rattle.codec.specs.Ids.{item_of, replica_of};
@@ -17,14 +19,14 @@ use lookup::{Cursor, View};
 const CELLS: usize = layout::LARGEST_REPLICAS as usize + 1;
 
 // The least replica id that was met.
-#[derive(Drop)]
+#[derive(Clone, Copy)]
 pub enum Least {
     Nothing,
     Id(Replica),
 }
 
 // The next item at which a knowledge may change.
-#[derive(Drop)]
+#[derive(Clone, Copy)]
 pub enum Stop {
     // none up to the end of the span
     Past,
@@ -32,14 +34,14 @@ pub enum Stop {
 }
 
 // An item and a replica of which a knowledge lacks ticks.
-#[derive(Drop)]
+#[derive(Clone, Copy)]
 pub struct Lack {
     pub item: Item,
     pub replica: Replica,
 }
 
 // The first place where the first knowledge knows less.
-#[derive(Drop)]
+#[derive(Clone, Copy)]
 pub enum Place {
     Nowhere,
     Here(Lack),

@@ -1,4 +1,5 @@
 // The types of the knowledge layout that code and definitions share, the limits, and the places of fields. No function stands here.
+#![tactic(auto)]
 
 // document 01's limits: the most replicas, ranges and records
 pub const REPLICAS: u32 = 16;
@@ -22,7 +23,7 @@ pub const VECTORS_PLACE: usize = 48;
 pub const RANGES_PLACE: usize = 64;
 
 // The most replicas and ranges of a knowledge, and the most records of a store or batch.
-#[derive(Drop)]
+#[derive(Clone, Copy)]
 pub struct Limits {
     pub replicas: u32,
     pub ranges: u32,
@@ -30,15 +31,15 @@ pub struct Limits {
 }
 
 // The place of a replica id in a knowledge's replica map, counted from 0.
-#[derive(Drop)]
+#[derive(Clone, Copy)]
 pub struct ReplicaKey(pub u32);
 
 // The place of a clock vector in a knowledge, counted from 0.
-#[derive(Drop)]
+#[derive(Clone, Copy)]
 pub struct VectorIndex(pub u32);
 
 // What reading one part of the bytes comes to.
-#[derive(Drop)]
+#[derive(Clone, Copy)]
 pub enum Got {
     // a number, and the place after the part
     Num(usize, usize),
@@ -47,7 +48,7 @@ pub enum Got {
 }
 
 // The answer of the check of a knowledge.
-#[derive(Drop)]
+#[derive(Clone, Copy)]
 pub enum Checked {
     // the replicas, the clock vectors, the elements of all vectors, the ranges
     Accepted {

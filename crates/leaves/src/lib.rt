@@ -4,6 +4,8 @@
 // Every public function is total: a part that is too short reads as 0. Where the part's length is written at the call, as
 // above, that the bytes are there is shown at the call, and the test of the length is gone once the call is inlined. What has no room
 // is not written at all.
+#![tactic(auto)]
+
 ghost use Rattle.std.specs.Prelude.{◌≡◌, ◌+◌, ◌^◌, ◌≤◌, ◌<◌, length, get_or, eqb, ltb};
 ghost use Rattle.codec.specs.Number.{be_at};
 ghost use Rattle.codec.specs.Total.{read_at};

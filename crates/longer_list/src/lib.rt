@@ -1,1 +1,2 @@
 // No function stands here: the crate holds what a list of twenty-six calls comes to.
+#![tactic(auto)]

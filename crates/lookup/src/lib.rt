@@ -2,6 +2,8 @@
 //
 // Every public function is total. The leaves go by places and take any bytes, any sizes and any cursor; for bytes that the check
 // accepts, with the sizes that it answers, they give the known tick.
+#![tactic(auto)]
+
 ghost use Rattle.std.specs.Prelude.{◌≡◌, ◌+◌, ◌*◌, ◌^◌, ◌≤◌, ◌<◌, pos, ◌-ℤ◌, length};
 ghost use Rattle.codec.specs.Ids.{item_of, replica_of};
 ghost use Rattle.layout.specs.Knowledge.{Rules, basic};
@@ -16,7 +18,7 @@ use layout::{Checked, Limits, ReplicaKey, VectorIndex};
 use ticks::{Contain, Lead};
 
 // A place among the ranges of a knowledge, for items in rising order: it only moves forward.
-#[derive(Drop)]
+#[derive(Clone, Copy)]
 pub struct Cursor {
     // how many ranges are not passed, and the place of the next one
     pub left: u32,
@@ -27,14 +29,14 @@ pub struct Cursor {
 }
 
 // A knowledge that was opened: how many replicas it has, and the cursor before any of its ranges.
-#[derive(Drop)]
+#[derive(Clone, Copy)]
 pub struct View {
     pub r: u32,
     pub start: Cursor,
 }
 
 // What the check of a knowledge comes to for lookup.
-#[derive(Drop)]
+#[derive(Clone, Copy)]
 pub enum Opened {
     At(View),
     // the refusal's number

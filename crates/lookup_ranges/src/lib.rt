@@ -3,6 +3,8 @@
 //
 // Every public function is total and goes by places, for any bytes and cursor: for bytes that the check accepts, with the cursor
 // before any range, the answers are the defined ones.
+#![tactic(auto)]
+
 ghost use Rattle.std.specs.Prelude.{◌≡◌, ◌+◌, ◌-◌, ◌*◌, ◌^◌, ◌≤◌, ◌<◌, ltb, length, get_or};
 ghost use Rattle.codec.specs.Number.{be_at};
 ghost use Rattle.codec.specs.Ids.{item_of, replica_of};

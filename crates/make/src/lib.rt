@@ -4,6 +4,8 @@
 // normal form it is needed as it stands; else needed is written into scratch first, since its length says where learned begins. Learned is
 // written into its room in the buffer, a copy of the store's own knowledge where the span is all ids, and header, needed and records around it.
 // The records are looked up in the given knowledge as it stands, which contains the same versions as its normal form.
+#![tactic(auto)]
+
 ghost use Rattle.std.specs.Prelude.{◌≡◌, length};
 ghost use Rattle.codec.specs.Reply.{gives, answer, after};
 ghost use Rattle.codec.specs.MethodEnded.{Ended, end_of};
@@ -43,7 +45,7 @@ const SHORT_KNOWLEDGE: usize = 900;
 
 // What a make goes by once its inputs are accepted: the place of the store's records, the store's own knowledge and the given one as they were
 // opened, the span, and the limits.
-#[derive(Drop)]
+#[derive(Clone, Copy)]
 struct Task {
     table: usize,
     own: View,

@@ -1,4 +1,6 @@
 // The calls that write a knowledge: normalise, merge and project; and the empty knowledge.
+#![tactic(auto)]
+
 ghost use Rattle.std.specs.Prelude.{◌≡◌, length};
 ghost use Rattle.codec.specs.Part.{placed};
 ghost use Rattle.codec.specs.Reply.{answer, after};

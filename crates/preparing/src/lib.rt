@@ -1,6 +1,8 @@
 // What a call does with a table of known ticks once it is filled: it plans what is written, judges that by the limits, and writes it.
 //
 // Every public function is total. A call ends with `conclude`, which has lists of its own for the plan.
+#![tactic(auto)]
+
 ghost use Rattle.std.specs.Prelude.{◌≡◌};
 ghost use Rattle.layout.specs.Permitted.{rules_within};
 ghost use Rattle.tables.specs.MethodWords.{most_rows};
@@ -16,7 +18,7 @@ use tables::Sizes;
 pub const FEW: usize = 12;
 
 // A table that is ready to be written, with its count of rows, or the number of its refusal.
-#[derive(Drop)]
+#[derive(Clone, Copy)]
 pub enum Prepared {
     Ready { sizes: Sizes, rows: u32 },
     Refused(u32),

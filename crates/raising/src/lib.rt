@@ -2,6 +2,8 @@
 //
 // Every public function is total: where there are not the bounds of all rows, no cell is raised. The tick of row k and column c is word
 // STRIDE * k + c of `t`.
+#![tactic(auto)]
+
 ghost use Rattle.std.specs.Prelude.{◌≡◌, ◌+◌, ◌*◌, ◌^◌, ◌≤◌, ◌<◌, length, get_or};
 ghost use Rattle.codec.specs.Number.{be_at};
 ghost use Rattle.lookup.specs.Method.{elements_here};

@@ -3,6 +3,8 @@
 //
 // Every public function is total and takes the whole bytes and a place in them. An item id is three words of 64 bits and a
 // replica id two, the highest first.
+#![tactic(auto)]
+
 ghost use Rattle.std.specs.Prelude.{◌≡◌, ◌+◌, ◌*◌, ◌≤◌, ◌<◌, eqb, leb, length, get_or};
 ghost use Rattle.codec.specs.Number.{be_at};
 ghost use Rattle.codec.specs.Total.{read_at};
@@ -35,7 +37,7 @@ const END: usize = 89;
 const LARGEST_TICK: u64 = 9223372036854775807;
 
 // Where an item's record stands.
-#[derive(Drop)]
+#[derive(Clone, Copy)]
 pub enum Found {
     // the place of the record
     At(usize),

@@ -3,6 +3,8 @@
 // A table is what a walker goes through from a place of some bytes on. The join is decided once: a first pass finds the records of the
 // result, stores their addresses, and counts them and their bytes; a second pass copies them. An address is a place of the first bytes
 // or, from their length on, a place of the second. Every public function is total: what has no room is not written.
+#![tactic(auto)]
+
 ghost use Rattle.std.specs.Prelude.{◌≡◌, true, [], ◌+◌, ◌^◌, ◌≤◌, ◌<◌, length, take, set};
 ghost use Rattle.codec.specs.Part.{placed};
 ghost use Rattle.replication.specs.Formats.{kind_of, put_rec};
@@ -17,21 +19,21 @@ use codec::{Item, Replica};
 pub const RECORD_LENGTH: usize = 89;
 
 // The words of a content tag.
-#[derive(Drop)]
+#[derive(Clone, Copy)]
 pub struct TagWords {
     pub high: u64,
     pub low: u64,
 }
 
 // A change or create version, but for its item.
-#[derive(Drop)]
+#[derive(Clone, Copy)]
 pub struct VersionWords {
     pub replica: Replica,
     pub tick: u64,
 }
 
 // A record. A tombstone is deleted, and its tag is zeros.
-#[derive(Drop)]
+#[derive(Clone, Copy)]
 pub struct RecordWords {
     pub item: Item,
     pub change: VersionWords,
@@ -41,7 +43,7 @@ pub struct RecordWords {
 }
 
 // How many records there are, and how many bytes they have together.
-#[derive(Drop)]
+#[derive(Clone, Copy)]
 pub struct Extent {
     pub count: usize,
     pub length: usize,
@@ -49,7 +51,7 @@ pub struct Extent {
 
 // What a step of the join comes to: the address chosen next, the length of the record there, 0 at the end of both tables, and the
 // places behind what is passed.
-#[derive(Drop)]
+#[derive(Clone, Copy)]
 struct Step {
     chosen: usize,
     size: usize,

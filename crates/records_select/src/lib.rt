@@ -3,6 +3,8 @@
 // A table is what a walker goes through from a place of some bytes on. One pass decides: it stores the places of the records, and
 // counts them and their bytes; `records_join::copy_picked` copies them, since a place is also an address. The public function is total
 // and goes by places; for a table that rises and bytes that the check accepts the records are those that a make carries.
+#![tactic(auto)]
+
 ghost use Rattle.std.specs.Prelude.{◌≡◌, length};
 ghost use Rattle.codec.specs.Ids.{item_of};
 ghost use Rattle.replication.specs.Queries.{places};
@@ -14,7 +16,7 @@ use lookup::{Cursor, View};
 use records_join::Extent;
 
 // The next record that is selected: its place, its length, 0 where there is none, and the cursor at its item.
-#[derive(Drop)]
+#[derive(Clone, Copy)]
 pub struct Pick {
     pub at: usize,
     pub size: usize,

@@ -2,6 +2,8 @@
 //
 // Every public function is total and goes by places: s has the records, and k, with r replicas, is the knowledge. For a valid record,
 // bytes that the check accepts and a cursor that was moved on to the record's item, the answer is that of containing.
+#![tactic(auto)]
+
 ghost use Rattle.std.specs.Prelude.{◌≡◌};
 ghost use Rattle.codec.specs.Words.{words2};
 ghost use Rattle.records_versions.specs.Method.{moved_to, tick_in, change_in};

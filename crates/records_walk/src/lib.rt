@@ -2,6 +2,8 @@
 //
 // The work is done by functions of a slice and a number; the struct holds just these two. What it hands out is a part of the
 // lent table, uncopied, and the empty part where no whole record of a known kind follows.
+#![tactic(auto)]
+
 ghost use Rattle.std.specs.Prelude.{◌≡◌};
 ghost use Rattle.replication.specs.Queries.{to_give};
 ghost use Rattle.records_walk.specs.Given.{PartOf, still_gives, later_parts};

@@ -1,8 +1,9 @@
 // The answers of the calls on stores and batches that write no bytes. No function stands here: the crate holds the meaning of
 // records, stores, batches and calls, and the theorem over whole lists of calls.
+#![tactic(auto)]
 
 // The answer of a call that returns a part of the bytes given: where the part begins and how long it is.
-#[derive(Drop)]
+#[derive(Clone, Copy)]
 pub enum Part {
     // no part: the item is on neither side
     Nothing,
@@ -15,7 +16,7 @@ pub enum Part {
 }
 
 // The answer of coverage.
-#[derive(Drop)]
+#[derive(Clone, Copy)]
 pub enum Coverage {
     // the records whose change version the knowledge contains, the records in all, and 1000 times their ratio
     Covered {

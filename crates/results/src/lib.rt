@@ -4,6 +4,8 @@
 //
 // The functions are total, and nothing but the buffer can change. Their contracts say what they leave for any input; laws say what that is
 // where the bytes were opened under the limits.
+#![tactic(auto)]
+
 ghost use Rattle.std.specs.Prelude.{◌≡◌};
 ghost use Rattle.codec.specs.MethodEnded.{end_of};
 ghost use Rattle.tables.specs.MethodWords.{most_rows};
@@ -24,7 +26,7 @@ const MIDDLE: usize = 34;
 
 const ONE: usize = layout::LARGEST_RANGES as usize + 4;
 
-#[derive(Drop)]
+#[derive(Clone, Copy)]
 enum Size {
     Small,
     Middle,

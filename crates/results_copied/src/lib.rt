@@ -1,6 +1,8 @@
 // Results that are a copy of bytes that are there: all of them, or all but the ticks of one replica.
 //
 // Every public function is total, and nothing but the buffer can change.
+#![tactic(auto)]
+
 ghost use Rattle.std.specs.Prelude.{◌≡◌, ◌+◌, ◌^◌, ◌≤◌};
 ghost use Rattle.codec.specs.Reply.{gives};
 ghost use Rattle.codec.specs.MethodEnded.{Ended, end_of};

@@ -2,6 +2,8 @@
 //
 // Every public function is total: where the ranges are not all in the bytes, or where there is no room, no row is put. Row k has its
 // bound in words 3k, 3k + 1 and 3k + 2 of `bounds`, the highest word first.
+#![tactic(auto)]
+
 ghost use Rattle.std.specs.Prelude.{◌≡◌, ◌+◌, ◌*◌, ◌^◌, ◌≤◌, ◌<◌, length, get_or};
 ghost use Rattle.codec.specs.Number.{be_at};
 ghost use Rattle.ticks.specs.Meaning.{highest};
@@ -18,7 +20,7 @@ use sampling::Turn;
 const TOP: u64 = 18446744073709551615;
 
 // The first and the last row of a span, and the last row.
-#[derive(Drop)]
+#[derive(Clone, Copy)]
 pub struct Spanned {
     pub from: u32,
     pub top: u32,

@@ -1,6 +1,8 @@
 // The headers of stores and batches.
 //
 // Every public function is total: a header that has no room is not written at all.
+#![tactic(auto)]
+
 ghost use Rattle.std.specs.Prelude.{◌≡◌, ◌+◌, ◌^◌, ◌<◌};
 ghost use Rattle.codec.specs.Ids.{item_of, replica_of};
 ghost use Rattle.codec.specs.MethodWritten.{Wrote};

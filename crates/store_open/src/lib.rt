@@ -2,6 +2,8 @@
 //
 // Both public functions are total and take limits of the caller's. For a valid store or batch they answer the sizes that its other
 // functions go on from, so that nothing is checked again.
+#![tactic(auto)]
+
 ghost use Rattle.std.specs.Prelude.{◌≡◌, true, ℕ, ◌+◌, ◌*◌, ◌≤◌, ◌<◌, eqb, ltb, leb, length};
 ghost use Rattle.codec.specs.Number.{be_at};
 ghost use Rattle.codec.specs.Total.{clamp};
@@ -55,14 +57,14 @@ const FIRST_BYTE: u64 = 72057594037927936;
 const PLACES: usize = layout::LARGEST_RANGES as usize + 1;
 
 // A knowledge inside a store or batch that was opened, and the length of its bytes.
-#[derive(Drop)]
+#[derive(Clone, Copy)]
 pub struct KnowledgePart {
     pub length: usize,
     pub view: View,
 }
 
 // What the check of a store comes to.
-#[derive(Drop)]
+#[derive(Clone, Copy)]
 pub enum OpenedStore {
     // its knowledge, and how many records it has
     Valid { own: KnowledgePart, count: u32 },
@@ -70,7 +72,7 @@ pub enum OpenedStore {
 }
 
 // What the check of a batch comes to.
-#[derive(Drop)]
+#[derive(Clone, Copy)]
 pub enum OpenedBatch {
     // its two knowledges, and how many records it has
     Valid {
@@ -82,7 +84,7 @@ pub enum OpenedBatch {
 }
 
 // What the check of a knowledge and of its normal form comes to.
-#[derive(Drop)]
+#[derive(Clone, Copy)]
 pub enum Normality {
     Normal { part: KnowledgePart },
     Other,

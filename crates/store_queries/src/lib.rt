@@ -2,6 +2,8 @@
 //
 // For a part one function finds side, place and length. The public calls hand out the part itself, of the lent slices, with the number
 // beside it, or tell its place.
+#![tactic(auto)]
+
 ghost use Rattle.std.specs.Prelude.{◌≡◌, true, ◌≤◌};
 ghost use Rattle.codec.specs.Ids.{item_of};
 ghost use Rattle.layout.specs.Knowledge.{any_id, basic, base};

@@ -2,6 +2,8 @@
 // records around it, and a batch's needed knowledge in front. A buffer that is too short is refused before a byte around it is written.
 //
 // Every public function is total.
+#![tactic(auto)]
+
 ghost use Rattle.std.specs.Prelude.{◌≡◌, ◌+◌, ◌≤◌, length, take};
 ghost use Rattle.codec.specs.Part.{placed};
 ghost use Rattle.codec.specs.Total.{clamp};
@@ -20,7 +22,7 @@ use records_join::Extent;
 // ---- a store around a knowledge that is written into its room
 
 // A part of a buffer.
-#[derive(Drop)]
+#[derive(Clone, Copy)]
 pub struct Room {
     pub from: usize,
     pub to: usize,

@@ -1,7 +1,8 @@
 // The answers of the calls on knowledge that write no bytes. No function stands here.
+#![tactic(auto)]
 
 // The answer of contain.
-#[derive(Drop)]
+#[derive(Clone, Copy)]
 pub enum Contain {
     // the version is contained
     Contained,
@@ -12,7 +13,7 @@ pub enum Contain {
 }
 
 // The answer of lead.
-#[derive(Drop)]
+#[derive(Clone, Copy)]
 pub enum Lead {
     // the first knowledge's tick minus the second's
     Ahead(i64),
@@ -21,7 +22,7 @@ pub enum Lead {
 }
 
 // The answer of cover.
-#[derive(Drop)]
+#[derive(Clone, Copy)]
 pub enum Cover {
     // the first knowledge knows at least as much as the second throughout the span
     Covers,

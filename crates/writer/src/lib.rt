@@ -2,6 +2,8 @@
 //
 // Every piece is written where the one before it ended. An element is written from its `ReplicaKey` and tick, a range from its
 // bound and `VectorIndex`. Every public function is total: a number that a list lacks is 0, and what has no room is not written.
+#![tactic(auto)]
+
 ghost use Rattle.std.specs.Prelude.{◌≡◌, [], ◌∷◌, ◌+◌, ◌*◌, ◌^◌, ◌≤◌, ◌<◌, length, get_or};
 ghost use Rattle.codec.specs.Part.{placed, bytes};
 ghost use Rattle.layout.specs.Knowledge.{put_fields, opening, before_vectors, before_ranges, closing};

@@ -1,0 +1,7 @@
+-- `collector::sync_project` meets its contract: number, length and buffer are those of the call's reply.
+use Rattle.collector.proofs.Endings.{answer_called}
+use borrow.Author.Rules.{rules}
+use Rattle.collector.proofs.sync_project.Goals as goal
+
+pub returns : goal.returns
+returns c = answer_called _ _ _ _ _ _ _ c.answer_to_c.ensures.number c.answer_to_c.ensures.count c.project-a.ensures.value c.project-a.ensures.out_after

@@ -1,0 +1,13 @@
+-- `compare::same_ids` meets its contract. The loop's invariant: all ids are the same where those that are left are.
+use mathlib.Core.Path.{refl}
+use mathlib.Core.Bool.{false}
+use native.Mathlib.Omega.{arith}
+use Rattle.ticks.proofs.Equality.{clash}
+use Rattle.compare.proofs.HowFar.{IdsFrom, ids_all, ids_next, ids_done}
+use Rattle.compare.proofs.same_ids.Given as goal
+
+abbrev pub invariant-loop-left : goal.invariant-loop-left
+invariant-loop-left l = IdsFrom l.s l.t l.r l.left l.at
+
+abbrev pub decreases-loop-left : goal.decreases-loop-left
+decreases-loop-left l = l.left

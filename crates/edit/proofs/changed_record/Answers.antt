@@ -1,0 +1,20 @@
+-- `edit::changed_record` meets its contract, for an item that is there and for one that is absent.
+use mathlib.Core.Path.{refl}
+use Rattle.edit.proofs.Changing.{record_kept, record_new}
+use borrow.Author.Rules.{rules}
+use Rattle.edit.proofs.changed_record.Goals as goal
+
+pub returns-in-At-clause-result_value : goal.returns-in-At-clause-result_value
+returns-in-At-clause-result_value c = let a = c.args in record_kept a.s.now a.found a.what a.change _ c.in-At.is _
+    c.create_replica-replica.ensures c.create_tick-tick.ensures
+
+pub returns-in-At-clause-change_value : goal.returns-in-At-clause-change_value
+returns-in-At-clause-change_value c = let a = c.args in refl
+
+pub returns-in-Nothing-clause-result_value : goal.returns-in-Nothing-clause-result_value
+returns-in-Nothing-clause-result_value c = let a = c.args in
+    record_new a.s.now a.found a.what a.change c.in-Nothing.is
+
+pub returns-in-Nothing-clause-change_value : goal.returns-in-Nothing-clause-change_value
+returns-in-Nothing-clause-change_value c = let a = c.args in
+    refl

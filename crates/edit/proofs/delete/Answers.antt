@@ -1,0 +1,9 @@
+-- `edit::delete` meets its contract: document 01's limits are those of its three numbers.
+use Rattle.replication.specs.Calls.{delete_reply}
+use Rattle.store_write.proofs.Storing.{ended_base}
+use borrow.Author.Rules.{rules}
+use Rattle.edit.proofs.delete.Goals as goal
+
+pub returns : goal.returns
+returns c = let a = c.args in
+    ended_base (λ L. delete_reply L a.store.now a.item.now) _ _ _ c.delete_within.ensures

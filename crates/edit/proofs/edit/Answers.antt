@@ -1,0 +1,10 @@
+-- `edit::edit` meets its contract: document 01's limits are those of its three numbers.
+use Rattle.replication.specs.Calls.{edit_reply}
+use Rattle.replication.specs.Call.{brings}
+use Rattle.store_write.proofs.Storing.{ended_base}
+use borrow.Author.Rules.{rules}
+use Rattle.edit.proofs.edit.Goals as goal
+
+pub returns : goal.returns
+returns c = let a = c.args in
+    ended_base (λ L. edit_reply L a.store.now a.item.now (brings a.tag.now)) _ _ _ c.edit_within.ensures

@@ -1,0 +1,7 @@
+-- `edit::tag_words` meets its contract: two words of 8 bytes are the number of 16.
+use Rattle.edit.proofs.Changing.{tag_is}
+use borrow.Author.Rules.{rules}
+use Rattle.edit.proofs.tag_words.Goals as goal
+
+pub returns : goal.returns
+returns c = tag_is _ _ _ c.requires c.read8-high.ensures.value c.read8-low.ensures.value

@@ -1,0 +1,33 @@
+-- `filling::add_ids` meets its contract. The loop's invariant: the columns of the keys that are left are still to be added.
+use native.Mathlib.Omega.{arith}
+use Prim.Native.Nat.{◌+◌, ◌-◌, ◌*◌, ◌^◌, ◌≤◌, ◌<◌}
+use mathlib.Core.Path.{◌≡◌, refl}
+use lib.ListN.{length, length-set}
+use Rattle.layout.specs.MethodPlaces.{ids_place}
+use Rattle.sampling.specs.MethodColumns.{columns_of, mapped_from, mapped}
+use Rattle.sampling.proofs.Columns.{map-starts, map-ends, map_next}
+use Rattle.filling.proofs.add_ids.Goals as goal
+
+pub loop-key-init : goal.loop-key-init
+loop-key-init c = (map-starts _ _ _ _ _, omega arith, omega arith, omega arith, refl, refl, omega arith, omega arith, omega arith, omega arith)
+
+pub join_id-joined-requires : goal.join_id-joined-requires
+join_id-joined-requires c = (omega arith, omega arith, omega arith)
+
+pub loop-key-preserved : goal.loop-key-preserved
+loop-key-preserved c = let j = c.join_id-joined.ensures in (
+  map_next _ _ _ _ _ _ _ _ c.loop-key.invariant.0 c.loop-key-test.true _ _
+      c.eight.ensures.0 c.eight-in-loop-key.ensures.0 _ _ _ j.0,
+  omega arith,
+  omega (arith, j.2),
+  omega (arith, j.3),
+  omega (arith, j.4),
+  simp length-set (omega arith),
+  omega arith,
+  omega arith,
+  omega arith,
+  omega arith,
+)
+
+pub returns : goal.returns
+returns c = (map-ends _ _ _ _ _ _ _ _ c.loop-key.invariant.0 (omega arith), omega arith, omega arith, omega arith)

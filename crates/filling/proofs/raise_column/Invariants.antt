@@ -1,0 +1,16 @@
+-- `filling::raise_column` meets its contract. The loop's invariant: the column is still to be set in the rows that are left.
+use native.Mathlib.Omega.{arith}
+use Prim.Native.Nat.{suc, ◌+◌, ◌-◌, ◌*◌, ◌^◌, ◌≤◌, ◌<◌}
+use mathlib.Core.Path.{◌≡◌, refl}
+use lib.ListN.{length, length-set}
+use Rattle.tables.specs.MethodWords.{stride}
+use Rattle.sampling.specs.MethodCells.{column_set_from, column_set}
+use Rattle.sampling.proofs.Filling.{set-starts, set-ends, set_next}
+use Rattle.filling.proofs.raise_column.Given as goal
+
+abbrev pub invariant-loop-k : goal.invariant-loop-k
+invariant-loop-k l = (column_set l.c.0 l.tick l.from l.top l.initial.t ≡ column_set_from l.c.0 l.tick (suc l.top - l.k) l.k l.t) × (length l.t ≡ length l.initial.t) × (l.c.0 < stride)
+    × (stride * (l.top + 1) ≤ length l.initial.t) × (l.top + 1 < 2 ^ 32)
+
+abbrev pub decreases-loop-k : goal.decreases-loop-k
+decreases-loop-k l = suc l.top - l.k

@@ -1,0 +1,8 @@
+-- `joined::delete_step` meets its contract: the equations are those of the C function, and by them it makes the call of a list.
+use Rattle.joined.proofs.Steps.{called_of, delete_called}
+use borrow.Author.Rules.{rules}
+use Rattle.joined.proofs.delete_step.Goals as goal
+
+pub returns : goal.returns
+returns c = let e = c.sync_delete.ensures in
+    delete_called _ _ _ _ _ _ _ (called_of _ _ _ _ _ _ e.0 e.1.0 e.1.1)

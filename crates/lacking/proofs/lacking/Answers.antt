@@ -1,0 +1,20 @@
+-- `lacking::lacking` meets its contract: both are laid out, or it is nowhere.
+use Rattle.lacking.proofs.Walking.{laid_parts, lacks_first, lacks_second, lacks_whole}
+use Rattle.lacking.proofs.lacking.Goals as goal
+
+pub search-requires : goal.search-requires
+search-requires c = (
+  laid_parts _ _ _ _ c.laid_out.ensures c.if-laid_out.true,
+  laid_parts _ _ _ _ c.laid_out-then-laid_out.ensures c.if-laid_out-2.true,
+)
+
+pub returns-then-laid_out-2 : goal.returns-then-laid_out-2
+returns-then-laid_out-2 c = lacks_whole _ _ _ _ _ _ _ _ _ c.laid_out.ensures c.if-laid_out.true _
+    c.laid_out-then-laid_out.ensures _ c.if-laid_out-2.true c.search.ensures
+
+pub returns-else-laid_out-2 : goal.returns-else-laid_out-2
+returns-else-laid_out-2 c = lacks_second _ _ _ _ _ _ _ _ _ c.laid_out.ensures c.if-laid_out.true _
+    c.laid_out-then-laid_out.ensures c.if-laid_out-2.false
+
+pub returns-else-laid_out : goal.returns-else-laid_out
+returns-else-laid_out c = lacks_first _ _ _ _ _ _ _ _ _ c.laid_out.ensures c.if-laid_out.false

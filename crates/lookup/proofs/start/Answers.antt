@@ -1,0 +1,7 @@
+-- `lookup::start` meets its contract: the places are those that the sizes give.
+use Rattle.lookup.proofs.Calls.{start_is}
+use native.Mathlib.Omega.{arith}
+use Rattle.lookup.proofs.start.Goals as goal
+
+pub returns : goal.returns
+returns c = start_is _ _ _ _

@@ -1,0 +1,15 @@
+-- `lookup_ranges::top_key` meets its contract. The loop's invariant: the key's largest tick of all ranges is that of the largest so far
+-- and those that are left.
+use Prim.Native.Nat.{◌+◌, ◌*◌, ◌≤◌}
+use mathlib.Core.Path.{◌≡◌, refl}
+use lib.ListN.{length}
+use Rattle.lookup_ranges.specs.Method.{top_key_by}
+use Rattle.lookup_ranges.proofs.Ranges.{keys_short, keys_there, keys_next, keys_end}
+use native.Mathlib.Omega.{arith}
+use Rattle.lookup_ranges.proofs.top_key.Given as goal
+
+abbrev pub invariant-loop-left : goal.invariant-loop-left
+invariant-loop-left l = (top_key_by l.s l.r l.key l.initial.left l.initial.next l.initial.index l.initial.vector 0 ≡ top_key_by l.s l.r l.key l.left l.next l.index l.vector l.top) × (l.next + 28 * l.left ≤ length l.s)
+
+abbrev pub decreases-loop-left : goal.decreases-loop-left
+decreases-loop-left l = l.left

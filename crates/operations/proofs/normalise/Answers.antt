@@ -1,0 +1,9 @@
+-- `operations::normalise` meets its contract: document 01's limits are those of its two numbers.
+use borrow.Author.Rules.{rules}
+use Rattle.ticks.specs.Calls.{normalise_reply}
+use Rattle.operations.proofs.Replies.{ended_basic}
+use Rattle.operations.proofs.normalise.Goals as goal
+
+pub returns : goal.returns
+returns c = let e = c.normalise_within.ensures in
+    ended_basic (λ R. normalise_reply R c.args.knowledge.now) _ _ _ e

@@ -1,0 +1,9 @@
+-- `operations::project` meets its contract: document 01's limits are those of its two numbers.
+use Rattle.ticks.specs.Calls.{project_reply}
+use Rattle.operations.proofs.Replies.{ended_basic}
+use borrow.Author.Rules.{rules}
+use Rattle.operations.proofs.project.Goals as goal
+
+pub returns : goal.returns
+returns c = let a = c.args in
+    ended_basic (λ R. project_reply R a.knowledge.now a.first.now a.last.now) _ _ _ c.project_within.ensures

@@ -1,0 +1,14 @@
+-- `preparing::conclude` meets its contract: less room for the plan where the rows are few.
+use native.Mathlib.Omega.{arith}
+use Rattle.layout.specs.Permitted.{rules_within}
+use Rattle.preparing.proofs.Ends.{end_few, end_many}
+use borrow.Author.Rules.{rules}
+use Rattle.preparing.proofs.conclude.Goals as goal
+
+pub returns-then-q : goal.returns-then-q
+returns-then-q c = let a = c.args in
+    end_few (rules_within a.replicas a.ranges).limits _ _ _ _ _ _ (omega arith) c.conclude_few.ensures
+
+pub returns : goal.returns
+returns c = let a = c.args in
+    end_many (rules_within a.replicas a.ranges).limits _ _ _ _ _ _ (omega arith) c.conclude_many.ensures

@@ -1,0 +1,16 @@
+-- `raising::fill_rows` meets its contract. The loop's invariant: the rows that are left are still to be raised, from the cursor on.
+use native.Mathlib.Omega.{arith}
+use Prim.Native.Nat.{suc, ◌+◌, ◌-◌, ◌*◌, ◌^◌, ◌≤◌, ◌<◌}
+use mathlib.Core.Path.{◌≡◌, ap, ◌∙◌}
+use lib.ListN.{length}
+use Rattle.tables.specs.MethodWords.{bound_at}
+use Rattle.sampling.specs.MethodCells.{filled_from, filled}
+use Rattle.sampling.proofs.Filling.{fill_starts, fill_ends, fill_next, filled-length}
+use Rattle.raising.proofs.fill_rows.Given as goal
+
+abbrev pub invariant-loop-k : goal.invariant-loop-k
+invariant-loop-k l = (filled l.s l.r l.initial.c l.keys l.bounds l.from l.top l.initial.t ≡ filled_from l.s l.r l.keys l.bounds (suc l.top - l.k) l.c l.k l.t) × (3 * (l.top + 1) ≤ length l.bounds) ×
+    (l.top + 1 < 2 ^ 32)
+
+abbrev pub decreases-loop-k : goal.decreases-loop-k
+decreases-loop-k l = suc l.top - l.k

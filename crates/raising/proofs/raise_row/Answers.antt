@@ -1,0 +1,37 @@
+-- `raising::raise_row` meets its contract. The loop's invariant: the whole row is what the elements that are left raise.
+use native.Mathlib.Omega.{arith}
+use Prim.Native.Nat.{◌-◌}
+use mathlib.Core.Path.{ap, ◌∙◌}
+use lib.ListN.{length}
+use Rattle.lookup.specs.Method.{elements_here}
+use Rattle.sampling.specs.MethodCells.{raised_by}
+use Rattle.sampling.proofs.Cells.{by_size, Rest, rest_starts, rest_ends, rest_next}
+use Rattle.raising.proofs.raise_row.Goals as goal
+
+pub loop-i-init : goal.loop-i-init
+loop-i-init c = rest_starts _ _ _ _ _ _ c.elements_at-n.ensures
+
+pub overflow_add-at : goal.overflow_add-at
+overflow_add-at c = omega (arith, c.loop-i.invariant.there c.loop-i-test.true)
+
+pub four-x-requires : goal.four-x-requires
+four-x-requires c = omega (arith, c.loop-i.invariant.there c.loop-i-test.true)
+
+pub overflow_add-at-in-loop-i : goal.overflow_add-at-in-loop-i
+overflow_add-at-in-loop-i c = omega (arith, c.loop-i.invariant.there c.loop-i-test.true)
+
+pub eight-tick-requires : goal.eight-tick-requires
+eight-tick-requires c = omega (arith, c.loop-i.invariant.there c.loop-i-test.true)
+
+pub overflow_add-at-in-loop-i-2 : goal.overflow_add-at-in-loop-i-2
+overflow_add-at-in-loop-i-2 c = omega (arith, c.loop-i.invariant.there c.loop-i-test.true)
+
+pub loop-i-preserved : goal.loop-i-preserved
+loop-i-preserved c = rest_next _ _ _ _ _ _ _ _ c.loop-i.invariant c.loop-i-test.true _ _ _
+    c.four-x.ensures.0 c.eight-tick.ensures.0 c.raise_cell.ensures
+
+pub shape_of-t : goal.shape_of-t
+shape_of-t c = ap length (rest_ends _ _ _ _ _ _ _ _ c.loop-i.invariant (omega arith)) ∙ by_size _ _ _ _
+
+pub returns : goal.returns
+returns c = rest_ends _ _ _ _ _ _ _ _ c.loop-i.invariant (omega arith)

@@ -1,0 +1,16 @@
+-- `records::place_of` meets its contract. The loop's invariant: the place of the item's record among all records is the one among those
+-- that are left.
+use Prim.Native.Nat.{◌-◌}
+use lib.ListN.{length}
+use mathlib.Core.Path.{◌≡◌, refl}
+use native.Mathlib.Omega.{arith}
+use Rattle.codec.specs.Words.{words3}
+use Rattle.replication.specs.Queries.{places, place_of}
+use Rattle.records.proofs.Finding.{length-at, length-inside, search_past, search_end, search_found, search_on}
+use Rattle.records.proofs.place_of.Given as goal
+
+abbrev pub invariant-loop-p : goal.invariant-loop-p
+invariant-loop-p l = place_of l.s (words3 l.i0 l.i1 l.i2) (places l.s l.at) ≡ place_of l.s (words3 l.i0 l.i1 l.i2) (places l.s l.p)
+
+abbrev pub decreases-loop-p : goal.decreases-loop-p
+decreases-loop-p l = length l.s - l.p

@@ -1,0 +1,18 @@
+-- `records_join::copy_picked` meets its contract: past the end of the output nothing is written, and the first n of fewer addresses are all.
+use mathlib.Core.Path.{sym, ◌∙◌}
+use mathlib.Core.Logic.{⊎_elim, inl, inr}
+use native.Mathlib.Omega.{arith}
+use borrow.Author.Rules.{rules}
+use Rattle.records_join.proofs.Copies.{copied_past}
+use Rattle.records_join.proofs.Runs.{first_copied}
+use Rattle.records_join.proofs.copy_picked.Goals as goal
+
+pub returns-then-out-at : goal.returns-then-out-at
+returns-then-out-at c = sym (copied_past _ _ _ _ _ c.if-out-at.true)
+
+pub slice_bounds-copy_all-end : goal.slice_bounds-copy_all-end
+slice_bounds-copy_all-end c = ⊎_elim (λ w. omega (arith, w)) (λ w. omega (arith, w)) c.if-chosen-n.branch
+
+pub returns : goal.returns
+returns c = c.copy_all.ensures
+    ∙ first_copied _ _ _ _ _ _ _ (⊎_elim (λ w. inr (w.0.taken, w.1)) (λ w. inl w.1) c.if-chosen-n.branch)

@@ -1,0 +1,14 @@
+-- `records_join::join` meets its contract. The loop's invariant: what is counted and stored so far, with what is left to join from the present
+-- places on, is the whole. The measure is the bytes that are left on both sides.
+use mathlib.Core.Path.{◌≡◌, refl}
+use Prim.Native.Nat.{◌+◌, ◌-◌}
+use native.Mathlib.Omega.{arith}
+use lib.ListN.{length}
+use Rattle.records_join.proofs.Steps.{Joining, joining_all, count_end, size_end, chosen_end, joining_more, joining_room, joining_less}
+use Rattle.records_join.proofs.join.Given as goal
+
+abbrev pub invariant-loop-r : goal.invariant-loop-r
+invariant-loop-r l = (Joining l.s l.a l.t l.b l.initial.chosen l.x l.y l.count l.size l.chosen) × (length l.chosen ≡ length l.initial.chosen)
+
+abbrev pub decreases-loop-r : goal.decreases-loop-r
+decreases-loop-r l = (length l.s - l.x) + (length l.t - l.y)

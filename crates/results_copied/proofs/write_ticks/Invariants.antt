@@ -1,0 +1,17 @@
+-- `results_copied::write_ticks` meets its contract. The loop's invariant: writing in all vectors is writing in those that are left; a place is at
+-- most 8 bytes a vector past the end of the bytes.
+use Prim.Native.Nat.{◌+◌, ◌-◌, ◌*◌, ◌≤◌}
+use mathlib.Core.Path.{◌≡◌, refl, ap, ◌∙◌}
+use native.Mathlib.Omega.{arith}
+use lib.ListN.{length}
+use Rattle.results_copied.specs.MethodRaised.{vectors_written}
+use Rattle.results_copied.proofs.Overwritten.{vector-length}
+use Rattle.results_copied.proofs.Loops.{vectors_start, vectors_on, vectors_end, there_next}
+use Rattle.results_copied.proofs.write_ticks.Given as goal
+
+abbrev pub invariant-loop-k : goal.invariant-loop-k
+invariant-loop-k l = (vectors_written l.key.0 l.tick l.s l.initial.out l.n l.start ≡ vectors_written l.key.0 l.tick l.s l.out (l.n - l.k) l.at) × (length l.out ≡ length l.initial.out)
+    × (l.at ≤ l.start + length l.s + 8 * l.k)
+
+abbrev pub decreases-loop-k : goal.decreases-loop-k
+decreases-loop-k l = l.n - l.k

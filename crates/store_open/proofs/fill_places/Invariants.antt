@@ -1,0 +1,13 @@
+-- `store_open::fill_places` meets its contract. The loop's invariant: the table has the places of the vectors so far, and the next one is known.
+use native.Mathlib.Omega.{arith}
+use Prim.Native.Nat.{◌-◌}
+use mathlib.Core.Path.{◌≡◌, refl}
+use lib.ListN.{length, length-set}
+use Rattle.store_open.proofs.Places.{Filling, filling_start, filling_on, filling_end}
+use Rattle.store_open.proofs.fill_places.Given as goal
+
+abbrev pub invariant-loop-j : goal.invariant-loop-j
+invariant-loop-j l = Filling l.k l.r l.n l.j l.at l.places × (length l.places ≡ length l.initial.places)
+
+abbrev pub decreases-loop-j : goal.decreases-loop-j
+decreases-loop-j l = l.n - l.j

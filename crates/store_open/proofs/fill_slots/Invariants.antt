@@ -1,0 +1,13 @@
+-- `store_open::fill_slots` meets its contract: whatever is written, the slots stay as many.
+use native.Mathlib.Omega.{arith}
+use Prim.Native.Nat.{◌+◌, ◌-◌, ◌*◌, ◌≤◌}
+use mathlib.Core.Path.{◌≡◌, refl}
+use lib.ListN.{length, length-set}
+use Rattle.layout.specs.MethodPlaces.{ids_place}
+use Rattle.store_open.proofs.fill_slots.Given as goal
+
+abbrev pub invariant-loop-key : goal.invariant-loop-key
+invariant-loop-key l = (l.at ≡ ids_place + 16 * l.key) × (l.key ≤ l.r) × (length l.slots ≡ length l.initial.slots)
+
+abbrev pub decreases-loop-key : goal.decreases-loop-key
+decreases-loop-key l = l.r - l.key

@@ -1,0 +1,12 @@
+-- `store_queries::learned` meets its contract: the part told is inside, and it is what is handed out.
+use Rattle.layout.specs.Knowledge.{base}
+use Rattle.store_queries.proofs.Parts.{handed_as}
+use Rattle.store_queries.proofs.Handed.{learned_inside}
+use borrow.Author.Rules.{rules}
+use Rattle.store_queries.proofs.learned.Goals as goal
+
+pub part_of-requires : goal.part_of-requires
+part_of-requires c = learned_inside base _ _ c.learned_part-p.ensures
+
+pub returns : goal.returns
+returns c = handed_as _ _ c.learned_part-p.ensures _ _ _ _ c.part_of.ensures

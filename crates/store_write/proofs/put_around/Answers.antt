@@ -1,0 +1,32 @@
+-- `store_write::put_around` meets its contract: 14 where header and records have no room around the knowledge, else both are written.
+use Prim.Native.Nat.{ℕ, ◌+◌}
+use mathlib.Core.Path.{ap, ◌∙◌}
+use mathlib.Core.List.{List}
+use native.Mathlib.Omega.{arith}
+use lib.ListN.{take}
+use Rattle.replication.specs.OpenStore.{store_knowledge}
+use Rattle.records_join.specs.MethodJoin.{copied}
+use Rattle.store_write.proofs.Storing.{put_short, put_whole}
+use borrow.Author.Rules.{rules}
+use Rattle.store_write.proofs.put_around.Goals as goal
+
+pub returns-then-beyond : goal.returns-then-beyond
+returns-then-beyond c = let a = c.args in
+    put_short (store_knowledge + a.n + a.e.length) a.out.now _ (omega (arith, c.beyond.ensures.0 c.if-beyond.true))
+
+pub overflow_add-end : goal.overflow_add-end
+overflow_add-end c = omega (arith, c.beyond.ensures.1 c.if-beyond.false)
+
+pub returns-then-beyond-2 : goal.returns-then-beyond-2
+returns-then-beyond-2 c = let a = c.args in
+    put_short (store_knowledge + a.n + a.e.length) a.out.now _ (omega (arith, c.beyond-2.ensures.0 c.if-beyond-2.true))
+
+pub overflow_add-total : goal.overflow_add-total
+overflow_add-total c = omega (arith, c.beyond-2.ensures.1 c.if-beyond-2.false)
+
+pub returns : goal.returns
+returns c = let a = c.args in
+    put_whole (store_knowledge + a.n + a.e.length) a.out.now _ _ (c.beyond-2.ensures.1 c.if-beyond-2.false)
+    (c.copy_picked.ensures
+    ∙ ap (λ (x : List ℕ). copied a.s.now a.other.now x (store_knowledge + a.n) (take a.e.count a.picks.now))
+    c.write_store_header.ensures)
