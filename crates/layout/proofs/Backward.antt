@@ -7,7 +7,7 @@ use native.Mathlib.Nat.{zero-add}
 use native.Mathlib.Omega.{arith}
 use mathlib.Core.Bool.{Bool, true, false}
 use mathlib.Core.List.{List, [], ◌∷◌}
-use mathlib.Core.Path.{◌≡◌, refl, sym, ap, ◌∙◌}
+use mathlib.Core.Path.{◌≡◌, refl, sym, ap, ◌∙◌, subst}
 use lib.Dec.{eqb}
 use lib.ListN.{length, drop}
 use lib.Seq.{drop-length}
@@ -17,14 +17,14 @@ use Rattle.layout.specs.declared.Got.{Got}
 use Rattle.layout.specs.declared.Got.TheVariants.{Num, Fault}
 use Rattle.layout.specs.declared.Checked.{Checked}
 use Rattle.layout.specs.declared.Checked.TheVariants.{Accepted, Refused}
-use Rattle.layout.specs.Knowledge.{Rules, basic, Range, Knowledge, opening, before_vectors, before_ranges, closing, encode, put_fields, put_ids, put_vectors, put_ranges, Lawful}
+use Rattle.layout.specs.Knowledge.{Rules, basic, Range, Knowledge, All, opening, before_vectors, before_ranges, closing, encode, put_fields, put_ids, put_vectors, put_ranges, Lawful}
 use Rattle.layout.specs.Permitted.{most_vectors}
 use Rattle.layout.specs.Answer.{elements}
 use Rattle.layout.specs.Read.{◌▷◌, repeat, number, fields, limit, replica_id, range}
 use Rattle.layout.specs.Parse.{◌▶◌, replica_map, vector_count, vector_list, range_list, ended, checked, checked_by}
 use Rattle.layout.proofs.BackwardSteps.{then_inv, Counted, fields_inv, count_inv}
 use Rattle.layout.proofs.BackwardRefused.{refused_within}
-use Rattle.layout.proofs.Parts.{whole as whole-lawful}
+use Rattle.layout.proofs.Parts.{LawfulVector, whole as whole-lawful}
 use Rattle.layout.proofs.BackwardParts.{Ids, ids_inv, VectorList, vector_list_inv, Ranges, ranges_inv}
 
 -- the knowledge that bytes stand for, with r replicas, v vectors, e elements and g ranges
@@ -137,7 +137,7 @@ module _ (R : Rules) (s : List ℕ) (bs : Bytes s) where
               some_vector = rw vectors.count counted.low;
               vectors = rw vectors.count counted.high;
               first = refl;
-              clocks = rw ids.count vectors.are.lawful;
+              clocks = subst (λ (n : ℕ). All (LawfulVector n) ([] ∷ vectors.rest)) (sym ids.count) vectors.are.lawful;
               some_range = rw ranges.count ranges.some;
               ranges = rw ranges.count ranges.high;
               spans = rw vectors.count ranges.are.lawful;

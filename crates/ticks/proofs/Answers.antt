@@ -121,11 +121,14 @@ module _ {A : Type 0} (number : A → ℕ) (value : A → ℕ → ℕ) (found : 
 contain_decides : (b : Bool) (P : Type 0) → (b ≡ true) ↔ P → Decides contain_number contain_value (contain_found b) P
 unfolding contain_number contain_value contain_found
 contain_decides =
-    decides contain_number contain_value contain_found (λ b. elim b [ true ↦ refl | false ↦ refl ]) (λ old. refl) (λ old. refl)
+    decides contain_number contain_value contain_found
+    (λ b. elim b as (λ x. contain_number (contain_found x) ≡ 0) [ true ↦ refl | false ↦ refl ]) (λ old. refl) (λ old. refl)
 
 cover_decides : (b : Bool) (P : Type 0) → (b ≡ true) ↔ P → Decides cover_number cover_value (cover_found b) P
 unfolding cover_number cover_value cover_found
-cover_decides = decides cover_number cover_value cover_found (λ b. elim b [ true ↦ refl | false ↦ refl ]) (λ old. refl) (λ old. refl)
+cover_decides =
+    decides cover_number cover_value cover_found
+    (λ b. elim b as (λ x. cover_number (cover_found x) ≡ 0) [ true ↦ refl | false ↦ refl ]) (λ old. refl) (λ old. refl)
 
 -- a refusal: its number, and the old value
 contain_refused : (x : Contain) (n : ℕ) → x ≡ C.Refused n → RefusedWith contain_number contain_value x n

@@ -50,13 +50,7 @@ index_greatest found lo (y ∷ ys) i x r g =
     (λ e.
     let h : y.bound ≤ i = omega (arith, g.below, ap (λ z. z.bound) e) in
     index-ge found y ys i h
-    ∙ index_past (some y.index) ys i
-    (λ z m.
-    elim (order i z.bound) [
-      | less k ↦ k
-      | same k ↦ absurd (beyond e z m (omega arith))
-      | more k ↦ absurd (beyond e z m (omega arith))
-    ])
+    ∙ index_past (some y.index) ys i (past e)
     ∙ ap (λ z. some z.index) (sym e))
     (λ m.
     let h : suc y.bound ≤ x.bound = rising_above (suc y.bound) x.bound (bounds ys) r.1 (in_bounds x ys m) in
@@ -68,6 +62,14 @@ index_greatest found lo (y ∷ ys) i x r g =
     beyond : x ≡ y → (z : Range) → In z ys → z.bound ≤ i → ⊥
     beyond e z m h =
         omega (arith, g.greatest z (inr m) h, rising_above (suc y.bound) z.bound (bounds ys) r.1 (in_bounds z ys m), ap (λ w. w.bound) e)
+
+    past : x ≡ y → (z : Range) → In z ys → i < z.bound
+    past e z m =
+        elim (order i z.bound) [
+          | less k ↦ k
+          | same k ↦ absurd (beyond e z m (omega arith))
+          | more k ↦ absurd (beyond e z m (omega arith))
+        ]
 
 pub vector_at-greatest : (k : Knowledge) (i : ℕ) (x : Range) → Sound k → GreatestAtOrBelow i x k.ranges → vector_at k i ≡ vector_of k x.index.0
 unfolding vector_at

@@ -19,6 +19,6 @@ put4-requires-2 c = let l = ap length c.put4.ensures ∙ length-sets c.args.out.
     (bytes 4 (c.args.x / 4294967296)) in omega (arith, l, c.beyond.ensures.1 c.if-beyond.false)
 
 pub returns : goal.returns
-returns c = eight_stored c.args.out.now c.put4.new.0 c.put4-2.new.0
+returns c = eight_stored c.args.out.now c.put4.new.out c.put4-2.new.out
     c.args.at c.args.x c.put4.ensures
     c.put4-2.ensures (c.beyond.ensures.1 c.if-beyond.false)
