@@ -1,7 +1,7 @@
 -- The method of the test of normal form, by places, for any bytes and sizes: nothing here is to be believed. The law
 -- `normal_by_places` shows that for bytes that the check accepts it is the test itself. A vector that is not all there counts as
 -- empty, and so fails.
-use Rattle.codec.specs.Prelude.{ℕ, zero, suc, max, ◌+◌, ◌-◌, ◌*◌, ◌/◌, ◌%◌, ◌^◌, ◌≤◌, ◌<◌, ◌≡◌, Bool, true, false, slice_set}
+use Rattle.codec.specs.Prelude.{ℕ, zero, suc, max, ◌+◌, ◌-◌, ◌*◌, ◌/◌, ◌%◌, ◌^◌, ◌≤◌, ◌<◌, ◌≡◌, Bool, true, false}
 use Rattle.codec.specs.Prelude.{List, [], ◌∷◌, eqb, ltb, leb, length, get_or}
 use Rattle.std.specs.Prelude.{set, replicate}
 use Rattle.codec.specs.Number.{be_at}
@@ -39,7 +39,7 @@ in_order r lo (x ∷ xs) =
 -- the marks of keys, with those of a vector, and with those of several
 unfoldable pub marked : List ℕ → List Element → List ℕ
 marked marks [] = marks
-marked marks (x ∷ xs) = marked (slice_set marks x.key.0 1) xs
+marked marks (x ∷ xs) = marked (set marks x.key.0 1) xs
 
 unfoldable pub marked_by : List ℕ → List (List Element) → List ℕ
 marked_by marks [] = marks

@@ -1,6 +1,6 @@
 -- What the functions of planning leave behind, step by step, and the tables that get a plan: as code works. There is nothing
 -- to believe here: the laws of `tables` say that the plan of a table that samples known ticks is their normal form.
-use Rattle.codec.specs.Prelude.{ℕ, ◌+◌, ◌≤◌, ◌<◌, ◌≡◌, Bool, true, false, List, ◌∷◌, leb, ltb, eqb, length, get_or, drop, slice_set}
+use Rattle.codec.specs.Prelude.{ℕ, ◌+◌, ◌≤◌, ◌<◌, ◌≡◌, Bool, true, false, List, ◌∷◌, leb, ltb, eqb, length, get_or, drop}
 use Rattle.ticks.specs.Meaning.{place_by}
 use Rattle.std.specs.Prelude.{set}
 use Rattle.tables.specs.declared.Sizes.{Sizes}
@@ -27,7 +27,7 @@ pub record Mixed (T : ℕ → ℕ → ℕ) (r : ℕ) (firsts : List ℕ) (v : �
 -- row i + 1 after v distinct rows: its number stands at place i, and where it is new there is a distinct row more
 pub record RowMore (T : ℕ → ℕ → ℕ) (r i v : ℕ) (f x m f' x' m' : List ℕ) (w : ℕ) : Type 0 where
   pub firsts : Front (grown_by (same T r) (numbers_at f 0 v) (i + 1)) f f' w
-  pub numbers : x' ≡ slice_set x i (place_by (same T r) (i + 1) (numbers_at f 0 v))
+  pub numbers : x' ≡ set x i (place_by (same T r) (i + 1) (numbers_at f 0 v))
   pub mixed : Mixed T r f' w m'
   pub size : length m' ≡ length m
   pub least : v ≤ w
@@ -42,7 +42,7 @@ pub record Numbered (T : ℕ → ℕ → ℕ) (r n : ℕ) (f x f' x' : List ℕ)
 -- column c is put at place i where its id is the lower, and the one there is carried on; the columns ds after it wait
 pub record Exchanged (P : ℕ → ℕ) (c i : ℕ) (cols cols' : List ℕ) (d : ℕ) : Type 0 where
   pub kept : ℕ
-  pub is : cols' ≡ slice_set cols i kept
+  pub is : cols' ≡ set cols i kept
   pub later : (ds : List ℕ) → insert_column P c (get_or cols i 0 ∷ ds) ≡ kept ∷ insert_column P d ds
 
 -- a plan of fewer rows takes less room

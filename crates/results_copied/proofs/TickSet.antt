@@ -60,6 +60,7 @@ module _ (key t : ℕ) where
 
   pub tick-set : (es : List Element) → Among key (keys es) → tick_at (tick_set key t es) key ≡ t
   unfolding keys
+  tick-set [] m = elim m [ ]
   tick-set (x ∷ xs) m =
       elim (exact? eqb eqb_exact x.key.0 key) [
         | inl e ↦ ap (λ v. tick_at v key) (set_here x xs e) ∙ tick_same (with_tick x t) xs key e

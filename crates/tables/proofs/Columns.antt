@@ -1,7 +1,7 @@
 -- The replica map of a plan: the columns below r that a row uses, each once, by rising id. A column is put before the first one with a
 -- larger id, which is carried on, so the ids stay rising; the ids of different columns differ.
 use Prim.Native.Nat.{ℕ, zero, suc, ◌+◌, ◌≤◌, ◌<◌}
-use mathlib.Core.Path.{◌≡◌, refl, sym, ◌∙◌, ap}
+use mathlib.Core.Path.{◌≡◌, refl, sym, ◌∙◌, ap, subst}
 use mathlib.Core.Logic.{◌⊎◌, inl, inr, ⊎_elim}
 use mathlib.Core.Bool.{Bool, true, false}
 use mathlib.Core.List.{List, [], ◌∷◌}
@@ -43,7 +43,7 @@ module _ (P : ℕ → ℕ) where
       elim (order (P c) (P d)) [
         | less h ↦
             rw (insert_column_before P c d ds h)
-            (⊎_elim (λ q. inr (rw q (insert_column_here d ds))) (λ o. inr (insert_column_keeps d e ds o)) m)
+            (⊎_elim (λ q. inr (subst (λ (y : ℕ). Among y (insert_column P d ds)) (sym q) (insert_column_here d ds))) (λ o. inr (insert_column_keeps d e ds o)) m)
         | equal h ↦
             let l : P d ≤ P c = omega arith in
             rw (insert_column_after P c d ds l) (⊎_elim (λ q. inl q) (λ o. inr (insert_column_keeps c e ds o)) m)

@@ -23,4 +23,4 @@ returns c = let a = c.args in
     (omega (arith, zeros-length largest_records)) _ _ _
     (store_room_lem _ c.room_in_store-room.ensures.value) _ _
     c.write_merged-a.ensures)
-    c.close_store.ensures
+    (c.close_store.ensures.value, c.close_store.ensures.out_after)

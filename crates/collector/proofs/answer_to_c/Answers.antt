@@ -3,8 +3,14 @@ use Rattle.collector.proofs.Endings.{answer_written, answer_refused}
 use borrow.Author.Rules.{rules}
 use Rattle.collector.proofs.answer_to_c.Goals as goal
 
-pub returns-in-Written : goal.returns-in-Written
-returns-in-Written c = answer_written _ _ _ c.in-Written.is
+pub returns-in-Written-clause-number : goal.returns-in-Written-clause-number
+returns-in-Written-clause-number c = (answer_written _ _ _ c.in-Written.is).0
 
-pub returns-in-Refused : goal.returns-in-Refused
-returns-in-Refused c = answer_refused _ _ _ c.in-Refused.is
+pub returns-in-Written-clause-count : goal.returns-in-Written-clause-count
+returns-in-Written-clause-count c = (answer_written _ _ _ c.in-Written.is).1
+
+pub returns-in-Refused-clause-number : goal.returns-in-Refused-clause-number
+returns-in-Refused-clause-number c = (answer_refused _ _ _ c.in-Refused.is).0
+
+pub returns-in-Refused-clause-count : goal.returns-in-Refused-clause-count
+returns-in-Refused-clause-count c = (answer_refused _ _ _ c.in-Refused.is).1

@@ -4,6 +4,10 @@ use Rattle.store_write.proofs.Storing.{ended_base}
 use borrow.Author.Rules.{rules}
 use Rattle.edit.proofs.delete.Goals as goal
 
-pub returns : goal.returns
-returns c = let a = c.args in
-    ended_base (λ L. delete_reply L a.store.now a.item.now) _ _ _ c.delete_within.ensures
+pub returns-clause-value : goal.returns-clause-value
+returns-clause-value c = let a = c.args in
+    (ended_base (λ L. delete_reply L a.store.now a.item.now) _ _ _ c.delete_within.ensures).0
+
+pub returns-clause-out_after : goal.returns-clause-out_after
+returns-clause-out_after c = let a = c.args in
+    (ended_base (λ L. delete_reply L a.store.now a.item.now) _ _ _ c.delete_within.ensures).1

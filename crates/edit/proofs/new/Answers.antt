@@ -3,12 +3,22 @@ use Rattle.edit.proofs.NewStore.{new_wrong, new_short, new_written}
 use borrow.Author.Rules.{rules}
 use Rattle.edit.proofs.new.Goals as goal
 
-pub returns-then-own-ne16 : goal.returns-then-own-ne16
-returns-then-own-ne16 c = new_wrong _ _ c.if-own-ne16.true
+pub returns-then-own-ne16-clause-value : goal.returns-then-own-ne16-clause-value
+returns-then-own-ne16-clause-value c = (new_wrong _ _ c.if-own-ne16.true).0
 
-pub returns-then-out : goal.returns-then-out
-returns-then-out c = new_short _ _ c.if-own-ne16.false c.if-out.true
+pub returns-then-own-ne16-clause-out_after : goal.returns-then-own-ne16-clause-out_after
+returns-then-own-ne16-clause-out_after c = (new_wrong _ _ c.if-own-ne16.true).1
 
-pub returns : goal.returns
-returns c = new_written _ _ c.if-own-ne16.false _ _ _ c.if-out.false c.replica_of-p.ensures.value c.write_store_header.ensures
-    c.write_empty.ensures
+pub returns-then-out-clause-value : goal.returns-then-out-clause-value
+returns-then-out-clause-value c = (new_short _ _ c.if-own-ne16.false c.if-out.true).0
+
+pub returns-then-out-clause-out_after : goal.returns-then-out-clause-out_after
+returns-then-out-clause-out_after c = (new_short _ _ c.if-own-ne16.false c.if-out.true).1
+
+pub returns-clause-value : goal.returns-clause-value
+returns-clause-value c = (new_written _ _ c.if-own-ne16.false _ _ _ c.if-out.false c.replica_of-p.ensures.value c.write_store_header.ensures
+    c.write_empty.ensures).0
+
+pub returns-clause-out_after : goal.returns-clause-out_after
+returns-clause-out_after c = (new_written _ _ c.if-own-ne16.false _ _ _ c.if-out.false c.replica_of-p.ensures.value c.write_store_header.ensures
+    c.write_empty.ensures).1

@@ -22,4 +22,4 @@ returns c = let a = c.args in
     (change_inside a.limits _ _ _ _ _ bytes others _ _ _ _ c.join-e.ensures.count_value.0 c.join-e.ensures.count_value.1 c.join-e.ensures.chosen_after
     (omega (arith, zeros-length largest_records)) _ _ _ (store_room_lem _ c.room_in_store-room.ensures.value) _ _
     c.raise_own-a.ensures st b)
-    c.close_store.ensures
+    (c.close_store.ensures.value, c.close_store.ensures.out_after)

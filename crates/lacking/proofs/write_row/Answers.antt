@@ -10,6 +10,7 @@ use Rattle.lacking.specs.Method.{RowOf}
 use Rattle.lacking.proofs.Cells.{row_nothing, row_whole, row_begins, Put, put-set, put_skip}
 use native.Mathlib.Omega.{arith}
 use Rattle.lacking.proofs.write_row.Goals as goal
+use Rattle.lacking.proofs.write_row.Goals.{then-key-row, else-key-row}
 
 pub returns-then-n-eq0 : goal.returns-then-n-eq0
 returns-then-n-eq0 c = row_nothing _ _ _ _ c.elements_at-n.ensures c.requires c.if-n-eq0.true
@@ -40,13 +41,14 @@ loop-left-preserved c = let l = c.loop-left in
     let f = part_is s (l.at - 12) 4 c.four-key.result c.four-key.ensures.0 (omega arith) in
     let after = c.if-key-row.row in
     let w : Put s n l.left (l.at - 12) l.row after =
-    ⊎_elim {C = Put s n l.left (l.at - 12) l.row after}
-    (λ x.
-    put-set s n l.left l.at (l.at - 12) l.row c.four-key.result l.invariant.0 (omega arith) (omega arith)
-    (omega arith) f after x.2.result (part_is s (l.at - 12 + 4) 8 x.2.result x.2.ensures.0 (omega arith)) x.0.taken x.3)
-    (λ x.
-    put_skip s n l.left l.at (l.at - 12) l.row c.four-key.result l.invariant.0 (omega arith) (omega arith)
-    (omega arith) f after x.0.left x.1) c.if-key-row.branch in
+    elim c.if-key-row.branch [
+      | then-key-row x ↦
+          put-set s n l.left l.at (l.at - 12) l.row c.four-key.result l.invariant.0 (omega arith) (omega arith)
+          (omega arith) f after x.eight.result (part_is s (l.at - 12 + 4) 8 x.eight.result x.eight.ensures.0 (omega arith)) x.if-key-row.true x.row-is
+      | else-key-row x ↦
+          put_skip s n l.left l.at (l.at - 12) l.row c.four-key.result l.invariant.0 (omega arith) (omega arith)
+          (omega arith) f after x.if-key-row.false x.row-is
+    ] in
     (w.cells, omega arith, omega arith, omega (arith, w.size), omega arith, l.invariant.5)
 
 pub returns : goal.returns

@@ -28,4 +28,4 @@ pub returns : goal.returns
 returns c = λ R o q.
     lead_ahead R _ _ _ o _ _ _ _ _ q c.if-item-ne24.false
     c.if-replica-ne16.false _ _ c.tick_of-a.ensures c.tick_of-b.ensures _
-    (to_z-of_z {w = w64} {z = c.ahead.result} (record { sfits = c.ahead.type-inv }) ∙ c.ahead.ensures)
+    (to_z-of_z {w = w64} {z = c.ahead.result} (record { sfits = c.ahead.type_inv }) ∙ c.ahead.ensures)

@@ -23,4 +23,4 @@ eight-low-requires c = omega (arith, c.if-left-eq0.false)
 
 pub returns : goal.returns
 returns c = end_before_lem _ _ _ _ _ _ _ _ c.eight-high.ensures.0 c.eight-middle.ensures.0
-    c.eight-low.ensures.0 c.if-left-eq0.false c.Before-above.ensures
+    c.eight-low.ensures.0 c.if-left-eq0.false c.before_above.ensures

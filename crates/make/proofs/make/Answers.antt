@@ -5,7 +5,12 @@ use Rattle.store_write.proofs.Storing.{ended_base}
 use borrow.Author.Rules.{rules}
 use Rattle.make.proofs.make.Goals as goal
 
-pub returns : goal.returns
-returns c = let a = c.args in
-    ended_base (λ L. make_reply (any_id L) a.store.now a.knowledge.now a.first.now a.last.now) _ _ _
-    c.make_within.ensures
+pub returns-clause-value : goal.returns-clause-value
+returns-clause-value c = let a = c.args in
+    (ended_base (λ L. make_reply (any_id L) a.store.now a.knowledge.now a.first.now a.last.now) _ _ _
+    c.make_within.ensures).0
+
+pub returns-clause-out_after : goal.returns-clause-out_after
+returns-clause-out_after c = let a = c.args in
+    (ended_base (λ L. make_reply (any_id L) a.store.now a.knowledge.now a.first.now a.last.now) _ _ _
+    c.make_within.ensures).1

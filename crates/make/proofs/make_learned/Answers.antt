@@ -14,6 +14,6 @@ returns c = let a = c.args in
     let x = c.select_records-e.ensures in
     close_batch (limits_of a.w.limits) (made_of a.store.now a.knowledge.now a.w) a.out.now
     (made_inside a.store.now a.mine.now a.knowledge.now a.w c.requires.0 a.needed.now c.requires.1 _ _ _ _
-    x.0.0 x.0.1 x.1 (omega (arith, zeros-length largest_records)) a.out.now _ _ (batch_room_lem _ c.room_in_batch-room.ensures.value) _ _
+    x.count_value.0 x.count_value.1 x.picks_after (omega (arith, zeros-length largest_records)) a.out.now _ _ (batch_room_lem _ c.room_in_batch-room.ensures.value) _ _
     c.write_learned-a.ensures)
-    c.close_batch.ensures
+    (c.close_batch.ensures.value, c.close_batch.ensures.out_after)

@@ -17,7 +17,7 @@ loop-i-init c = pending_none _ _ _ _ _ _ (omega arith)
 
 pub overflow_add-m : goal.overflow_add-m
 overflow_add-m c = let l = c.loop-i in
-    omega (arith, c.beyond.ensures.1 c.if-beyond.false, l.invariant.kept, c.well-formed.1.1.1.0.0)
+    omega (arith, c.beyond.ensures.1 c.if-beyond.false, l.invariant.kept, c.well_formed.1.1.1.0.0)
 
 pub loop-i-preserved : goal.loop-i-preserved
 loop-i-preserved c = let l = c.loop-i in

@@ -5,8 +5,8 @@ use Rattle.records_select.proofs.select.Goals as goal
 
 pub returns-clause-count_value : goal.returns-clause-count_value
 returns-clause-count_value c = let f = c.from_first-p.ensures in
-    let e = c.all_lacking.ensures in (select_count _ _ _ _ _ _ _ _ f _ e.0.0, select_size _ _ _ _ _ _ _ _ f _ e.0.1)
+    let e = c.all_lacking.ensures in (select_count _ _ _ _ _ _ _ _ f _ e.count_value.0, select_size _ _ _ _ _ _ _ _ f _ e.count_value.1)
 
 pub returns-clause-picks_after : goal.returns-clause-picks_after
 returns-clause-picks_after c = let f = c.from_first-p.ensures in
-    let e = c.all_lacking.ensures in select_picks _ _ _ _ _ _ _ _ f _ _ e.1
+    let e = c.all_lacking.ensures in select_picks _ _ _ _ _ _ _ _ f _ _ e.picks_after

@@ -17,14 +17,38 @@ overflow_add-result-in-OfBatch c = omega (arith, c.requires.of_batch _ _ c.in-Of
 pub slice_bounds-result-end-in-OfBatch : goal.slice_bounds-result-end-in-OfBatch
 slice_bounds-result-end-in-OfBatch c = omega (arith, c.requires.of_batch _ _ c.in-OfBatch.is)
 
-pub returns-in-Nothing : goal.returns-in-Nothing
-returns-in-Nothing c = hands_nothing _ _ _ _ c.in-Nothing.is refl
+pub returns-in-Nothing-clause-part : goal.returns-in-Nothing-clause-part
+returns-in-Nothing-clause-part c = (hands_nothing _ _ _ _ c.in-Nothing.is refl).0
 
-pub returns-in-OfStore : goal.returns-in-OfStore
-returns-in-OfStore c = hands_store _ _ _ _ _ _ c.in-OfStore.is refl refl
+pub returns-in-Nothing-clause-place : goal.returns-in-Nothing-clause-place
+returns-in-Nothing-clause-place c = (hands_nothing _ _ _ _ c.in-Nothing.is refl).1.0
 
-pub returns-in-OfBatch : goal.returns-in-OfBatch
-returns-in-OfBatch c = hands_batch _ _ _ _ _ _ c.in-OfBatch.is refl refl
+pub returns-in-Nothing-clause-number : goal.returns-in-Nothing-clause-number
+returns-in-Nothing-clause-number c = (hands_nothing _ _ _ _ c.in-Nothing.is refl).1.1
 
-pub returns-in-Refused : goal.returns-in-Refused
-returns-in-Refused c = hands_refusal _ _ _ _ _ c.in-Refused.is refl
+pub returns-in-OfStore-clause-part : goal.returns-in-OfStore-clause-part
+returns-in-OfStore-clause-part c = (hands_store _ _ _ _ _ _ c.in-OfStore.is refl refl).0
+
+pub returns-in-OfStore-clause-place : goal.returns-in-OfStore-clause-place
+returns-in-OfStore-clause-place c = (hands_store _ _ _ _ _ _ c.in-OfStore.is refl refl).1.0
+
+pub returns-in-OfStore-clause-number : goal.returns-in-OfStore-clause-number
+returns-in-OfStore-clause-number c = (hands_store _ _ _ _ _ _ c.in-OfStore.is refl refl).1.1
+
+pub returns-in-OfBatch-clause-part : goal.returns-in-OfBatch-clause-part
+returns-in-OfBatch-clause-part c = (hands_batch _ _ _ _ _ _ c.in-OfBatch.is refl refl).0
+
+pub returns-in-OfBatch-clause-place : goal.returns-in-OfBatch-clause-place
+returns-in-OfBatch-clause-place c = (hands_batch _ _ _ _ _ _ c.in-OfBatch.is refl refl).1.0
+
+pub returns-in-OfBatch-clause-number : goal.returns-in-OfBatch-clause-number
+returns-in-OfBatch-clause-number c = (hands_batch _ _ _ _ _ _ c.in-OfBatch.is refl refl).1.1
+
+pub returns-in-Refused-clause-part : goal.returns-in-Refused-clause-part
+returns-in-Refused-clause-part c = (hands_refusal _ _ _ _ _ c.in-Refused.is refl).0
+
+pub returns-in-Refused-clause-place : goal.returns-in-Refused-clause-place
+returns-in-Refused-clause-place c = (hands_refusal _ _ _ _ _ c.in-Refused.is refl).1.0
+
+pub returns-in-Refused-clause-number : goal.returns-in-Refused-clause-number
+returns-in-Refused-clause-number c = (hands_refusal _ _ _ _ _ c.in-Refused.is refl).1.1

@@ -8,5 +8,11 @@ use Rattle.store_queries.proofs.winner.Goals as goal
 pub part_of-requires : goal.part_of-requires
 part_of-requires c = winner_inside _ _ base c.args.item.now _ c.winner_part-p.ensures
 
-pub returns : goal.returns
-returns c = handed_as _ _ c.winner_part-p.ensures _ _ _ _ c.part_of.ensures
+pub returns-clause-part : goal.returns-clause-part
+returns-clause-part c = (handed_as _ _ c.winner_part-p.ensures _ _ _ _ (c.part_of.ensures.part, (c.part_of.ensures.place, c.part_of.ensures.number))).0
+
+pub returns-clause-place : goal.returns-clause-place
+returns-clause-place c = (handed_as _ _ c.winner_part-p.ensures _ _ _ _ (c.part_of.ensures.part, (c.part_of.ensures.place, c.part_of.ensures.number))).1.0
+
+pub returns-clause-number : goal.returns-clause-number
+returns-clause-number c = (handed_as _ _ c.winner_part-p.ensures _ _ _ _ (c.part_of.ensures.part, (c.part_of.ensures.place, c.part_of.ensures.number))).1.1

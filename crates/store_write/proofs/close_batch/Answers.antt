@@ -4,9 +4,16 @@ use Rattle.store_write.proofs.Around.{closed_written, closed_fits}
 use borrow.Author.Rules.{rules}
 use Rattle.store_write.proofs.close_batch.Goals as goal
 
-pub returns-in-Written : goal.returns-in-Written
-returns-in-Written c = closed_written _ _ _ _ _ _ _ c.in-Written.is _ _ c.put_batch_around.ensures.value
-    c.put_batch_around.ensures.out_after
+pub returns-in-Written-clause-value : goal.returns-in-Written-clause-value
+returns-in-Written-clause-value c = (closed_written _ _ _ _ _ _ _ c.in-Written.is _ _ c.put_batch_around.ensures.value
+    c.put_batch_around.ensures.out_after).0
 
-pub returns-in-Refused : goal.returns-in-Refused
-returns-in-Refused c = closed_fits _ _ _ _ _ _ _ c.in-Refused.is refl
+pub returns-in-Written-clause-out_after : goal.returns-in-Written-clause-out_after
+returns-in-Written-clause-out_after c = (closed_written _ _ _ _ _ _ _ c.in-Written.is _ _ c.put_batch_around.ensures.value
+    c.put_batch_around.ensures.out_after).1
+
+pub returns-in-Refused-clause-value : goal.returns-in-Refused-clause-value
+returns-in-Refused-clause-value c = (closed_fits _ _ _ _ _ _ _ c.in-Refused.is refl).0
+
+pub returns-in-Refused-clause-out_after : goal.returns-in-Refused-clause-out_after
+returns-in-Refused-clause-out_after c = (closed_fits _ _ _ _ _ _ _ c.in-Refused.is refl).1

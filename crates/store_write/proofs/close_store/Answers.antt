@@ -7,18 +7,34 @@ use Rattle.store_write.proofs.Around.{closed_fits, closed_other, closed_over, cl
 use borrow.Author.Rules.{rules}
 use Rattle.store_write.proofs.close_store.Goals as goal
 
-pub returns-then-e-most : goal.returns-then-e-most
-returns-then-e-most c = let a = c.args in
-    closed_fits _ _ _ _ _ _ _ c.in-Refused.is
-    (le-leb a.e.count (clamp a.records largest_records) (omega (arith, c.clamp-most.ensures, c.if-e-most.true)))
+pub returns-then-e-most-clause-value : goal.returns-then-e-most-clause-value
+returns-then-e-most-clause-value c = let a = c.args in
+    (closed_fits _ _ _ _ _ _ _ c.in-Refused.is
+    (le-leb a.e.count (clamp a.records largest_records) (omega (arith, c.clamp-most.ensures, c.if-e-most.true)))).0
 
-pub returns-then-n-lt14 : goal.returns-then-n-lt14
-returns-then-n-lt14 c = closed_other _ _ _ _ _ _ _ c.in-Refused.is c.if-n-lt14.true
+pub returns-then-e-most-clause-out_after : goal.returns-then-e-most-clause-out_after
+returns-then-e-most-clause-out_after c = let a = c.args in
+    (closed_fits _ _ _ _ _ _ _ c.in-Refused.is
+    (le-leb a.e.count (clamp a.records largest_records) (omega (arith, c.clamp-most.ensures, c.if-e-most.true)))).1
 
-pub returns-in-Written : goal.returns-in-Written
-returns-in-Written c = closed_written _ _ _ _ _ _ _ c.in-Written.is _ _ c.put_around.ensures.value c.put_around.ensures.out_after
+pub returns-then-n-lt14-clause-value : goal.returns-then-n-lt14-clause-value
+returns-then-n-lt14-clause-value c = (closed_other _ _ _ _ _ _ _ c.in-Refused.is c.if-n-lt14.true).0
 
-pub returns-else-n-lt14 : goal.returns-else-n-lt14
-returns-else-n-lt14 c = let a = c.args in
-    closed_over _ _ _ _ _ _ _ c.in-Refused.is
-    (lt-leb a.e.count (clamp a.records largest_records) (omega (arith, c.clamp-most.ensures, c.if-e-most.false))) c.if-n-lt14.false
+pub returns-then-n-lt14-clause-out_after : goal.returns-then-n-lt14-clause-out_after
+returns-then-n-lt14-clause-out_after c = (closed_other _ _ _ _ _ _ _ c.in-Refused.is c.if-n-lt14.true).1
+
+pub returns-in-Written-clause-value : goal.returns-in-Written-clause-value
+returns-in-Written-clause-value c = (closed_written _ _ _ _ _ _ _ c.in-Written.is _ _ c.put_around.ensures.value c.put_around.ensures.out_after).0
+
+pub returns-in-Written-clause-out_after : goal.returns-in-Written-clause-out_after
+returns-in-Written-clause-out_after c = (closed_written _ _ _ _ _ _ _ c.in-Written.is _ _ c.put_around.ensures.value c.put_around.ensures.out_after).1
+
+pub returns-else-n-lt14-clause-value : goal.returns-else-n-lt14-clause-value
+returns-else-n-lt14-clause-value c = let a = c.args in
+    (closed_over _ _ _ _ _ _ _ c.in-Refused.is
+    (lt-leb a.e.count (clamp a.records largest_records) (omega (arith, c.clamp-most.ensures, c.if-e-most.false))) c.if-n-lt14.false).0
+
+pub returns-else-n-lt14-clause-out_after : goal.returns-else-n-lt14-clause-out_after
+returns-else-n-lt14-clause-out_after c = let a = c.args in
+    (closed_over _ _ _ _ _ _ _ c.in-Refused.is
+    (lt-leb a.e.count (clamp a.records largest_records) (omega (arith, c.clamp-most.ensures, c.if-e-most.false))) c.if-n-lt14.false).1

@@ -8,30 +8,52 @@ use Rattle.store_write.proofs.ClosingBatch.{batch_around_lem}
 use borrow.Author.Rules.{rules}
 use Rattle.store_write.proofs.put_batch_around.Goals as goal
 
-pub returns-then-beyond : goal.returns-then-beyond
-returns-then-beyond c = let a = c.args in
-    put_short (batch_needed + length a.needed.now + a.n + a.e.length) a.out.now _
-    (omega (arith, c.beyond.ensures.0 c.if-beyond.true))
+pub returns-then-beyond-clause-value : goal.returns-then-beyond-clause-value
+returns-then-beyond-clause-value c = let a = c.args in
+    (put_short (batch_needed + length a.needed.now + a.n + a.e.length) a.out.now _
+    (omega (arith, c.beyond.ensures.0 c.if-beyond.true))).0
 
-pub returns-then-beyond-2 : goal.returns-then-beyond-2
-returns-then-beyond-2 c = let a = c.args in
-    put_short (batch_needed + length a.needed.now + a.n + a.e.length) a.out.now _
-    (omega (arith, c.beyond-2.ensures.0 c.if-beyond-2.true))
+pub returns-then-beyond-clause-out_after : goal.returns-then-beyond-clause-out_after
+returns-then-beyond-clause-out_after c = let a = c.args in
+    (put_short (batch_needed + length a.needed.now + a.n + a.e.length) a.out.now _
+    (omega (arith, c.beyond.ensures.0 c.if-beyond.true))).1
+
+pub returns-then-beyond-2-clause-value : goal.returns-then-beyond-2-clause-value
+returns-then-beyond-2-clause-value c = let a = c.args in
+    (put_short (batch_needed + length a.needed.now + a.n + a.e.length) a.out.now _
+    (omega (arith, c.beyond-2.ensures.0 c.if-beyond-2.true))).0
+
+pub returns-then-beyond-2-clause-out_after : goal.returns-then-beyond-2-clause-out_after
+returns-then-beyond-2-clause-out_after c = let a = c.args in
+    (put_short (batch_needed + length a.needed.now + a.n + a.e.length) a.out.now _
+    (omega (arith, c.beyond-2.ensures.0 c.if-beyond-2.true))).1
 
 pub overflow_add-end : goal.overflow_add-end
 overflow_add-end c = omega (arith, c.beyond-2.ensures.1 c.if-beyond-2.false)
 
-pub returns-then-beyond-3 : goal.returns-then-beyond-3
-returns-then-beyond-3 c = let a = c.args in
-    put_short (batch_needed + length a.needed.now + a.n + a.e.length) a.out.now _
-    (omega (arith, c.beyond-3.ensures.0 c.if-beyond-3.true))
+pub returns-then-beyond-3-clause-value : goal.returns-then-beyond-3-clause-value
+returns-then-beyond-3-clause-value c = let a = c.args in
+    (put_short (batch_needed + length a.needed.now + a.n + a.e.length) a.out.now _
+    (omega (arith, c.beyond-3.ensures.0 c.if-beyond-3.true))).0
+
+pub returns-then-beyond-3-clause-out_after : goal.returns-then-beyond-3-clause-out_after
+returns-then-beyond-3-clause-out_after c = let a = c.args in
+    (put_short (batch_needed + length a.needed.now + a.n + a.e.length) a.out.now _
+    (omega (arith, c.beyond-3.ensures.0 c.if-beyond-3.true))).1
 
 pub overflow_add-total : goal.overflow_add-total
 overflow_add-total c = omega (arith, c.beyond-3.ensures.1 c.if-beyond-3.false)
 
-pub returns : goal.returns
-returns c = let a = c.args in
-    put_whole (batch_needed + length a.needed.now + a.n + a.e.length) a.out.now _ _
+pub returns-clause-value : goal.returns-clause-value
+returns-clause-value c = let a = c.args in
+    (put_whole (batch_needed + length a.needed.now + a.n + a.e.length) a.out.now _ _
     (c.beyond-3.ensures.1 c.if-beyond-3.false)
     (batch_around_lem a.out.now _ _ _ a.s.now a.picks.now a.needed.now _ a.n a.e.count
-    c.write_batch_header.ensures c.copy_part.ensures c.copy_picked.ensures)
+    c.write_batch_header.ensures c.copy_part.ensures c.copy_picked.ensures)).0
+
+pub returns-clause-out_after : goal.returns-clause-out_after
+returns-clause-out_after c = let a = c.args in
+    (put_whole (batch_needed + length a.needed.now + a.n + a.e.length) a.out.now _ _
+    (c.beyond-3.ensures.1 c.if-beyond-3.false)
+    (batch_around_lem a.out.now _ _ _ a.s.now a.picks.now a.needed.now _ a.n a.e.count
+    c.write_batch_header.ensures c.copy_part.ensures c.copy_picked.ensures)).1

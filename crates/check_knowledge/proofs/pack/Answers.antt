@@ -1,0 +1,9 @@
+-- `check_knowledge::pack` meets its contract: the four counts, each in its field.
+use native.Mathlib.Omega.{arith}
+use Rattle.check_knowledge.specs.Method.{packed}
+use borrow.Author.Rules.{rules}
+use Rattle.check_knowledge.proofs.pack.Goals as goal
+
+pub returns : goal.returns
+unfolding packed
+returns c = omega arith
