@@ -6,13 +6,17 @@ use borrow.Author.Rules.{rules}
 use Rattle.records_join.proofs.Copies.{copied_past}
 use Rattle.records_join.proofs.Runs.{first_copied}
 use Rattle.records_join.proofs.copy_picked.Goals as goal
+use Rattle.records_join.proofs.copy_picked.Goals.{then-chosen-n, else-chosen-n}
 
 pub returns-then-out-at : goal.returns-then-out-at
 returns-then-out-at c = sym (copied_past _ _ _ _ _ c.if-out-at.true)
 
 pub slice_bounds-copy_all-end : goal.slice_bounds-copy_all-end
-slice_bounds-copy_all-end c = ⊎_elim (λ w. omega (arith, w)) (λ w. omega (arith, w)) c.if-chosen-n.branch
+slice_bounds-copy_all-end c =
+    elim c.if-chosen-n.branch [ then-chosen-n w ↦ omega (arith, w.end-is) | else-chosen-n w ↦ omega (arith, w.if-chosen-n.false, w.end-is) ]
 
 pub returns : goal.returns
-returns c = c.copy_all.ensures
-    ∙ first_copied _ _ _ _ _ _ _ (⊎_elim (λ w. inr (w.0.taken, w.1)) (λ w. inl w.1) c.if-chosen-n.branch)
+returns c =
+    c.copy_all.ensures
+    ∙ first_copied _ _ _ _ _ _ _
+    (elim c.if-chosen-n.branch [ then-chosen-n w ↦ inr (w.if-chosen-n.true, w.end-is) | else-chosen-n w ↦ inl w.end-is ])
