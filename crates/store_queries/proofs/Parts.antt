@@ -16,7 +16,7 @@ abbrev pub Handed : Part → Bor (List ℕ) → Bor (List ℕ) → Bor (List ℕ
 Handed p s t r number = (r.now ≡ part_bytes p s.now t.now) × (PointsInto p s t r × (number ≡ part_number p))
 
 -- a slice from a place on for so many bytes
-taken : (s : List ℕ) (at n : ℕ) → take (at + n - at) (drop at s) ≡ take n (drop at s)
+pub taken : (s : List ℕ) (at n : ℕ) → take (at + n - at) (drop at s) ≡ take n (drop at s)
 taken s at n = let e : at + n - at ≡ n = omega arith in ap (λ (m : ℕ). take m (drop at s)) e
 
 module _ (p : Part) (s t r : Bor (List ℕ)) where

@@ -1,8 +1,10 @@
 -- `store_queries::part_of` meets its contract, in each of the answers.
-use mathlib.Core.Path.{refl}
+use mathlib.Core.Path.{refl, sym, ap, ◌∙◌}
 use native.Mathlib.Omega.{arith}
 use borrow.Author.Rules.{rules}
-use Rattle.store_queries.proofs.Parts.{hands_nothing, hands_store, hands_batch, hands_refusal}
+use Rattle.replication.specs.declared.Part.{Part}
+use Rattle.replication.specs.Queries.{part_bytes, part_number}
+use Rattle.store_queries.proofs.Parts.{taken, hands_nothing, hands_store, hands_batch, hands_refusal}
 use Rattle.store_queries.proofs.part_of.Goals as goal
 
 pub overflow_add-result : goal.overflow_add-result
@@ -18,37 +20,45 @@ pub slice_bounds-result-end-in-OfBatch : goal.slice_bounds-result-end-in-OfBatch
 slice_bounds-result-end-in-OfBatch c = omega (arith, c.requires.of_batch _ _ c.in-OfBatch.is)
 
 pub returns-in-Nothing-clause-part : goal.returns-in-Nothing-clause-part
-returns-in-Nothing-clause-part c = (hands_nothing _ _ _ _ c.in-Nothing.is refl).0
+unfolding part_bytes
+returns-in-Nothing-clause-part c = sym (ap (λ (q : Part). part_bytes q c.args.store.now c.args.batch.now) c.in-Nothing.is)
 
 pub returns-in-Nothing-clause-place : goal.returns-in-Nothing-clause-place
 returns-in-Nothing-clause-place c = (hands_nothing _ _ _ _ c.in-Nothing.is refl).1.0
 
 pub returns-in-Nothing-clause-number : goal.returns-in-Nothing-clause-number
-returns-in-Nothing-clause-number c = (hands_nothing _ _ _ _ c.in-Nothing.is refl).1.1
+unfolding part_number
+returns-in-Nothing-clause-number c = sym (ap part_number c.in-Nothing.is)
 
 pub returns-in-OfStore-clause-part : goal.returns-in-OfStore-clause-part
-returns-in-OfStore-clause-part c = (hands_store _ _ _ _ _ _ c.in-OfStore.is refl refl).0
+unfolding part_bytes
+returns-in-OfStore-clause-part c = taken c.args.store.now c.in-OfStore.at c.in-OfStore.length ∙ sym (ap (λ (q : Part). part_bytes q c.args.store.now c.args.batch.now) c.in-OfStore.is)
 
 pub returns-in-OfStore-clause-place : goal.returns-in-OfStore-clause-place
 returns-in-OfStore-clause-place c = (hands_store _ _ _ _ _ _ c.in-OfStore.is refl refl).1.0
 
 pub returns-in-OfStore-clause-number : goal.returns-in-OfStore-clause-number
-returns-in-OfStore-clause-number c = (hands_store _ _ _ _ _ _ c.in-OfStore.is refl refl).1.1
+unfolding part_number
+returns-in-OfStore-clause-number c = sym (ap part_number c.in-OfStore.is)
 
 pub returns-in-OfBatch-clause-part : goal.returns-in-OfBatch-clause-part
-returns-in-OfBatch-clause-part c = (hands_batch _ _ _ _ _ _ c.in-OfBatch.is refl refl).0
+unfolding part_bytes
+returns-in-OfBatch-clause-part c = taken c.args.batch.now c.in-OfBatch.at c.in-OfBatch.length ∙ sym (ap (λ (q : Part). part_bytes q c.args.store.now c.args.batch.now) c.in-OfBatch.is)
 
 pub returns-in-OfBatch-clause-place : goal.returns-in-OfBatch-clause-place
 returns-in-OfBatch-clause-place c = (hands_batch _ _ _ _ _ _ c.in-OfBatch.is refl refl).1.0
 
 pub returns-in-OfBatch-clause-number : goal.returns-in-OfBatch-clause-number
-returns-in-OfBatch-clause-number c = (hands_batch _ _ _ _ _ _ c.in-OfBatch.is refl refl).1.1
+unfolding part_number
+returns-in-OfBatch-clause-number c = sym (ap part_number c.in-OfBatch.is)
 
 pub returns-in-Refused-clause-part : goal.returns-in-Refused-clause-part
-returns-in-Refused-clause-part c = (hands_refusal _ _ _ _ _ c.in-Refused.is refl).0
+unfolding part_bytes
+returns-in-Refused-clause-part c = sym (ap (λ (q : Part). part_bytes q c.args.store.now c.args.batch.now) c.in-Refused.is)
 
 pub returns-in-Refused-clause-place : goal.returns-in-Refused-clause-place
 returns-in-Refused-clause-place c = (hands_refusal _ _ _ _ _ c.in-Refused.is refl).1.0
 
 pub returns-in-Refused-clause-number : goal.returns-in-Refused-clause-number
-returns-in-Refused-clause-number c = (hands_refusal _ _ _ _ _ c.in-Refused.is refl).1.1
+unfolding part_number
+returns-in-Refused-clause-number c = sym (ap part_number c.in-Refused.is)

@@ -3,6 +3,7 @@ use Prim.Native.Nat.{ℕ, ◌+◌}
 use mathlib.Core.Path.{ap, ◌∙◌}
 use mathlib.Core.List.{List}
 use native.Mathlib.Omega.{arith}
+use mathlib.Core.List.{[]}
 use lib.ListN.{take}
 use Rattle.replication.specs.OpenStore.{store_knowledge}
 use Rattle.records_join.specs.MethodJoin.{copied}
@@ -12,7 +13,7 @@ use Rattle.store_write.proofs.put_around.Goals as goal
 
 pub returns-then-beyond-clause-value : goal.returns-then-beyond-clause-value
 returns-then-beyond-clause-value c = let a = c.args in
-    (put_short (store_knowledge + a.n + a.e.length) a.out.now _ (omega (arith, c.beyond.ensures.0 c.if-beyond.true))).0
+    (put_short (store_knowledge + a.n + a.e.length) a.out.now [] (omega (arith, c.beyond.ensures.0 c.if-beyond.true))).0
 
 pub returns-then-beyond-clause-out_after : goal.returns-then-beyond-clause-out_after
 returns-then-beyond-clause-out_after c = let a = c.args in
@@ -23,7 +24,7 @@ overflow_add-end c = omega (arith, c.beyond.ensures.1 c.if-beyond.false)
 
 pub returns-then-beyond-2-clause-value : goal.returns-then-beyond-2-clause-value
 returns-then-beyond-2-clause-value c = let a = c.args in
-    (put_short (store_knowledge + a.n + a.e.length) a.out.now _ (omega (arith, c.beyond-2.ensures.0 c.if-beyond-2.true))).0
+    (put_short (store_knowledge + a.n + a.e.length) a.out.now [] (omega (arith, c.beyond-2.ensures.0 c.if-beyond-2.true))).0
 
 pub returns-then-beyond-2-clause-out_after : goal.returns-then-beyond-2-clause-out_after
 returns-then-beyond-2-clause-out_after c = let a = c.args in

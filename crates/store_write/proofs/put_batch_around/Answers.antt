@@ -1,4 +1,5 @@
 -- `store_write::put_batch_around` meets its contract: 14 where there is no room around the learned knowledge, else all is written.
+use mathlib.Core.List.{[]}
 use Prim.Native.Nat.{◌+◌}
 use native.Mathlib.Omega.{arith}
 use lib.ListN.{length}
@@ -10,7 +11,7 @@ use Rattle.store_write.proofs.put_batch_around.Goals as goal
 
 pub returns-then-beyond-clause-value : goal.returns-then-beyond-clause-value
 returns-then-beyond-clause-value c = let a = c.args in
-    (put_short (batch_needed + length a.needed.now + a.n + a.e.length) a.out.now _
+    (put_short (batch_needed + length a.needed.now + a.n + a.e.length) a.out.now []
     (omega (arith, c.beyond.ensures.0 c.if-beyond.true))).0
 
 pub returns-then-beyond-clause-out_after : goal.returns-then-beyond-clause-out_after
@@ -20,7 +21,7 @@ returns-then-beyond-clause-out_after c = let a = c.args in
 
 pub returns-then-beyond-2-clause-value : goal.returns-then-beyond-2-clause-value
 returns-then-beyond-2-clause-value c = let a = c.args in
-    (put_short (batch_needed + length a.needed.now + a.n + a.e.length) a.out.now _
+    (put_short (batch_needed + length a.needed.now + a.n + a.e.length) a.out.now []
     (omega (arith, c.beyond-2.ensures.0 c.if-beyond-2.true))).0
 
 pub returns-then-beyond-2-clause-out_after : goal.returns-then-beyond-2-clause-out_after
@@ -33,7 +34,7 @@ overflow_add-end c = omega (arith, c.beyond-2.ensures.1 c.if-beyond-2.false)
 
 pub returns-then-beyond-3-clause-value : goal.returns-then-beyond-3-clause-value
 returns-then-beyond-3-clause-value c = let a = c.args in
-    (put_short (batch_needed + length a.needed.now + a.n + a.e.length) a.out.now _
+    (put_short (batch_needed + length a.needed.now + a.n + a.e.length) a.out.now []
     (omega (arith, c.beyond-3.ensures.0 c.if-beyond-3.true))).0
 
 pub returns-then-beyond-3-clause-out_after : goal.returns-then-beyond-3-clause-out_after
