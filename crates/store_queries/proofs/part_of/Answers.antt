@@ -32,7 +32,7 @@ returns-in-Nothing-clause-number c = sym (ap part_number c.in-Nothing.is)
 
 pub returns-in-OfStore-clause-part : goal.returns-in-OfStore-clause-part
 unfolding part_bytes
-returns-in-OfStore-clause-part c = taken c.args.store.now c.in-OfStore.at c.in-OfStore.length ∙ sym (ap (λ (q : Part). part_bytes q c.args.store.now c.args.batch.now) c.in-OfStore.is)
+returns-in-OfStore-clause-part c = taken c.args.store.now c.in-OfStore.at c.in-OfStore.n ∙ sym (ap (λ (q : Part). part_bytes q c.args.store.now c.args.batch.now) c.in-OfStore.is)
 
 pub returns-in-OfStore-clause-place : goal.returns-in-OfStore-clause-place
 returns-in-OfStore-clause-place c = (hands_store _ _ _ _ _ _ c.in-OfStore.is refl refl).1.0
@@ -43,7 +43,7 @@ returns-in-OfStore-clause-number c = sym (ap part_number c.in-OfStore.is)
 
 pub returns-in-OfBatch-clause-part : goal.returns-in-OfBatch-clause-part
 unfolding part_bytes
-returns-in-OfBatch-clause-part c = taken c.args.batch.now c.in-OfBatch.at c.in-OfBatch.length ∙ sym (ap (λ (q : Part). part_bytes q c.args.store.now c.args.batch.now) c.in-OfBatch.is)
+returns-in-OfBatch-clause-part c = taken c.args.batch.now c.in-OfBatch.at c.in-OfBatch.n ∙ sym (ap (λ (q : Part). part_bytes q c.args.store.now c.args.batch.now) c.in-OfBatch.is)
 
 pub returns-in-OfBatch-clause-place : goal.returns-in-OfBatch-clause-place
 returns-in-OfBatch-clause-place c = (hands_batch _ _ _ _ _ _ c.in-OfBatch.is refl refl).1.0
