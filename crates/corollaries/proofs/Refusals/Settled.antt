@@ -49,6 +49,7 @@ Each [] r u = Unit {0}
 Each (n ∷ ns) r u = ((r ≡ refuses n) ↔ (u ≡ refuses n)) × Each ns r u
 
 each_of : (n : ℕ) (ns : List ℕ) (r u : Reply) → Among n ns → Each ns r u → (r ≡ refuses n) ↔ (u ≡ refuses n)
+each_of n [] r u x' h = elim x' [ ]
 each_of n (m ∷ ns) r u (inl e) h = subst (λ (k : ℕ). (r ≡ refuses k) ↔ (u ≡ refuses k)) (sym e) h.0
 each_of n (m ∷ ns) r u (inr a) h = each_of n ns r u a h.1
 

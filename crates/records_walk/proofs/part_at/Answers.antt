@@ -11,7 +11,7 @@ pub returns-then-n-eq0 : goal.returns-then-n-eq0
 returns-then-n-eq0 c = (
   part_none _ _ _ c.length_at-n.ensures c.if-n-eq0.true,
   ap (λ (k : ℕ).
-      (c.args.table.ptr.0, k + c.args.table.ptr.1))
+      (c.args.table.ref_ptr.0, k + c.args.table.ref_ptr.1))
       (start_none _ _ _ c.length_at-n.ensures c.if-n-eq0.true),
 )
 
@@ -25,6 +25,6 @@ pub returns : goal.returns
 returns c = (
   part_some _ _ _ c.length_at-n.ensures c.if-n-eq0.false,
   ap (λ (k : ℕ).
-      (c.args.table.ptr.0, k + c.args.table.ptr.1))
+      (c.args.table.ref_ptr.0, k + c.args.table.ref_ptr.1))
       (start_some _ _ _ c.length_at-n.ensures c.if-n-eq0.false),
 )
