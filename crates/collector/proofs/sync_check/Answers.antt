@@ -6,10 +6,10 @@ use Rattle.layout.proofs.Told.{number_accepted, sizes_accepted, number_refused, 
 use Rattle.collector.proofs.sync_check.Goals as goal
 
 pub returns-in-Accepted : goal.returns-in-Accepted
-returns-in-Accepted c = let v = c.r-1.given.0 in
+returns-in-Accepted c = let v = c.in-Accepted in
     let is = sym c.check.ensures ∙ c.in-Accepted.is in (
-      number_accepted _ v.0 v.1.0 v.1.1.0 v.1.1.1.0 is,
-      sizes_accepted _ v.0 v.1.0 v.1.1.0 v.1.1.1.0 is _,
+      number_accepted _ v.r v.v v.e v.g is,
+      sizes_accepted _ v.r v.v v.e v.g is _,
     )
 
 pub returns-in-Refused : goal.returns-in-Refused
