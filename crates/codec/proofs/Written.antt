@@ -1,6 +1,6 @@
 -- Bytes written one after the other. Each part is written where the one before it ended, so with room for all what is written is what
 -- the parts put in front of each other. A list of bytes is one part, and so is a number; an id is its words.
-use Rattle.std.proofs.Common.{◌≡◌, ℕ, ◌+◌, ◌^◌, ◌<◌, ◌≤◌, List, [], ◌++◌, length, sym, ap, ◌∙◌, subst, ap₂, arith, length-append}
+use Rattle.std.proofs.Common.{◌≡◌, ℕ, ◌+◌, ◌^◌, ◌<◌, ◌≤◌, List, [], ◌++◌, length, sym, ap, ◌∙◌, subst, arith, length-append}
 use Rattle.codec.specs.Number.{put}
 use Rattle.codec.specs.Part.{placed, bytes}
 use Rattle.codec.specs.Words.{words2, words3}

@@ -14,7 +14,7 @@ use Rattle.layout.specs.declared.Got.TheVariants.{Fault}
 use Rattle.layout.specs.declared.Checked.TheVariants.{Refused}
 use Rattle.layout.specs.Knowledge.{Rules, Element, Range, Field, opening, before_vectors, before_elements, before_ranges, put_fields, All, keys, bounds}
 use Rattle.layout.specs.Permitted.{Permitted}
-use Rattle.layout.specs.Read.{◌▷◌, number, same, fields, limit}
+use Rattle.layout.specs.Read.{◌▷◌, number, fields, limit}
 use Rattle.layout.specs.Parse.{vector_count, checked_by}
 use Rattle.layout.proofs.Chain.{Stands, stands_whole, Fit, opening_fits, before_vectors-fits, before_elements-fits, before_ranges-fits, closing_fits}
 use Rattle.layout.proofs.ForwardRead.{lowest}

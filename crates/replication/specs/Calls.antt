@@ -1,9 +1,9 @@
 -- The calls that write, on bytes. Each is a table of refusals in document 01's order, "Inputs are checked as given: …
 -- store before batch or knowledge, then 17; then 18, 19, 20; then the result (for make: needed before learned)", and
 -- the bytes where no line holds. 14, the output buffer shorter than the result, is looked for last, by `answer`.
-use Rattle.codec.specs.Prelude.{ℕ, Bool, true, false, not, ◌||◌, List, [], ◌∷◌, Option, none, some, eqb, ltb, leb, length, ◌≡◌}
+use Rattle.codec.specs.Prelude.{ℕ, Bool, true, false, not, ◌||◌, List, [], ◌∷◌, Option, none, some, ltb, leb, length, ◌≡◌}
 use Rattle.codec.specs.Reply.{Reply, gives, Line, first_fault, refuses}
-use Rattle.layout.specs.Knowledge.{Limits, Rules, any_id, largest_tick, Knowledge}
+use Rattle.layout.specs.Knowledge.{Limits, Rules, largest_tick}
 use Rattle.layout.specs.Parse.{parse}
 use Rattle.ticks.specs.Meaning.{highest, empty_knowledge}
 use Rattle.ticks.specs.Operations.{covers, covers_for, largest}

@@ -14,7 +14,6 @@ use Rattle.layout.specs.Parse.{parse}
 use Rattle.layout.proofs.Exact.{exact, read_back, base_permitted}
 use Rattle.ticks.specs.Meaning.{Normal}
 use Rattle.ticks.specs.Operations.{normalise, merge, too_many_replicas, too_many_ranges}
-use Rattle.ticks.specs.declared.Contain.TheVariants as C
 use Rattle.ticks.specs.Demand2.{SameVersions, NormalBytes, Normalised, Merged, Demand2}
 use Rattle.ticks.proofs.Operations.{normal_normalise, normal_merge}
 use Rattle.ticks.proofs.Algebra.{versions_unique, contains_normalise, contains_merge}

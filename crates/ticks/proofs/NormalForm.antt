@@ -7,7 +7,7 @@ use mathlib.Core.List.{List, [], ◌∷◌}
 use native.Mathlib.Omega.{arith}
 use lib.Dec.{eqb}
 use lib.ListN.{length}
-use Rattle.layout.specs.Knowledge.{All, Distinct, Rising, keys}
+use Rattle.layout.specs.Knowledge.{All, Distinct, Rising}
 use Rattle.ticks.specs.Meaning.{highest, place, tick_at, vector_at, known, Formed}
 use Rattle.ticks.specs.Table.{Row, Table, get, at, sorted, row_ids, step_ids, used_ids}
 use Rattle.ticks.specs.Written.{vector_from, vector_steps_from, vector_steps, indexed, knowledge_of}

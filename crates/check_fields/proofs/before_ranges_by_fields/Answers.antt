@@ -1,7 +1,6 @@
 -- `check_fields::before_ranges_by_fields` meets its contract. The fields are read one after the other, in the order of the definition's list, then the count.
 use Rattle.layout.specs.Knowledge.{before_ranges}
 use Rattle.check_fields.proofs.Run.{run_count, runs}
-use borrow.Author.Rules.{rules}
 use Rattle.check_fields.proofs.before_ranges_by_fields.Goals as goal
 
 pub returns : goal.returns

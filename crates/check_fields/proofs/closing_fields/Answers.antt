@@ -2,7 +2,6 @@
 use Rattle.check_fields.specs.Method.{run_of}
 use Rattle.check_fields.proofs.Known.{closed}
 use native.Mathlib.Omega.{arith}
-use borrow.Author.Rules.{rules}
 use Rattle.check_fields.proofs.closing_fields.Goals as goal
 
 pub returns-then-beyond : goal.returns-then-beyond

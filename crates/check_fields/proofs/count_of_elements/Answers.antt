@@ -1,5 +1,4 @@
 -- `check_fields::count_of_elements` meets its contract. The field, then the count.
-use native.Mathlib.Omega.{arith}
 use Rattle.check_fields.proofs.Vector.{count_field}
 use Rattle.check_fields.proofs.count_of_elements.Goals as goal
 

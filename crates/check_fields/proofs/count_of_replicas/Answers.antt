@@ -2,7 +2,6 @@
 use Rattle.check_fields.specs.Method.{run_of}
 use Rattle.check_fields.proofs.Known.{opened}
 use native.Mathlib.Omega.{arith}
-use borrow.Author.Rules.{rules}
 use Rattle.check_fields.proofs.count_of_replicas.Goals as goal
 
 pub returns-then-s-lt-IDS_PLACE : goal.returns-then-s-lt-IDS_PLACE

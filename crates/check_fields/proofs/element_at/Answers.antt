@@ -1,6 +1,5 @@
 -- `check_fields::element_at` meets its contract. Each return has the test that the definition makes there.
 use Rattle.check_fields.proofs.Element.{element_short, element_beyond, element_seen, element_cut, element_late, element_whole}
-use borrow.Author.Rules.{rules}
 use Rattle.check_fields.proofs.element_at.Goals as goal
 
 pub returns-then-s-at-lt4 : goal.returns-then-s-at-lt4

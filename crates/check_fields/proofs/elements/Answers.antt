@@ -1,8 +1,4 @@
 -- `check_fields::elements` meets its contract. The loop's invariant: the whole answer is the answer from here on, and the place is inside the bytes.
-use lib.ListN.{length}
-use mathlib.Core.Path.{◌≡◌}
-use Prim.Native.Nat.{◌+◌, ◌-◌, ◌*◌, ◌≤◌}
-use Rattle.layout.specs.Read.{repeat, element}
 use Rattle.check_fields.proofs.Repeat.{repeat_all, repeat_stop, repeat_up, repeat_end}
 use Rattle.check_fields.proofs.Element.{element_went}
 use native.Mathlib.Omega.{arith}

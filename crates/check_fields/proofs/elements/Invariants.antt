@@ -3,9 +3,6 @@ use lib.ListN.{length}
 use mathlib.Core.Path.{◌≡◌}
 use Prim.Native.Nat.{◌+◌, ◌-◌, ◌*◌, ◌≤◌}
 use Rattle.layout.specs.Read.{repeat, element}
-use Rattle.check_fields.proofs.Repeat.{repeat_all, repeat_stop, repeat_up, repeat_end}
-use Rattle.check_fields.proofs.Element.{element_went}
-use native.Mathlib.Omega.{arith}
 use Rattle.check_fields.proofs.elements.Given as goal
 
 abbrev pub invariant-loop-k : goal.invariant-loop-k

@@ -1,5 +1,4 @@
 -- `check_fields::fixed` meets its contract. Reading, then comparing.
-use native.Mathlib.Omega.{arith}
 use Rattle.check_fields.proofs.Steps.{next_step}
 use Rattle.check_fields.proofs.fixed.Goals as goal
 

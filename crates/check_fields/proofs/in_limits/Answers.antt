@@ -1,6 +1,4 @@
 -- `check_fields::in_limits` meets its contract. Each return has the test that the definition makes there.
-use native.Mathlib.Omega.{arith}
-use borrow.Author.Rules.{rules}
 use Rattle.check_fields.proofs.Steps.{steps}
 use Rattle.check_fields.proofs.in_limits.Goals as goal
 

@@ -1,7 +1,4 @@
 -- `check_fields::number_at` meets its contract. The loop's invariant: the whole number is what is left of it, with what was read in front. Eight bytes fit a word.
-use Rattle.codec.specs.Number.{be_from, be_at}
-use Prim.Native.Nat.{◌+◌, ◌-◌, ◌^◌, ◌<◌, ◌≤◌}
-use mathlib.Core.Path.{◌≡◌}
 use Rattle.check_fields.proofs.Digits.{digits_none, digits_on, digits_end, digit_more, digits_fit}
 use native.Mathlib.Omega.{arith}
 use Rattle.check_fields.proofs.number_at.Goals as goal

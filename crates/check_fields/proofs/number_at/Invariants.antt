@@ -2,8 +2,6 @@
 use Rattle.codec.specs.Number.{be_from, be_at}
 use Prim.Native.Nat.{◌+◌, ◌-◌, ◌^◌, ◌<◌, ◌≤◌}
 use mathlib.Core.Path.{◌≡◌}
-use Rattle.check_fields.proofs.Digits.{digits_none, digits_on, digits_end, digit_more, digits_fit}
-use native.Mathlib.Omega.{arith}
 use Rattle.check_fields.proofs.number_at.Given as goal
 
 abbrev pub invariant-loop-i : goal.invariant-loop-i

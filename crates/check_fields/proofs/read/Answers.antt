@@ -1,7 +1,6 @@
 -- `check_fields::read` meets its contract. Each return has the test that the definition makes there.
 use Rattle.check_fields.proofs.Steps.{number_cut, number_read}
 use native.Mathlib.Omega.{arith}
-use borrow.Author.Rules.{rules}
 use Rattle.check_fields.proofs.read.Goals as goal
 
 pub returns-then-beyond : goal.returns-then-beyond

@@ -1,6 +1,5 @@
 -- `check_fields::run_by_fields` meets its contract. The number says which run is read.
 use Rattle.check_fields.proofs.Run.{run_opening, run_vectors, run_ranges, run_closing}
-use borrow.Author.Rules.{rules}
 use Rattle.check_fields.proofs.run_by_fields.Goals as goal
 
 pub returns-then-run-eq-OPENING_RUN : goal.returns-then-run-eq-OPENING_RUN

@@ -1,8 +1,6 @@
 -- `check_fields::seen_key` meets its contract. The loop's invariant: the whole answer is the answer from here on.
-use mathlib.Core.Path.{◌≡◌, ◌∙◌}
-use Prim.Native.Nat.{◌+◌, ◌-◌, ◌*◌, ◌≤◌}
+use mathlib.Core.Path.{◌∙◌}
 use Rattle.codec.proofs.Total.{read_there}
-use Rattle.layout.specs.Read.{among}
 use Rattle.check_fields.proofs.Among.{among_all, among_meets, among_misses, among_end}
 use native.Mathlib.Omega.{arith}
 use Rattle.check_fields.proofs.seen_key.Goals as goal

@@ -1,7 +1,6 @@
 -- `check_fields::vector_by_fields` meets its contract. The count, then as many elements.
 use mathlib.Core.Path.{refl}
 use Rattle.check_fields.proofs.Vector.{vector_count_fault, vector_start, vector_alone}
-use borrow.Author.Rules.{rules}
 use Rattle.check_fields.proofs.vector_by_fields.Goals as goal
 
 pub returns-in_default : goal.returns-in_default

@@ -1,9 +1,9 @@
 -- `codec::copy_part` meets its contract. Where the part is missing or has no room nothing changes. The loop's
 -- invariant: the part is there and has room, its first i bytes stand in their place, and `dst` is as long as it was.
 -- The measure is what is left of n.
-use Rattle.std.proofs.Common.{◌≡◌, ◌+◌, ◌-◌, ◌≤◌, length, arith, length-set}
+use Rattle.std.proofs.Common.{◌≡◌, ◌+◌, ◌-◌, ◌≤◌, length}
 use Rattle.codec.specs.Part.{part}
-use Rattle.codec.proofs.Writing.{no_part, no_place, copying, copying_none, copying_more, copying_all}
+use Rattle.codec.proofs.Writing.{copying}
 use Rattle.codec.proofs.copy_part.Given as goal
 
 abbrev pub invariant-loop-i : goal.invariant-loop-i

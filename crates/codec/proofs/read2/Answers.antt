@@ -1,5 +1,5 @@
 -- `codec::read2` meets its contract: the sum is the number that the two bytes make, and where one is missing it is 0.
-use Rattle.std.proofs.Common.{sym, arith, rules}
+use Rattle.std.proofs.Common.{sym, arith}
 use Rattle.codec.proofs.Total.{read_there, read_missing}
 use Rattle.codec.proofs.Reading.{be_two}
 use Rattle.codec.proofs.read2.Goals as goal

@@ -1,5 +1,5 @@
 -- `codec::read4` meets its contract: `four` reads the number, and where a byte is missing it is 0.
-use Rattle.std.proofs.Common.{sym, arith, rules}
+use Rattle.std.proofs.Common.{sym, arith}
 use Rattle.codec.proofs.Total.{read_there, read_missing}
 use Rattle.codec.proofs.read4.Goals as goal
 

@@ -1,5 +1,5 @@
 -- `codec::read8` meets its contract: eight bytes are four and four, and where one is missing the number is 0.
-use Rattle.std.proofs.Common.{sym, arith, rules}
+use Rattle.std.proofs.Common.{sym, arith}
 use Rattle.codec.proofs.Total.{read_there, read_missing}
 use Rattle.codec.proofs.Reading.{be_eight}
 use Rattle.codec.proofs.read8.Goals as goal

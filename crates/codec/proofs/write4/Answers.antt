@@ -1,5 +1,5 @@
 -- `codec::write4` meets its contract: the four bytes are stored where there is room.
-use Rattle.std.proofs.Common.{◌∙◌, arith}
+use Rattle.std.proofs.Common.{◌∙◌}
 use Rattle.codec.proofs.Writing.{no_room, written}
 use Rattle.codec.proofs.write4.Goals as goal
 

@@ -2,7 +2,7 @@
 -- argument's; else which numbers there are, each with its condition, and what is written where none is given. The statements
 -- settle the reply, refused or not: at most one reply meets them. A table that left out a number, a condition or an order would
 -- not do that. They gather the laws of Refusals and Contents in `replication`.
-use Prim.Native.Nat.{ℕ, ◌+◌, ◌≤◌, ◌<◌}
+use Prim.Native.Nat.{ℕ, ◌≤◌, ◌<◌}
 use mathlib.Core.Path.{◌≡◌, refl, sym, ap, ◌∙◌, subst}
 use mathlib.Core.Logic.{◌⊎◌, inl, inr, ◌↔◌}
 use mathlib.Core.List.{List, [], ◌∷◌, ◌++◌}

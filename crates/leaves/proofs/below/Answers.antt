@@ -2,7 +2,6 @@
 use native.Mathlib.Omega.{arith}
 use Rattle.codec.specs.Number.{Bytes}
 use Rattle.leaves.proofs.Compare.{bound_first, bound_second, bound_third, below_missing, below_there}
-use borrow.Author.Rules.{rules}
 use Rattle.leaves.proofs.below.Goals as goal
 
 pub returns-then-w-lt24 : goal.returns-then-w-lt24

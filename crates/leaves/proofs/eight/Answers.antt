@@ -2,7 +2,6 @@ use mathlib.Core.Path.{sym}
 use native.Mathlib.Omega.{arith}
 use Rattle.codec.proofs.Reading.{be_eight}
 use Rattle.codec.proofs.Total.{read_there, read_missing}
-use borrow.Author.Rules.{rules}
 use Rattle.leaves.proofs.eight.Goals as goal
 
 pub returns-then-w-lt8 : goal.returns-then-w-lt8

@@ -1,7 +1,6 @@
 use mathlib.Core.Path.{sym, ◌∙◌}
 use native.Mathlib.Omega.{arith}
 use Rattle.codec.proofs.Total.{read_there, read_missing}
-use borrow.Author.Rules.{rules}
 use Rattle.leaves.proofs.four.Goals as goal
 
 pub returns-then-w-lt4 : goal.returns-then-w-lt4

@@ -1,6 +1,5 @@
 -- `leaves::is_replica` meets its contract: ids are the same where both of their words are.
 use native.Mathlib.Omega.{arith}
-use borrow.Author.Rules.{rules}
 use Rattle.codec.specs.Number.{Bytes}
 use Rattle.leaves.proofs.Compare.{id_differs, id_rest, same_missing, same_there}
 use Rattle.leaves.proofs.is_replica.Goals as goal

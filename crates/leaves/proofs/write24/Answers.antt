@@ -2,7 +2,6 @@
 use native.Mathlib.Omega.{arith}
 use Rattle.codec.proofs.Writing.{no_room}
 use Rattle.leaves.proofs.Writing.{item_placed}
-use borrow.Author.Rules.{rules}
 use Rattle.leaves.proofs.write24.Goals as goal
 
 pub returns-then-beyond : goal.returns-then-beyond

@@ -11,7 +11,7 @@ use Rattle.layout.specs.Permitted.{Permitted}
 use Rattle.ticks.specs.Calls.{id_of}
 use Rattle.ticks.proofs.Operations.{known_empty, normal_empty}
 use Rattle.ticks.proofs.LawfulResults.{below_top, lawful_empty}
-use Rattle.replication.specs.Formats.{new_store, encode_store, items}
+use Rattle.replication.specs.Formats.{new_store, encode_store}
 use Rattle.replication.specs.OpenBatch.{open_batch}
 use Rattle.replication.specs.Calls.{live_content, tombstone, edit_reply, delete_reply, make_reply, apply_reply, RightBrought}
 use Rattle.replication.specs.Lists.{World, start, outcome, batch_number, apply_to, writes, keep, run, trace}
