@@ -1,5 +1,5 @@
 -- What the code of apply knows from step to step. There is nothing to believe here: the call's contract cites the reply of `replication`.
-use Rattle.codec.specs.Prelude.{ℕ, ◌+◌, ◌≤◌, ◌≡◌, Bool, List, [], ◌∷◌, length}
+use Rattle.std.specs.Prelude.{ℕ, ◌+◌, ◌≤◌, ◌≡◌, Bool, List, [], ◌∷◌, length}
 use Rattle.codec.specs.Number.{Bytes}
 use Rattle.codec.specs.Reply.{Reply}
 use Rattle.layout.specs.Knowledge.{Limits, Knowledge, any_id}

@@ -1,5 +1,5 @@
 -- The method of the reading of fields: nothing here is to be believed.
-use Rattle.codec.specs.Prelude.{ℕ, true, false, List, eqb}
+use Rattle.std.specs.Prelude.{ℕ, true, false, List, eqb}
 use Rattle.layout.specs.declared.Got.{Got}
 use Rattle.layout.specs.Knowledge.{opening, before_vectors, before_ranges, closing}
 use Rattle.layout.specs.Read.{◌▷◌, number, fields}

@@ -1,6 +1,6 @@
 -- The reader's own method: nothing here is to be believed. These definitions name what is left of the check from each of its
 -- parts on, with the most ranges, and its laws show that the first of them is the check.
-use Rattle.codec.specs.Prelude.{ℕ, ◌+◌, ◌*◌, ◌/◌, ◌%◌, ◌^◌, true, false, List, ltb}
+use Rattle.std.specs.Prelude.{ℕ, ◌+◌, ◌*◌, ◌/◌, ◌%◌, ◌^◌, true, false, List, ltb}
 use Rattle.layout.specs.declared.Checked.{Checked}
 use Rattle.layout.specs.declared.Checked.TheVariants.{Accepted, Refused}
 use Rattle.layout.specs.Knowledge.{closing}

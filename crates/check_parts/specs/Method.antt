@@ -1,6 +1,6 @@
 -- The method of the reading of lists: nothing here is to be believed. These definitions name the parts that its
 -- functions compute, and its laws show that together they are the definitions of the layout.
-use Rattle.codec.specs.Prelude.{ℕ, suc, ◌^◌, ◌<◌, ◌≡◌, List}
+use Rattle.std.specs.Prelude.{ℕ, suc, ◌^◌, ◌<◌, ◌≡◌, List}
 use Rattle.codec.specs.Number.{Bytes, be_at}
 use Rattle.layout.specs.declared.Got.{Got}
 use Rattle.layout.specs.declared.Got.TheVariants.{Num, Fault}

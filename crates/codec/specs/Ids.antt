@@ -1,5 +1,5 @@
 -- Ids as the code has them: words of 64 bits, the highest first.
-use Rattle.codec.specs.Prelude.{ℕ, ◌^◌, ◌<◌, List}
+use Rattle.std.specs.Prelude.{ℕ, ◌^◌, ◌<◌, List}
 use Rattle.codec.specs.Total.{read_at}
 use Rattle.codec.specs.Words.{words2, words3}
 use Rattle.codec.specs.declared.Item.{Item}

@@ -1,6 +1,6 @@
 -- What a call that writes owes, in one word. There is nothing to believe here: the contracts of the public calls have the two
 -- equations themselves.
-use Rattle.codec.specs.Prelude.{ℕ, ◌≡◌, List, length}
+use Rattle.std.specs.Prelude.{ℕ, ◌≡◌, List, length}
 use Rattle.codec.specs.Reply.{Reply, answer, after}
 use Rattle.codec.specs.declared.Answer.{Answer}
 

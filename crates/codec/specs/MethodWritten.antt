@@ -1,6 +1,6 @@
 -- Bytes one after the other. There is nothing to believe here: it says how a format that is written field by field comes to be placed
 -- as a whole.
-use Rattle.codec.specs.Prelude.{ℕ, ◌+◌, ◌≤◌, ◌≡◌, List, length}
+use Rattle.std.specs.Prelude.{ℕ, ◌+◌, ◌≤◌, ◌≡◌, List, length}
 use Rattle.codec.specs.Part.{placed}
 
 -- what f puts in front is written from a place on, and p is the place after it

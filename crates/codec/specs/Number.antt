@@ -1,6 +1,6 @@
 -- Numbers and ids as bytes. Document 01: "Multi-byte numbers are big-endian; ids are compared byte by byte from the front,
 -- unsigned." An id is the number that its bytes make: 24 bytes for an item, 16 for a replica.
-use Rattle.codec.specs.Prelude.{ℕ, zero, suc, ◌+◌, ◌*◌, ◌/◌, ◌%◌, ◌^◌, ◌<◌, List, ◌∷◌, get_or}
+use Rattle.std.specs.Prelude.{ℕ, zero, suc, ◌+◌, ◌*◌, ◌/◌, ◌%◌, ◌^◌, ◌<◌, List, ◌∷◌, get_or}
 
 pub record Bytes (s : List ℕ) : Type 0 where  -- a list of bytes
   pub below : (i : ℕ) → get_or s i 0 < 256

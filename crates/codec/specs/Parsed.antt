@@ -1,6 +1,6 @@
 -- What reading bytes as a knowledge, a store or a batch comes to: the value, or the number of its fault. And the line that this is in
 -- a call's table of refusals.
-use Rattle.codec.specs.Prelude.{ℕ, Bool, true, false}
+use Rattle.std.specs.Prelude.{ℕ, Bool, true, false}
 use Rattle.codec.specs.Reply.{Line}
 
 pub data Parsed (A : Type 0) : Type 0 where

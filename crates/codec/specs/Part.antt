@@ -1,6 +1,6 @@
 -- Writing into a lent buffer: a number at a place, and a part of another slice. What has no room is not
 -- written at all.
-use Rattle.codec.specs.Prelude.{ℕ, ◌+◌, true, false, List, [], ◌++◌, leb, length, take, drop}
+use Rattle.std.specs.Prelude.{ℕ, ◌+◌, true, false, List, [], ◌++◌, leb, length, take, drop}
 use Rattle.codec.specs.Number.{put}
 
 -- the buffer d with the bytes vs from a place on, or d itself where they do not all fit

@@ -1,6 +1,6 @@
 -- The answer of a call that writes. Document 01: "Only the number returns; buffers are unaltered" on a refusal;
 -- demand 1: "a success writes the stated bytes from the front and none after them."
-use Rattle.codec.specs.Prelude.{ℕ, Bool, true, false, List, [], ◌∷◌, ◌++◌, leb, length, drop}
+use Rattle.std.specs.Prelude.{ℕ, Bool, true, false, List, [], ◌∷◌, ◌++◌, leb, length, drop}
 use Rattle.codec.specs.declared.Answer.{Answer}
 use Rattle.codec.specs.declared.Answer.TheVariants.{Written, Refused}
 

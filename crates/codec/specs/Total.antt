@@ -1,6 +1,6 @@
 -- What the total leaves give where a byte is missing or a limit is out of its range. There is nothing to believe here: the laws
 -- of `proofs/Total.antt` say that a number that is there is `be_at`, and that a limit inside its range stays as it is.
-use Rattle.codec.specs.Prelude.{ℕ, ◌+◌, true, false, List, ltb, leb, length}
+use Rattle.std.specs.Prelude.{ℕ, ◌+◌, true, false, List, ltb, leb, length}
 use Rattle.codec.specs.Number.{be_at}
 
 -- the big-endian number in the n bytes of s from a place on, 0 where one of them is missing

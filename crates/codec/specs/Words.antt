@@ -1,5 +1,5 @@
 -- Comparing bytes, and ids as words of 64 bits.
-use Rattle.codec.specs.Prelude.{ℕ, zero, suc, ◌+◌, ◌*◌, ◌^◌, Bool, true, false, List, eqb, ltb, get_or}
+use Rattle.std.specs.Prelude.{ℕ, zero, suc, ◌+◌, ◌*◌, ◌^◌, Bool, true, false, List, eqb, ltb, get_or}
 
 -- n bytes of s from a on, compared with those of t from b on, byte by byte from the front: are they below
 unfoldable pub before : ℕ → List ℕ → ℕ → List ℕ → ℕ → Bool

@@ -1,6 +1,6 @@
 -- What an exported function leaves behind: the number that it returns, the value behind each pointer, and each byte of the buffer, those past
 -- the result too. A name with ' is what is there after the call, the name without what was there before it.
-use Rattle.codec.specs.Prelude.{ℕ, ◌≡◌, List, length}
+use Rattle.std.specs.Prelude.{ℕ, ◌≡◌, List, length}
 use Rattle.codec.specs.Reply.{Reply, answer, after, number_of, written_of}
 use Rattle.replication.specs.declared.Part.{Part}
 use Rattle.replication.specs.Queries.{part_number, part_side, part_at_place, part_length}

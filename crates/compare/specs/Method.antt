@@ -1,5 +1,5 @@
 -- The method of comparing, by words: nothing here is to be believed. The laws show that what is written is what is defined.
-use Rattle.codec.specs.Prelude.{ℕ, ◌≤◌, ◌<◌, ◌≡◌, List, length}
+use Rattle.std.specs.Prelude.{ℕ, ◌≤◌, ◌<◌, ◌≡◌, List, length}
 use Rattle.codec.specs.Number.{be_at}
 use Rattle.codec.specs.Reply.{answer, after}
 use Rattle.codec.specs.declared.Answer.{Answer}

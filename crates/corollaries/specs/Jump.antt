@@ -1,5 +1,6 @@
 -- How far one record of a new item moves the figure of coverage. Document 02, paper 14.
-use Rattle.codec.specs.Prelude.{ℕ, suc, ◌+◌, ◌/◌, ◌≤◌, ◌≡◌, false, List, none, some, length}
+use Rattle.std.specs.Prelude.{ℕ, suc, ◌+◌, ◌/◌, ◌≤◌, ◌≡◌, false, List, length}
+use Rattle.codec.specs.Prelude.{none, some}
 use Rattle.codec.specs.Number.{Bytes, be_at}
 use Rattle.codec.specs.Parsed.{accepted}
 use Rattle.codec.specs.Reply.{gives}

@@ -1,5 +1,5 @@
 -- How long the bytes of a store and of a batch can be. A buffer so long is never too short for a result: the law `enough`.
-use Rattle.codec.specs.Prelude.{ℕ, ◌+◌, ◌*◌, max}
+use Rattle.std.specs.Prelude.{ℕ, ◌+◌, ◌*◌, max}
 use Rattle.layout.specs.Knowledge.{Limits}
 use Rattle.layout.specs.Permitted.{longest}
 use Rattle.replication.specs.Reading.{rec_length}

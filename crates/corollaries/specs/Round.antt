@@ -2,7 +2,8 @@
 -- the centre applies; when all of these are applied, the centre makes one over all ids for each district, which that district applies.
 -- Batches may be made for any knowledge, the order of the districts is free, and makes of any server and calls of other servers may
 -- stand between; in the first half the centre may also edit, delete and apply other batches.
-use Rattle.codec.specs.Prelude.{ℕ, ◌≤◌, ◌≡◌, ◌⊎◌, true, List, [], ◌∷◌, ◌++◌, some, length}
+use Rattle.std.specs.Prelude.{ℕ, ◌≤◌, ◌≡◌, ◌⊎◌, true, List, [], ◌∷◌, ◌++◌, length}
+use Rattle.codec.specs.Prelude.{some}
 use Rattle.layout.specs.Knowledge.{Limits, Rules, All}
 use Rattle.ticks.specs.Meaning.{highest, contains}
 use Rattle.ticks.specs.Demand2.{SameVersions}

@@ -1,6 +1,6 @@
 -- The round of document 02's paper 12 written out as a list of calls, one district after the other. Round.antt says what a round is; a
 -- list like this, none of whose calls is refused, is one (`calls_round`), for any number of districts, each of them once.
-use Rattle.codec.specs.Prelude.{ℕ, suc, List, [], ◌∷◌, ◌++◌}
+use Rattle.std.specs.Prelude.{ℕ, suc, List, [], ◌∷◌, ◌++◌}
 use Rattle.codec.specs.Number.{put}
 use Rattle.layout.specs.Knowledge.{Rules}
 use Rattle.ticks.specs.Meaning.{highest}

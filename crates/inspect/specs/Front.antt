@@ -1,5 +1,5 @@
 -- The answer for an input of which only the first bytes were read.
-use Rattle.codec.specs.Prelude.{ℕ, ◌≡◌, List, take}
+use Rattle.std.specs.Prelude.{ℕ, ◌≡◌, List, take}
 use Rattle.layout.specs.Knowledge.{basic}
 use Rattle.layout.specs.Parse.{checked_by}
 use Rattle.layout.specs.declared.Checked.{Checked}

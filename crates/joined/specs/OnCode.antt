@@ -1,5 +1,6 @@
 -- What demand 3 says of the bytes that a program keeps (Program.antt), after any list of calls that it made.
-use Rattle.codec.specs.Prelude.{ℕ, ◌≡◌, List, some, take}
+use Rattle.std.specs.Prelude.{ℕ, ◌≡◌, List, take}
+use Rattle.codec.specs.Prelude.{some}
 use Rattle.layout.specs.Knowledge.{basic, base}
 use Rattle.ticks.specs.Demand2.{SameVersions}
 use Rattle.replication.specs.Call.{ReplicaId, Call}

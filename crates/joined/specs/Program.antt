@@ -1,7 +1,8 @@
 -- What a program does that uses the C functions, call by call. It keeps, for each replica, the bytes that the functions last wrote, and the
 -- batches as they were written, the oldest first (a `World`). What a function tells is its contract (Step.antt); what the program hands over
 -- and what it keeps is said here. How it stores bytes is its own affair: that they come back unaltered is what is taken as given.
-use Rattle.codec.specs.Prelude.{ℕ, ◌≡◌, List, [], ◌++◌, none, some, take, length}
+use Rattle.std.specs.Prelude.{ℕ, ◌≡◌, List, [], ◌++◌, take, length}
+use Rattle.codec.specs.Prelude.{none, some}
 use Rattle.codec.specs.Number.{put}
 use Rattle.replication.specs.Call.{ReplicaId, Call, edit, delete, make, apply, Given}
 use Rattle.replication.specs.Lists.{World, batch_number}

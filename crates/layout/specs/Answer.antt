@@ -1,6 +1,6 @@
 -- The answer of the check as document 01 gives it: the refusal's number, 0 where nothing is refused, and the sizes
 -- r, v, e and g. On a refusal only the number returns: where the sizes are put, nothing changes.
-use Rattle.codec.specs.Prelude.{ℕ, ◌+◌, List, [], ◌∷◌, length}
+use Rattle.std.specs.Prelude.{ℕ, ◌+◌, List, [], ◌∷◌, length}
 use Rattle.std.proofs.lemmas.List.Edits.{sets}
 use Rattle.layout.specs.Knowledge.{Element}
 use Rattle.layout.specs.declared.Checked.{Checked}

@@ -1,6 +1,6 @@
 -- The value in accepted bytes, by the places of its fields. There is nothing to believe here: the law `exact` says that this is
 -- the one knowledge whose encoding the bytes are.
-use Rattle.codec.specs.Prelude.{ℕ, zero, suc, ◌+◌, ◌*◌, List, [], ◌∷◌}
+use Rattle.std.specs.Prelude.{ℕ, zero, suc, ◌+◌, ◌*◌, List, [], ◌∷◌}
 use Rattle.codec.specs.Number.{be_at}
 use Rattle.layout.specs.Knowledge.{Element, Range, Knowledge}
 

@@ -1,6 +1,6 @@
 -- Where the parts of an accepted knowledge stand, from its sizes r, v, e and g. There is nothing to believe here: the law
 -- `places` says that the value that is read stands there.
-use Rattle.codec.specs.Prelude.{ℕ, ◌+◌, ◌*◌, List}
+use Rattle.std.specs.Prelude.{ℕ, ◌+◌, ◌*◌, List}
 use Rattle.codec.specs.Number.{be_at}
 use Rattle.layout.specs.Knowledge.{Knowledge}
 use Rattle.layout.specs.Decode.{ids_at, vectors_at, after_vectors, ranges_at}

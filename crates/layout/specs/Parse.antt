@@ -1,6 +1,6 @@
 -- The reading of a whole knowledge: document 01's table "Knowledge, left to right, first faulty field", then
 -- "Knowledge, end". `checked` decides and counts; `parse` also gives the value that the accepted bytes stand for.
-use Rattle.codec.specs.Prelude.{ℕ, ◌+◌, ◌-◌, true, false, List, eqb, length}
+use Rattle.std.specs.Prelude.{ℕ, ◌+◌, ◌-◌, true, false, List, eqb, length}
 use Rattle.codec.specs.Parsed.{Parsed, accepted, refused}
 use Rattle.layout.specs.declared.Got.{Got}
 use Rattle.layout.specs.declared.Got.TheVariants.{Num, Fault}

@@ -1,7 +1,7 @@
 -- The limits that the laws hold for, and limits and rules given as numbers. There is nothing to believe here: document 01's
 -- limits are permitted (`base_permitted`), so are all limits given as numbers (`within_permitted`), and document 01's limits
 -- and rules are such (`base_within`, `basic_within`).
-use Rattle.codec.specs.Prelude.{ℕ, ◌+◌, ◌*◌, ◌≤◌}
+use Rattle.std.specs.Prelude.{ℕ, ◌+◌, ◌*◌, ◌≤◌}
 use Rattle.codec.specs.Total.{clamp}
 use Rattle.layout.specs.Knowledge.{Limits, Rules, any_id, base}
 

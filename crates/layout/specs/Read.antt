@@ -1,7 +1,7 @@
 -- Reading one part of the bytes after the other, left to right. Each definition takes the number read before and the
 -- place, and gives the next number with the place after it, or the fault. The numbers are those of document 01's
 -- table "Where a fault is caught".
-use Rattle.codec.specs.Prelude.{ℕ, zero, suc, ◌+◌, Bool, true, false, List, [], ◌∷◌, eqb, ltb, leb, length}
+use Rattle.std.specs.Prelude.{ℕ, zero, suc, ◌+◌, Bool, true, false, List, [], ◌∷◌, eqb, ltb, leb, length}
 use Rattle.codec.specs.Number.{be_at}
 use Rattle.layout.specs.declared.Got.{Got}
 use Rattle.layout.specs.declared.Got.TheVariants.{Num, Fault}

@@ -1,6 +1,6 @@
 -- What filling a table of words comes to, step by step: P gives the id of a column, B the bound of a row, T and U the ticks
 -- before and after a step. There is nothing to believe here: the laws say that a table so filled samples known ticks.
-use Rattle.codec.specs.Prelude.{ℕ, suc, max, ◌+◌, ◌≤◌, ◌<◌, ◌≡◌, ◌⊎◌, List, length, get_or}
+use Rattle.std.specs.Prelude.{ℕ, suc, max, ◌+◌, ◌≤◌, ◌<◌, ◌≡◌, ◌⊎◌, List, length, get_or}
 use Rattle.layout.specs.Knowledge.{Knowledge}
 use Rattle.ticks.specs.Meaning.{highest, known}
 use Rattle.tables.specs.MethodWords.{stride}

@@ -1,6 +1,6 @@
 -- What an operation comes to once its inputs are accepted, and a table that is ready to be written. There is nothing to believe here:
 -- the laws say that the first is the call's reply.
-use Rattle.codec.specs.Prelude.{ℕ, ◌+◌, ◌≤◌, ◌≡◌, List, length}
+use Rattle.std.specs.Prelude.{ℕ, ◌+◌, ◌≤◌, ◌≡◌, List, length}
 use Rattle.codec.specs.Part.{placed}
 use Rattle.codec.specs.Reply.{Reply, gives, refuses, first_fault}
 use Rattle.layout.specs.Knowledge.{Limits, Knowledge, encode}

@@ -1,7 +1,7 @@
 -- The method of lookup, by places, for any bytes: nothing here is to be believed. The laws show that for bytes that the check
 -- accepts it gives the known tick. What is not all there is not read: the id has no key, stepping over vectors ends, a vector has
 -- no elements, and no range is passed.
-use Rattle.codec.specs.Prelude.{ℕ, zero, suc, ◌+◌, ◌-◌, ◌*◌, ◌%◌, ◌^◌, ◌≤◌, ◌<◌, ◌≡◌, true, false, List, eqb, ltb, leb, length}
+use Rattle.std.specs.Prelude.{ℕ, zero, suc, ◌+◌, ◌-◌, ◌*◌, ◌%◌, ◌^◌, ◌≤◌, ◌<◌, ◌≡◌, true, false, List, eqb, ltb, leb, length}
 use Rattle.codec.specs.Number.{Bytes, be_at}
 use Rattle.layout.specs.declared.ReplicaKey.{ReplicaKey}
 use Rattle.layout.specs.declared.VectorIndex.{VectorIndex}

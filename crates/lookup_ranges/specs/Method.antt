@@ -1,7 +1,7 @@
 -- The method of going range by range, by places, for any bytes: nothing here is to be believed. The laws show that for bytes
 -- that the check accepts the largest tick, whether a tick is alike in all ranges, and whether nothing is known outside a span, are
 -- the defined ones.
-use Rattle.codec.specs.Prelude.{ℕ, zero, suc, ◌+◌, ◌-◌, ◌*◌, max, Bool, true, false, List, eqb, leb, length}
+use Rattle.std.specs.Prelude.{ℕ, zero, suc, ◌+◌, ◌-◌, ◌*◌, max, Bool, true, false, List, eqb, leb, length}
 use Rattle.codec.specs.Number.{be_at}
 use Rattle.layout.specs.declared.ReplicaKey.{ReplicaKey}
 use Rattle.layout.specs.declared.VectorIndex.{VectorIndex}

@@ -1,6 +1,6 @@
 -- What a make has at hand, step by step, once its inputs are accepted. There is nothing to believe here: the call's contract cites the reply
 -- of `replication` (`make_reply`, specs/Calls.antt).
-use Rattle.codec.specs.Prelude.{ℕ, ◌+◌, ◌≤◌, ◌≡◌, Bool, true, false, List, eqb, length}
+use Rattle.std.specs.Prelude.{ℕ, ◌+◌, ◌≤◌, ◌≡◌, Bool, true, false, List, eqb, length}
 use Rattle.codec.specs.Number.{Bytes}
 use Rattle.codec.specs.Parsed.{accepted}
 use Rattle.codec.specs.Reply.{Reply}

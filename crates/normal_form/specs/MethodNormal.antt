@@ -1,9 +1,7 @@
 -- The method of the test of normal form, by places, for any bytes and sizes: nothing here is to be believed. The law
 -- `normal_by_places` shows that for bytes that the check accepts it is the test itself. A vector that is not all there counts as
 -- empty, and so fails.
-use Rattle.codec.specs.Prelude.{ℕ, zero, suc, max, ◌+◌, ◌-◌, ◌*◌, ◌/◌, ◌%◌, ◌^◌, ◌≤◌, ◌<◌, ◌≡◌, Bool, true, false}
-use Rattle.codec.specs.Prelude.{List, [], ◌∷◌, eqb, ltb, leb, length, get_or}
-use Rattle.std.specs.Prelude.{set, replicate}
+use Rattle.std.specs.Prelude.{ℕ, zero, suc, max, ◌+◌, ◌-◌, ◌*◌, ◌/◌, ◌%◌, ◌^◌, ◌≤◌, ◌<◌, ◌≡◌, Bool, true, false, List, [], ◌∷◌, eqb, ltb, leb, length, get_or, set, replicate}
 use Rattle.codec.specs.Number.{be_at}
 use Rattle.layout.specs.Knowledge.{Element, Range}
 use Rattle.layout.specs.Permitted.{largest_replicas, largest_ranges}

@@ -1,8 +1,7 @@
 -- What the functions of planning leave behind, step by step, and the tables that get a plan: as code works. There is nothing
 -- to believe here: the laws of `tables` say that the plan of a table that samples known ticks is their normal form.
-use Rattle.codec.specs.Prelude.{ℕ, ◌+◌, ◌≤◌, ◌<◌, ◌≡◌, Bool, true, false, List, ◌∷◌, leb, ltb, eqb, length, get_or, drop}
+use Rattle.std.specs.Prelude.{ℕ, ◌+◌, ◌≤◌, ◌<◌, ◌≡◌, Bool, true, false, List, ◌∷◌, leb, ltb, eqb, length, get_or, drop, set}
 use Rattle.ticks.specs.Meaning.{place_by}
-use Rattle.std.specs.Prelude.{set}
 use Rattle.tables.specs.declared.Sizes.{Sizes}
 use Rattle.tables.specs.MethodWords.{stride, most_rows, numbers_at}
 use Rattle.tables.specs.MethodPlan.{same, mix_below, grown_by, firsts_of, numbers_of, insert_column}

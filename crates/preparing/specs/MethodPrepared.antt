@@ -1,7 +1,6 @@
 -- What an operation has made ready before its buffer is looked at. There is nothing to believe here:
 -- the calls' contracts cite the replies of `ticks`.
-use Rattle.codec.specs.Prelude.{ℕ, ◌+◌, ◌≤◌, ◌<◌, ◌≡◌, true, false, List, ◌++◌, ltb, length, drop}
-use Rattle.std.specs.Prelude.{replicate}
+use Rattle.std.specs.Prelude.{ℕ, ◌+◌, ◌≤◌, ◌<◌, ◌≡◌, true, false, List, ◌++◌, ltb, length, drop, replicate}
 use Rattle.codec.specs.Part.{placed}
 use Rattle.codec.specs.MethodEnded.{End, end_of}
 use Rattle.codec.specs.Reply.{Reply, gives, refuses}

@@ -1,7 +1,7 @@
 -- Two tables of records joined by addresses. An address is a place of the store's bytes s or, from the length of s on, a place of the
 -- other bytes t, counted from there. There is nothing to believe here: the laws `joined_table`, `joined_count`, `joined_size` and
 -- `joined_copied` say what these are in the terms of `replication`.
-use Rattle.codec.specs.Prelude.{ℕ, ◌+◌, ◌-◌, true, false, ◌≤◌, ◌≡◌, List, [], ◌∷◌, ◌++◌, ltb, length, take, drop}
+use Rattle.std.specs.Prelude.{ℕ, ◌+◌, ◌-◌, true, false, ◌≤◌, ◌≡◌, List, [], ◌∷◌, ◌++◌, ltb, length, take, drop}
 use Rattle.codec.specs.Part.{placed, part}
 use Rattle.replication.specs.Record.{Rec}
 use Rattle.replication.specs.Reading.{rec_at}

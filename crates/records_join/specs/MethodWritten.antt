@@ -1,6 +1,6 @@
 -- A record that is written, by its words, and the bytes of its versions. There is nothing to believe here: the contract of `write_record` has
 -- the record's bytes by `replication`, and the law `record_table` says that they are read as the record.
-use Rattle.codec.specs.Prelude.{List, ℕ}
+use Rattle.std.specs.Prelude.{List, ℕ}
 use Rattle.codec.specs.Number.{put}
 use Rattle.codec.specs.Ids.{item_of, replica_of}
 use Rattle.codec.specs.Words.{words2}

@@ -1,6 +1,6 @@
 -- The records of a table that a batch carries, by their places. There is nothing to believe here: the laws `selected_table`,
 -- `selected_size` and `selected_copied` say what these are in the terms of `replication`, for a table that rises.
-use Rattle.codec.specs.Prelude.{ℕ, ◌+◌, ◌-◌, ◌≤◌, ◌≡◌, true, false, List, [], ◌∷◌, ltb, length}
+use Rattle.std.specs.Prelude.{ℕ, ◌+◌, ◌-◌, ◌≤◌, ◌≡◌, true, false, List, [], ◌∷◌, ltb, length}
 use Rattle.replication.specs.Reading.{rec_at}
 use Rattle.replication.specs.Queries.{places, length_at}
 use Rattle.lookup.specs.declared.Cursor.{Cursor}

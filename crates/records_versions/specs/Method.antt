@@ -1,6 +1,6 @@
 -- A record, at a place of some bytes, asked of the knowledge in other bytes, by places and for any bytes: nothing here is to be
 -- believed. The laws show that for a valid record and accepted bytes this says whether the knowledge contains the record's versions.
-use Rattle.codec.specs.Prelude.{ℕ, ◌+◌, Bool, List, leb}
+use Rattle.std.specs.Prelude.{ℕ, ◌+◌, Bool, List, leb}
 use Rattle.codec.specs.Total.{read_at}
 use Rattle.replication.specs.Reading.{item_place, change_replica_place, change_tick_place, create_replica_place, create_tick_place, both}
 use Rattle.lookup.specs.declared.Cursor.{Cursor}

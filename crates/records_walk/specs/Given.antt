@@ -1,6 +1,6 @@
 -- A walker over a lent table. Document 01: "A walker over a lent table hands out records in turn and remembers its place; it ends where no
 -- whole record of a known kind follows". What it has still to give at a place is `to_give`: the parts that are the records from there on.
-use Rattle.codec.specs.Prelude.{ℕ, ◌+◌, ◌≡◌, true, false, List, [], ◌∷◌}
+use Rattle.std.specs.Prelude.{ℕ, ◌+◌, ◌≡◌, true, false, List, [], ◌∷◌}
 use Rattle.std.specs.Borrow.{Bor}
 use Rattle.replication.specs.Reading.{whole}
 use Rattle.replication.specs.Queries.{to_give}

@@ -1,6 +1,6 @@
 -- Where a walker goes on. There is nothing to believe here: the contracts say what is left to give by `to_give`, and this says in numbers
 -- where that stands.
-use Rattle.codec.specs.Prelude.{ℕ, true, false, List}
+use Rattle.std.specs.Prelude.{ℕ, true, false, List}
 use Rattle.replication.specs.Reading.{behind, whole}
 
 -- the place behind the whole record at a place, the place itself where none stands there

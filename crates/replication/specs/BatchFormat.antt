@@ -1,5 +1,5 @@
 -- Batches as values and as bytes. Document 01, "Records, store, batch".
-use Rattle.codec.specs.Prelude.{ℕ, List, [], ◌∷◌, ◌++◌, length}
+use Rattle.std.specs.Prelude.{ℕ, List, [], ◌∷◌, ◌++◌, length}
 use Rattle.layout.specs.Knowledge.{Field, field, put_fields, Knowledge, encode}
 use Rattle.replication.specs.Record.{Rec}
 use Rattle.replication.specs.Formats.{put_recs}

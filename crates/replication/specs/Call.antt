@@ -1,6 +1,6 @@
 -- Calls of a list, as values, which the runner of lists and the plain history machine share. Document 01: "A list of calls in demand 3
 -- has edit, delete, make and apply, in any order, with any arguments and any output buffers, refused calls included."
-use Rattle.codec.specs.Prelude.{ℕ, ◌^◌, ◌<◌, Bool, List}
+use Rattle.std.specs.Prelude.{ℕ, ◌^◌, ◌<◌, Bool, List}
 use Rattle.codec.specs.Number.{Bytes}
 
 abbrev pub ReplicaId : ℕ → Type 0  -- the ids that lists speak of: those of 16 bytes

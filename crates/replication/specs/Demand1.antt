@@ -2,7 +2,7 @@
 -- and then nothing behind any pointer changes; or its number is 0, and then its values are there, or the stated bytes stand in front of
 -- the buffer and the rest is as it was. The contracts of the C functions say that number, values and buffer are those named here
 -- (`crates/collector/src/lib.rt`); the number of a walk is always 0.
-use Rattle.codec.specs.Prelude.{ℕ, List}
+use Rattle.std.specs.Prelude.{ℕ, List}
 use Rattle.codec.specs.Reply.{answer, number_of}
 use Rattle.layout.specs.Knowledge.{Rules}
 use Rattle.ticks.specs.Calls.{contain_number, contain_value, contain_answer, lead_number, lead_value, lead_answer}

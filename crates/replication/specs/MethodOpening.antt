@@ -1,6 +1,6 @@
 -- The check of a store and of a batch in the order of the code: each test once, and the value at its places with no test. There is
 -- nothing to believe here: the laws `opened_store` and `opened_batch` say that this is opening (specs/OpenStore.antt, specs/OpenBatch.antt).
-use Rattle.codec.specs.Prelude.{ℕ, Bool, true, false, List, eqb, leb, length, take, drop}
+use Rattle.std.specs.Prelude.{ℕ, Bool, true, false, List, eqb, leb, length, take, drop}
 use Rattle.codec.specs.Number.{be_at}
 use Rattle.codec.specs.Parsed.{Parsed, accepted, refused}
 use Rattle.layout.specs.Knowledge.{Limits, any_id, Knowledge}

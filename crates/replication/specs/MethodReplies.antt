@@ -1,6 +1,6 @@
 -- What is left of a call's table of refusals once its inputs are accepted: the code decides in these steps. There is nothing to believe here:
 -- the laws say that each is the call's reply.
-use Rattle.codec.specs.Prelude.{ℕ, [], ◌∷◌}
+use Rattle.std.specs.Prelude.{ℕ, [], ◌∷◌}
 use Rattle.codec.specs.Reply.{Reply, gives, first_fault, refuses}
 use Rattle.codec.specs.Parsed.{line}
 use Rattle.layout.specs.Knowledge.{Limits}

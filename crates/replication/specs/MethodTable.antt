@@ -1,6 +1,6 @@
 -- The code's tables: the records at the places that a walker goes through. There is nothing to believe here: the laws say that for a valid
 -- store or batch they are its records.
-use Rattle.codec.specs.Prelude.{ℕ, List, [], ◌∷◌}
+use Rattle.std.specs.Prelude.{ℕ, List, [], ◌∷◌}
 use Rattle.replication.specs.Record.{Rec}
 use Rattle.replication.specs.Reading.{rec_at}
 use Rattle.replication.specs.Queries.{places}

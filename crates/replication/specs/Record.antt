@@ -1,5 +1,5 @@
 -- A record as a value, with no byte in it: the calls and the plain history machine share it.
-use Rattle.codec.specs.Prelude.{ℕ, Bool}
+use Rattle.std.specs.Prelude.{ℕ, Bool}
 
 -- what a record says of its item: whether it is deleted, and the content tag
 pub record Content : Type 0 where

@@ -2,7 +2,8 @@
 -- returns them and the machine empty; a call writes bytes exactly where its reply of Calls.antt gives them and they fit the buffer; then
 -- its replica's bytes become these, or one batch joins at the end, and nothing else changes; where it writes nothing, nothing changes; and
 -- the machine does the call in the first case and nothing in the second.
-use Rattle.codec.specs.Prelude.{ℕ, ◌≤◌, ◌≡◌, ◌⊎◌, ◌↔◌, true, false, List, [], ◌∷◌, ◌++◌, some, length}
+use Rattle.std.specs.Prelude.{ℕ, ◌≤◌, ◌≡◌, ◌⊎◌, ◌↔◌, true, false, List, [], ◌∷◌, ◌++◌, length}
+use Rattle.codec.specs.Prelude.{some}
 use Rattle.codec.specs.Number.{put}
 use Rattle.codec.specs.Reply.{gives}
 use Rattle.layout.specs.Knowledge.{Rules}

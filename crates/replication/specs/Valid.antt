@@ -1,5 +1,5 @@
 -- Which stores are valid, on their values: document 01's list "A valid store: …".
-use Rattle.codec.specs.Prelude.{ℕ, ◌^◌, ◌≤◌, ◌<◌, ◌≡◌, true, length}
+use Rattle.std.specs.Prelude.{ℕ, ◌^◌, ◌≤◌, ◌<◌, ◌≡◌, true, length}
 use Rattle.layout.specs.Knowledge.{Limits, any_id, largest_tick, Knowledge, All, Rising, Lawful}
 use Rattle.ticks.specs.Meaning.{highest, known, Normal}
 use Rattle.replication.specs.Record.{Content, Rec}

@@ -1,5 +1,5 @@
 -- Which batches are valid, on their values: document 01's list "A valid batch: …".
-use Rattle.codec.specs.Prelude.{ℕ, ◌^◌, ◌≤◌, ◌<◌, ◌≡◌, ◌⊎◌, length}
+use Rattle.std.specs.Prelude.{ℕ, ◌^◌, ◌≤◌, ◌<◌, ◌≡◌, ◌⊎◌, length}
 use Rattle.layout.specs.Knowledge.{Limits, any_id, All, Rising, Lawful}
 use Rattle.ticks.specs.Meaning.{highest, known, Normal}
 use Rattle.replication.specs.Formats.{items}

@@ -1,8 +1,7 @@
 -- What a function on knowledges that were opened leaves, for any bytes, any view of them, any limits and any buffer: a table is filled in
 -- scratch of zeros, and the call ends with what is planned for it; or the bytes are copied. And what a caller has, and what it gets. There is
 -- nothing to believe here: the calls' contracts cite the replies of `ticks` and `replication`.
-use Rattle.codec.specs.Prelude.{ℕ, ◌+◌, ◌*◌, ◌≡◌, true, false, List, ltb, length}
-use Rattle.std.specs.Prelude.{replicate}
+use Rattle.std.specs.Prelude.{ℕ, ◌+◌, ◌*◌, ◌≡◌, true, false, List, ltb, length, replicate}
 use Rattle.codec.specs.Reply.{Reply, gives, refuses, first_fault, answer, after}
 use Rattle.codec.specs.declared.Replica.{Replica}
 use Rattle.codec.specs.declared.Span.{Span}

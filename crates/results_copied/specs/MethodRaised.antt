@@ -2,7 +2,7 @@
 -- one. Here is what the code leaves for any bytes, any view of them and any buffer; and, as values, a knowledge in which the ticks of one key
 -- are set. There is nothing to believe here: the law `copy_raised` says that the copy is what `raise` gives, where the knowledge is in normal
 -- form and the replica has one tick for all items.
-use Rattle.codec.specs.Prelude.{ℕ, zero, suc, ◌+◌, ◌-◌, ◌*◌, ◌≤◌, ◌≡◌, true, false, List, [], ◌∷◌, eqb, ltb, leb, length}
+use Rattle.std.specs.Prelude.{ℕ, zero, suc, ◌+◌, ◌-◌, ◌*◌, ◌≤◌, ◌≡◌, true, false, List, [], ◌∷◌, eqb, ltb, leb, length}
 use Rattle.codec.specs.Number.{be_at}
 use Rattle.codec.specs.Part.{placed, bytes}
 use Rattle.codec.specs.Total.{read_at}

@@ -1,7 +1,6 @@
 -- The cells of a table of words, raised from the elements of clock vectors, in lists of any length: past the end nothing is set. There is
 -- nothing to believe here: the laws say that each cell comes to the larger of what it was and the known tick.
-use Rattle.codec.specs.Prelude.{ℕ, zero, suc, max, ◌+◌, ◌-◌, ◌*◌, List, [], ◌∷◌, get_or}
-use Rattle.std.specs.Prelude.{set}
+use Rattle.std.specs.Prelude.{ℕ, zero, suc, max, ◌+◌, ◌-◌, ◌*◌, List, [], ◌∷◌, get_or, set}
 use Rattle.layout.specs.Knowledge.{Element}
 use Rattle.tables.specs.MethodWords.{stride, bound_at}
 use Rattle.lookup.specs.declared.Cursor.{Cursor}

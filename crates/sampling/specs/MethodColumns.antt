@@ -1,7 +1,6 @@
 -- Columns for the ids of replica maps, as code finds and puts them one by one, in lists of any length. There is nothing to believe
 -- here: the laws say that with room for them no two columns have the same id, and each key has the column of its replica.
-use Rattle.codec.specs.Prelude.{ℕ, zero, suc, ◌+◌, ◌*◌, true, false, List, eqb, ltb}
-use Rattle.std.specs.Prelude.{set}
+use Rattle.std.specs.Prelude.{ℕ, zero, suc, ◌+◌, ◌*◌, true, false, List, eqb, ltb, set}
 use Rattle.codec.specs.Number.{be_at}
 use Rattle.codec.specs.Words.{words2}
 use Rattle.layout.specs.MethodPlaces.{ids_place}

@@ -1,7 +1,6 @@
 -- Rows at the bounds of ranges, as code puts them one after the other, in lists of any length. There is nothing to believe here: the
 -- laws say that for ranges whose bounds rise there is a row at the first item and at every later bound up to the last item.
-use Rattle.codec.specs.Prelude.{ℕ, zero, suc, ◌+◌, ◌*◌, true, false, List, eqb, ltb, leb}
-use Rattle.std.specs.Prelude.{set}
+use Rattle.std.specs.Prelude.{ℕ, zero, suc, ◌+◌, ◌*◌, true, false, List, eqb, ltb, leb, set}
 use Rattle.codec.specs.Number.{be_at}
 use Rattle.codec.specs.Ids.{item_of}
 use Rattle.tables.specs.MethodWords.{bound_at}

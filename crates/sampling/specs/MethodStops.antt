@@ -1,6 +1,6 @@
 -- The rows of a table for any bytes, any counts and any lists: where the ranges are not all in the bytes, or where there is no room, no
 -- row is put. There is nothing to believe here: the laws say that a table that is filled has room for its rows.
-use Rattle.codec.specs.Prelude.{ℕ, suc, ◌+◌, ◌*◌, Bool, true, false, List, [], ◌∷◌, leb, length}
+use Rattle.std.specs.Prelude.{ℕ, suc, ◌+◌, ◌*◌, Bool, true, false, List, [], ◌∷◌, leb, length}
 use Rattle.tables.specs.MethodWords.{most_rows}
 use Rattle.lookup.specs.declared.Cursor.{Cursor}
 use Rattle.codec.specs.declared.Item.{Item}

@@ -1,7 +1,6 @@
 -- The tables that are filled, for any bytes, any counts and any lists. There is nothing to believe here: the laws say that a table from
 -- accepted bytes, with room for it, samples the ticks of its operation.
-use Rattle.codec.specs.Prelude.{ℕ, suc, ◌+◌, ◌*◌, ◌≤◌, ◌<◌, ◌≡◌, Bool, true, false, List, [], ◌∷◌, length}
-use Rattle.std.specs.Prelude.{replicate}
+use Rattle.std.specs.Prelude.{ℕ, suc, ◌+◌, ◌*◌, ◌≤◌, ◌<◌, ◌≡◌, Bool, true, false, List, [], ◌∷◌, length, replicate}
 use Rattle.layout.specs.Permitted.{largest_replicas}
 use Rattle.layout.specs.MethodPlaces.{ids_place}
 use Rattle.tables.specs.MethodWords.{stride, most_rows, cell, id_at, bound_at}

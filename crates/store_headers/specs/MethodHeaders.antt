@@ -1,6 +1,6 @@
 -- The bytes in front of a store's knowledge and of a batch's knowledges, from numbers. There is nothing to believe here: the laws say that with
 -- them in front the bytes are those of the store or batch.
-use Rattle.codec.specs.Prelude.{ℕ, List, []}
+use Rattle.std.specs.Prelude.{ℕ, List, []}
 use Rattle.codec.specs.Number.{put}
 
 -- own id, length of the knowledge, count of records

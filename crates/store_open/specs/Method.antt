@@ -1,7 +1,7 @@
 -- What the check of a store or a batch answers: the tests of opening, then its sizes by places. There is nothing to believe here: the laws
 -- `store_open`, `store_closed`, `batch_open` and `batch_closed` say what these answers are in the terms of specs/OpenStore.antt and
 -- specs/OpenBatch.antt of `replication`.
-use Rattle.codec.specs.Prelude.{ℕ, ◌≤◌, ◌≡◌, Bool, true, false, List, length, take, drop}
+use Rattle.std.specs.Prelude.{ℕ, ◌≤◌, ◌≡◌, Bool, true, false, List, length, take, drop}
 use Rattle.codec.specs.Number.{Bytes, be_at}
 use Rattle.layout.specs.Knowledge.{Limits, any_id}
 use Rattle.layout.specs.Permitted.{largest_replicas}

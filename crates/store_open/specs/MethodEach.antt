@@ -1,6 +1,6 @@
 -- The pass over the records of a store or batch, which asks a knowledge for their versions. Keys of replicas are guessed first, and the places
 -- of clock vectors are taken from a table. It is a method only: there is nothing to believe here.
-use Rattle.codec.specs.Prelude.{ℕ, suc, ◌+◌, ◌*◌, ◌≤◌, ◌<◌, ◌≡◌, Bool, true, false, not, List, length, get_or}
+use Rattle.std.specs.Prelude.{ℕ, suc, ◌+◌, ◌*◌, ◌≤◌, ◌<◌, ◌≡◌, Bool, true, false, not, List, length, get_or}
 use Rattle.layout.specs.Knowledge.{Distinct, Knowledge}
 use Rattle.layout.specs.Permitted.{largest_ranges}
 use Rattle.layout.specs.Decode.{ids_at}

@@ -1,6 +1,6 @@
 -- "The winner is returned as a part of the store's or of the batch's bytes", said of the slices themselves: what is handed out points into
 -- the slice that it is a part of, at the part's place. `ptr` of a slice is the memory that it is in and the place there.
-use Rattle.codec.specs.Prelude.{ℕ, ◌+◌, ◌≡◌, List}
+use Rattle.std.specs.Prelude.{ℕ, ◌+◌, ◌≡◌, List}
 use Rattle.std.specs.Borrow.{Bor}
 use Rattle.replication.specs.declared.Part.{Part}
 use Rattle.replication.specs.declared.Part.TheVariants as P

@@ -1,5 +1,5 @@
 -- A part that is inside the bytes that it is of, and the count of one record. There is nothing to believe here.
-use Rattle.codec.specs.Prelude.{ℕ, ◌+◌, ◌≤◌, ◌≡◌, Bool, true, false, List, length}
+use Rattle.std.specs.Prelude.{ℕ, ◌+◌, ◌≤◌, ◌≡◌, Bool, true, false, List, length}
 use Rattle.replication.specs.declared.Part.{Part}
 use Rattle.replication.specs.declared.Part.TheVariants as P
 

@@ -1,7 +1,7 @@
 -- A store or batch whose knowledge is written into its room by the knowledge part: where that room is, how the call ends around it for any inputs,
 -- and what is known once the knowledge is written. There is nothing to believe here: the laws say that the call has then ended as the reply of
 -- the store or batch says.
-use Rattle.codec.specs.Prelude.{ℕ, ◌+◌, ◌-◌, ◌≤◌, ◌<◌, ◌≡◌, Bool, true, false, List, [], ◌++◌, leb, ltb, length, take, drop}
+use Rattle.std.specs.Prelude.{ℕ, ◌+◌, ◌-◌, ◌≤◌, ◌<◌, ◌≡◌, Bool, true, false, List, [], ◌++◌, leb, ltb, length, take, drop}
 use Rattle.codec.specs.Reply.{Reply, gives, refuses, first_fault}
 use Rattle.codec.specs.Part.{placed}
 use Rattle.codec.specs.declared.Answer.{Answer}

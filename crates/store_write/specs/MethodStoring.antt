@@ -1,6 +1,6 @@
 -- How a call ends that writes bytes where its buffer has room for them, and the records that are written: those at chosen addresses. There is
 -- nothing to believe here: the laws say that around a knowledge this is how the reply of a store or batch ends.
-use Rattle.codec.specs.Prelude.{ℕ, ◌+◌, ◌≤◌, ◌≡◌, true, false, List, [], leb, length, take}
+use Rattle.std.specs.Prelude.{ℕ, ◌+◌, ◌≤◌, ◌≡◌, true, false, List, [], leb, length, take}
 use Rattle.codec.specs.Part.{placed}
 use Rattle.codec.specs.declared.Answer.{Answer}
 use Rattle.codec.specs.declared.Answer.TheVariants.{Written, Refused}

@@ -1,6 +1,6 @@
 -- What is written for a plan, piece by piece, each at the place after the one before: as code writes it. There is nothing to
 -- believe here: the laws say that with room for all pieces they are the bytes of the planned knowledge.
-use Rattle.codec.specs.Prelude.{ℕ, ◌+◌, ◌*◌, true, false, List, [], ◌∷◌, ◌++◌, eqb, length, get_or}
+use Rattle.std.specs.Prelude.{ℕ, ◌+◌, ◌*◌, true, false, List, [], ◌∷◌, ◌++◌, eqb, length, get_or}
 use Rattle.codec.specs.Part.{placed, bytes}
 use Rattle.layout.specs.Knowledge.{put_fields, opening, before_vectors, before_elements, before_ranges, closing}
 use Rattle.tables.specs.declared.Sizes.{Sizes}

@@ -1,6 +1,6 @@
 -- Tables of words, as code keeps them: ids of two words, bounds of three, and a matrix of ticks with a row for each
 -- bound and a column for each id. There is nothing to believe here: the laws of the calls speak of bytes.
-use Rattle.codec.specs.Prelude.{ℕ, zero, suc, ◌+◌, ◌*◌, ◌^◌, ◌<◌, List, [], ◌∷◌, get_or}
+use Rattle.std.specs.Prelude.{ℕ, zero, suc, ◌+◌, ◌*◌, ◌^◌, ◌<◌, List, [], ◌∷◌, get_or}
 use Rattle.codec.specs.Words.{words2, words3}
 use Rattle.layout.specs.Permitted.{largest_replicas, largest_ranges}
 

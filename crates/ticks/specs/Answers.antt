@@ -1,7 +1,6 @@
 -- What contain, lead and cover answer, in document 01's terms: the number, 0 where nothing is refused, and the value, from the
 -- value before the call. "Only the number returns" on a refusal: the value is as it was.
-use Rattle.codec.specs.Prelude.{ℕ, suc, ◌-◌, ◌^◌, ◌≤◌, ◌<◌, ◌≡◌, List, length}
-use Rattle.std.specs.Prelude.{ℤ, pos, negsuc}
+use Rattle.std.specs.Prelude.{ℕ, suc, ◌-◌, ◌^◌, ◌≤◌, ◌<◌, ◌≡◌, List, length, ℤ, pos, negsuc}
 use Rattle.codec.specs.Number.{Bytes, be_at}
 use Rattle.layout.specs.Knowledge.{Rules, Knowledge}
 use Rattle.layout.specs.Parse.{parse}

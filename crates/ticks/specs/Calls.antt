@@ -1,8 +1,7 @@
 -- The calls on bytes: contain, lead, cover, normalise, merge and project. Each is the table of document 01, "Where a
 -- fault is caught", line by line in its order ("first knowledge, then second", then 17, then the result's 11 and
 -- 12; 14 is looked for last, by the codec's `answer`), and else what the operation gives.
-use Rattle.codec.specs.Prelude.{ℕ, Bool, true, false, not, ◌||◌, List, [], ◌∷◌, eqb, ltb, length}
-use Rattle.std.specs.Prelude.{ℤ, pos, ◌-ℤ◌}
+use Rattle.std.specs.Prelude.{ℕ, Bool, true, false, not, ◌||◌, List, [], ◌∷◌, eqb, ltb, length, ℤ, pos, ◌-ℤ◌}
 use Rattle.codec.specs.Number.{be_at}
 use Rattle.codec.specs.Reply.{Reply, gives, refuses, Line, first_fault}
 use Rattle.codec.specs.Parsed.{Parsed, line, own_fault, read_or}

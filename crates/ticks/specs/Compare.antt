@@ -1,7 +1,7 @@
 -- Request 13: which of two knowledges is ahead, over all ids. The order is a number: 0 alike, 1 the first is behind, 2 the first is ahead,
 -- 3 each lacks something. For every side that lacks, the first's before the second's, 56 bytes are written: the lowest item id (24) and
 -- there the lowest replica id (16) at which its tick is smaller, then the first's tick (8) and the second's (8).
-use Rattle.codec.specs.Prelude.{ℕ, ◌^◌, ◌≤◌, ◌<◌, ◌≡◌, ◌↔◌, List, [], ◌∷◌}
+use Rattle.std.specs.Prelude.{ℕ, ◌^◌, ◌≤◌, ◌<◌, ◌≡◌, ◌↔◌, List, [], ◌∷◌}
 use Rattle.codec.specs.Number.{Bytes, put}
 use Rattle.codec.specs.Reply.{Reply, gives, refuses, first_fault}
 use Rattle.codec.specs.declared.Answer.{Answer}

@@ -1,7 +1,7 @@
 -- Demand 1 of a single call: "a refusal returns that number alone and alters no byte of an output buffer; a success writes the stated
 -- bytes from the front and none after them". Whatever the call is given, one of the two cases holds; the number, 0 or at least 1, tells
 -- which. `Demand1` (specs/Demand1.antt of `replication`) says this of each call.
-use Rattle.codec.specs.Prelude.{ℕ, ◌≤◌, ◌≡◌, List, ◌++◌, length, drop}
+use Rattle.std.specs.Prelude.{ℕ, ◌≤◌, ◌≡◌, List, ◌++◌, length, drop}
 use Rattle.codec.specs.Reply.{Reply, gives, answer, after, number_of, written_of}
 use Rattle.layout.specs.Knowledge.{Rules}
 use Rattle.layout.specs.Parse.{checked_by}

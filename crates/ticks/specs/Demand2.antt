@@ -1,7 +1,7 @@
 -- Demand 2, in its own words: "Knowledge bytes are accepted exactly by the published layout and our limits, and contain
 -- exactly the versions it says. Normal forms are equal exactly when they contain the same versions, and reading one back
 -- gives what was written. Merged knowledge contains a version exactly when either input did."
-use Rattle.codec.specs.Prelude.{ℕ, ◌^◌, ◌≤◌, ◌<◌, ◌≡◌, ◌⊎◌, ◌↔◌, true, List, length}
+use Rattle.std.specs.Prelude.{ℕ, ◌^◌, ◌≤◌, ◌<◌, ◌≡◌, ◌⊎◌, ◌↔◌, true, List, length}
 use Rattle.codec.specs.Number.{Bytes, be_at}
 use Rattle.codec.specs.Reply.{gives}
 use Rattle.layout.specs.Knowledge.{Rules, Knowledge, Lawful, encode}

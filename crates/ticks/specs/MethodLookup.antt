@@ -1,6 +1,6 @@
 -- The search for a known tick as code makes it, by key and index. There is nothing to believe here: the law `vector_indexed`
 -- says that the index is that of the item's vector, and `known_place` that the tick of the key there is the known one.
-use Rattle.codec.specs.Prelude.{ℕ, true, false, List, [], ◌∷◌, ltb}
+use Rattle.std.specs.Prelude.{ℕ, true, false, List, [], ◌∷◌, ltb}
 use Rattle.layout.specs.declared.ReplicaKey.{ReplicaKey}
 use Rattle.layout.specs.declared.VectorIndex.{VectorIndex}
 use Rattle.layout.specs.Knowledge.{Range}

@@ -1,6 +1,6 @@
 -- Document 01, "Operations on knowledge", on values. Each result is the normal form of its ticks; an operation says
 -- what the ticks are, at which items they may change and for which replicas they may be above 0.
-use Rattle.codec.specs.Prelude.{ℕ, suc, max, Bool, true, false, List, [], ◌∷◌, ◌++◌, eqb, ltb, length}
+use Rattle.std.specs.Prelude.{ℕ, suc, max, Bool, true, false, List, [], ◌∷◌, ◌++◌, eqb, ltb, length}
 use Rattle.layout.specs.Knowledge.{Limits, Range, Knowledge, bounds}
 use Rattle.ticks.specs.Meaning.{known}
 use Rattle.ticks.specs.Table.{in_span, within, sorted}

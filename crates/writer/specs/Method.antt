@@ -1,6 +1,6 @@
 -- The method of the writer: what is left to write. There is nothing to believe here: the contracts that others use speak of
 -- the bytes in the buffer.
-use Rattle.codec.specs.Prelude.{ℕ, ◌≡◌, true, false, List, [], ◌++◌, eqb}
+use Rattle.std.specs.Prelude.{ℕ, ◌≡◌, true, false, List, [], ◌++◌, eqb}
 use Rattle.tables.specs.MethodPieces.{laid}
 
 -- writing ps into d from a place on, and then anything, comes to writing qs into u from p on, and then that
