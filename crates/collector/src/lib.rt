@@ -1,4 +1,5 @@
-// The C interface: each function is thin, and its contract says what every byte behind every pointer is afterwards.
+// The C interface: each function is thin, and its contract says what every byte behind every pointer is afterwards. What C itself calls
+// are the functions of the crate `collector_c`, which call these and have the same contracts: a library exports nothing.
 #![tactic(auto)]
 
 ghost use Rattle.std.specs.Prelude.{◌≡◌, length};

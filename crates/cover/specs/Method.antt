@@ -1,7 +1,7 @@
 -- The method of cover, by places, for any bytes: nothing here is to be believed. The laws show that for bytes that the check accepts it
 -- tells whether one knowledge covers another. The cursor and the keys are lookup's, bounds are those of the crate lacking.
-use Rattle.std.specs.Prelude.{ℕ, zero, suc, ◌+◌, ◌-◌, ◌*◌, Bool, true, false, Option, List, [], ◌∷◌, eqb, ltb, leb, length, get_or}
-use Rattle.codec.specs.Prelude.{none, some}
+use Rattle.std.specs.Prelude.{ℕ, zero, suc, ◌+◌, ◌-◌, ◌*◌, Bool, true, false, List, [], ◌∷◌, eqb, ltb, leb, length, get_or}
+use Rattle.codec.specs.Prelude.{Option, none, some}
 use Rattle.codec.specs.Number.{be_at}
 use Rattle.layout.specs.declared.ReplicaKey.{ReplicaKey}
 use Rattle.layout.specs.Knowledge.{Element}

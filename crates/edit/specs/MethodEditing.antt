@@ -1,7 +1,7 @@
 -- An edit or a delete as the code has it: what is written, by its words, what was found of the item, and what the changed store is made of.
 -- There is nothing to believe here: the contracts of the calls cite the replies of `replication`.
-use Rattle.std.specs.Prelude.{ℕ, ◌+◌, ◌^◌, ◌≤◌, ◌<◌, ◌≡◌, List, Option, length}
-use Rattle.codec.specs.Prelude.{none, some}
+use Rattle.std.specs.Prelude.{ℕ, ◌+◌, ◌^◌, ◌≤◌, ◌<◌, ◌≡◌, List, length}
+use Rattle.codec.specs.Prelude.{Option, none, some}
 use Rattle.codec.specs.Words.{words2, words3}
 use Rattle.layout.specs.Knowledge as K
 use Rattle.layout.specs.declared.Limits.{Limits}

@@ -5,43 +5,43 @@
 // `check_front` says that this decides the answer for all of the input.
 #![tactic(auto)]
 
-ghost use Rattle.std.specs.Prelude.{◌≡◌, ◌≤◌, length, take};
+ghost use Rattle.std.specs.Prelude.{◌≡◌, ◌≤◌, IfOk, length, take};
 ghost use Rattle.inspect.specs.Front.{DecidesAll};
 
 use layout::Checked;
-use libc::{STDIN_FILENO, STDOUT_FILENO};
+use std::io;
+use std::io::Read;
 
 const ROOM: usize = 14934;
 
-fn space() {
-    io::write_all(STDOUT_FILENO, b" ");
+fn print_sizes(
+    rt: &impl Print,
+    r: usize,
+    v: usize,
+    e: usize,
+    g: usize,
+    length: usize,
+) -> io::Result<()> {
+    println!(rt; "{r} {v} {e} {g} {length}")
 }
 
-fn line_feed() {
-    io::write_all(STDOUT_FILENO, b"\n");
+fn print_refusal(rt: &impl Print, n: u32) -> io::Result<()> {
+    println!(rt; "refused {n}")
 }
 
-fn number(x: usize) {
-    io::print_decimal(STDOUT_FILENO, x as u64);
-}
-
-fn print_sizes(r: usize, v: usize, e: usize, g: usize, length: usize) {
-    number(r);
-    space();
-    number(v);
-    space();
-    number(e);
-    space();
-    number(g);
-    space();
-    number(length);
-    line_feed();
-}
-
-fn print_refusal(n: u32) {
-    io::write_all(STDOUT_FILENO, b"refused ");
-    number(n as usize);
-    line_feed();
+// Reads until the buffer is full or the input ends, and returns how many bytes it put at the start of the buffer.
+fn read_full(input: &mut impl Read, buffer: &mut [u8]) -> io::Result<usize>
+    ensures { IfOk result (λ n. n ≤ length buffer.new) }
+{
+    let mut done = 0;
+    while done < buffer.len() {
+        let n = input.read(&mut buffer[done..])?;
+        if n == 0 {
+            break;
+        }
+        done += n;
+    }
+    Ok(done)
 }
 
 // The check's answer for an input whose first bytes, at most 14,934 of them, are the first n of the buffer.
@@ -52,16 +52,16 @@ fn check_front(buffer: &[u8], n: usize) -> Checked
     check_knowledge::check(&buffer[..n])
 }
 
-fn report(answer: Checked, length: usize) {
+fn report(rt: &impl Print, answer: Checked, length: usize) -> io::Result<()> {
     match answer {
-        Checked::Accepted { r, v, e, g } => print_sizes(r, v, e, g, length),
-        Checked::Refused(n) => print_refusal(n),
+        Checked::Accepted { r, v, e, g } => print_sizes(rt, r, v, e, g, length),
+        Checked::Refused(n) => print_refusal(rt, n),
     }
 }
 
-fn main() {
+fn main(rt: HostRuntime) -> io::Result<()> {
     let mut buffer = [0u8; ROOM];
-    let n = io::read_full(STDIN_FILENO, &mut buffer);
+    let n = read_full(&mut rt.stdin(), &mut buffer)?;
     let answer = check_front(&buffer, n);
-    report(answer, n);
+    report(&rt, answer, n)
 }

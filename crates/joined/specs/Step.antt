@@ -1,7 +1,7 @@
 -- A call of a list, made by its C function. What the function returned and left is told by five values: the number, the length behind the
 -- pointer `written` before and after the call, and the output buffer before and after.
-use Rattle.std.specs.Prelude.{ℕ, ◌≤◌, ◌≡◌, List, ◌++◌, Option, length, drop}
-use Rattle.codec.specs.Prelude.{none, some}
+use Rattle.std.specs.Prelude.{ℕ, ◌≤◌, ◌≡◌, List, ◌++◌, length, drop}
+use Rattle.codec.specs.Prelude.{Option, none, some}
 use Rattle.codec.specs.Reply.{Reply, answer, after, number_of, written_of}
 use Rattle.layout.specs.Knowledge.{basic, base}
 use Rattle.replication.specs.Call.{brings, edit, delete, make, apply}

@@ -1,7 +1,7 @@
 -- The method of the rows, by places, for any bytes: nothing here is to be believed. The laws show that for bytes that the
 -- check accepts the first lacking place is the defined one, and that cover answers as defined. The cursor and the keys are lookup's.
-use Rattle.std.specs.Prelude.{ℕ, zero, suc, ◌+◌, ◌*◌, ◌≤◌, ◌<◌, ◌≡◌, Bool, true, false, Option, List, ltb, leb, length, get_or}
-use Rattle.codec.specs.Prelude.{none, some}
+use Rattle.std.specs.Prelude.{ℕ, zero, suc, ◌+◌, ◌*◌, ◌≤◌, ◌<◌, ◌≡◌, Bool, true, false, List, ltb, leb, length, get_or}
+use Rattle.codec.specs.Prelude.{Option, none, some}
 use Rattle.codec.specs.Number.{be_at}
 use Rattle.codec.specs.Total.{read_at}
 use Rattle.codec.specs.Words.{words2}

@@ -1,8 +1,8 @@
 -- The whole record at a place by its length and its bytes, the fields at a place by total reads, the answer of a search for an item's
 -- record as an option, and the lower bound that a pass over rising items keeps. There is nothing to believe here: where a whole
 -- record stands, the law `part_record` says that the part is the bytes of `rec_at`, and `read_whole` that the fields are those of `rec_at`.
-use Rattle.std.specs.Prelude.{ℕ, suc, ◌+◌, List, Bool, true, false, Option, eqb}
-use Rattle.codec.specs.Prelude.{none, some}
+use Rattle.std.specs.Prelude.{ℕ, suc, ◌+◌, List, Bool, true, false, eqb}
+use Rattle.codec.specs.Prelude.{Option, none, some}
 use Rattle.codec.specs.Part.{part}
 use Rattle.codec.specs.Total.{read_at}
 use Rattle.codec.specs.Words.{words3}

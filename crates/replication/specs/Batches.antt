@@ -1,7 +1,7 @@
 -- What each batch of a list carries, in the terms of the machine and of the knowledge that it was made for. The promise of demand 3
 -- speaks of stores; this says of batches that they are valid, and the rest of document 01's "Make".
-use Rattle.std.specs.Prelude.{ℕ, ◌≤◌, ◌<◌, ◌≡◌, ◌↔◌, List, [], ◌∷◌, ◌++◌, Option}
-use Rattle.codec.specs.Prelude.{none, some}
+use Rattle.std.specs.Prelude.{ℕ, ◌≤◌, ◌<◌, ◌≡◌, ◌↔◌, List, [], ◌∷◌, ◌++◌}
+use Rattle.codec.specs.Prelude.{Option, none, some}
 use Rattle.layout.specs.Knowledge.{Limits, Rules, Knowledge, encode, Lawful}
 use Rattle.ticks.specs.Meaning.{highest, known}
 use Rattle.replication.specs.Record.{Rec}

@@ -1,8 +1,8 @@
 -- The calls that write, on bytes. Each is a table of refusals in document 01's order, "Inputs are checked as given: …
 -- store before batch or knowledge, then 17; then 18, 19, 20; then the result (for make: needed before learned)", and
 -- the bytes where no line holds. 14, the output buffer shorter than the result, is looked for last, by `answer`.
-use Rattle.std.specs.Prelude.{ℕ, Bool, true, false, not, ◌||◌, List, [], ◌∷◌, Option, ltb, leb, length, ◌≡◌}
-use Rattle.codec.specs.Prelude.{none, some}
+use Rattle.std.specs.Prelude.{ℕ, Bool, true, false, not, ◌||◌, List, [], ◌∷◌, ltb, leb, length, ◌≡◌}
+use Rattle.codec.specs.Prelude.{Option, none, some}
 use Rattle.codec.specs.Reply.{Reply, gives, Line, first_fault, refuses}
 use Rattle.layout.specs.Knowledge.{Limits, Rules, largest_tick}
 use Rattle.layout.specs.Parse.{parse}

@@ -1,6 +1,6 @@
 -- Records and stores as values and as bytes. Document 01, "Records, store, batch".
-use Rattle.std.specs.Prelude.{ℕ, true, false, List, [], ◌∷◌, ◌++◌, Option, eqb, length}
-use Rattle.codec.specs.Prelude.{none, some}
+use Rattle.std.specs.Prelude.{ℕ, true, false, List, [], ◌∷◌, ◌++◌, eqb, length}
+use Rattle.codec.specs.Prelude.{Option, none, some}
 use Rattle.layout.specs.Knowledge.{Field, field, put_fields, Knowledge, encode}
 use Rattle.ticks.specs.Meaning.{empty_knowledge}
 use Rattle.replication.specs.Record.{Content, Rec}

@@ -1,7 +1,7 @@
 -- Lists of calls. Document 01: "It starts from stores that new returned, each under an id of its own." There is a replica under each
 -- id of 16 bytes, so that a list may name any number of them and no two share an id.
-use Rattle.std.specs.Prelude.{ℕ, zero, suc, true, false, List, [], ◌∷◌, ◌++◌, Option, leb, eqb, length}
-use Rattle.codec.specs.Prelude.{none, some}
+use Rattle.std.specs.Prelude.{ℕ, zero, suc, true, false, List, [], ◌∷◌, ◌++◌, leb, eqb, length}
+use Rattle.codec.specs.Prelude.{Option, none, some}
 use Rattle.codec.specs.Reply.{Reply, gives, refuses}
 use Rattle.layout.specs.Knowledge.{Limits, Rules}
 use Rattle.replication.specs.Formats.{new_store, encode_store}

@@ -1,7 +1,7 @@
 -- The plain history machine, literally document 01's. It takes nothing from the bytes of a store or batch and shares
 -- no definition with the calls: numbers, order of versions, span and create rule are its own.
-use Rattle.std.specs.Prelude.{ℕ, zero, suc, max, ◌+◌, ◌*◌, ◌^◌, Bool, true, false, List, [], ◌∷◌, ◌++◌, Option, leb, ltb, eqb}
-use Rattle.codec.specs.Prelude.{none, some}
+use Rattle.std.specs.Prelude.{ℕ, zero, suc, max, ◌+◌, ◌*◌, ◌^◌, Bool, true, false, List, [], ◌∷◌, ◌++◌, leb, ltb, eqb}
+use Rattle.codec.specs.Prelude.{Option, none, some}
 use Rattle.replication.specs.Record.{Content, Rec}
 use Rattle.replication.specs.Call.{Brought, Call, edit, delete, make, apply, Fed}
 

@@ -1,8 +1,8 @@
 -- Records in bytes as the code meets them: values by their places, tests apart from them. There is nothing to believe here: the
 -- laws `recs_fit`, `valid_split`, `shaped_is`, `checked-table` and `find_table` say what these are in the terms of
 -- specs/Reading.antt and specs/Queries.antt.
-use Rattle.std.specs.Prelude.{ℕ, zero, suc, ◌+◌, ◌≤◌, ◌<◌, ◌≡◌, ◌⊎◌, Bool, true, false, List, [], ◌∷◌, Option, eqb, leb, length}
-use Rattle.codec.specs.Prelude.{none, some}
+use Rattle.std.specs.Prelude.{ℕ, zero, suc, ◌+◌, ◌≤◌, ◌<◌, ◌≡◌, ◌⊎◌, Bool, true, false, List, [], ◌∷◌, eqb, leb, length}
+use Rattle.codec.specs.Prelude.{Option, none, some}
 use Rattle.codec.specs.Number.{be_at}
 use Rattle.replication.specs.Record.{Rec}
 use Rattle.replication.specs.Reading.{behind, item_place, change_replica_place, change_tick_place, create_replica_place, create_tick_place, tag_place}

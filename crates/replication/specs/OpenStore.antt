@@ -1,7 +1,7 @@
 -- The value of a valid store, from its bytes. There is nothing to believe here: the law `store_exact` says that the bytes of a
 -- store are read as its value exactly where the store meets document 01's list (specs/Valid.antt).
-use Rattle.std.specs.Prelude.{ℕ, ◌+◌, Bool, true, false, List, Option, eqb, leb, length, take, drop}
-use Rattle.codec.specs.Prelude.{none, some}
+use Rattle.std.specs.Prelude.{ℕ, ◌+◌, Bool, true, false, List, eqb, leb, length, take, drop}
+use Rattle.codec.specs.Prelude.{Option, none, some}
 use Rattle.codec.specs.Number.{be_at}
 use Rattle.layout.specs.Knowledge.{Limits, any_id, Knowledge}
 use Rattle.layout.specs.Parse.{parse}

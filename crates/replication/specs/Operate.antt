@@ -1,6 +1,6 @@
 -- The operations on values of stores and batches. Document 01, "New", "Edit or delete", "Make", "Apply".
-use Rattle.std.specs.Prelude.{ℕ, ◌+◌, Bool, true, false, List, [], ◌∷◌, Option, eqb, ltb}
-use Rattle.codec.specs.Prelude.{none, some}
+use Rattle.std.specs.Prelude.{ℕ, ◌+◌, Bool, true, false, List, [], ◌∷◌, eqb, ltb}
+use Rattle.codec.specs.Prelude.{Option, none, some}
 use Rattle.layout.specs.Knowledge.{Knowledge}
 use Rattle.ticks.specs.Operations.{normalise, merge, project, raise, largest}
 use Rattle.replication.specs.Record.{Content, Rec}

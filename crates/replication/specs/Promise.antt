@@ -1,6 +1,6 @@
 -- What demand 3 promises of a list of calls.
-use Rattle.std.specs.Prelude.{ℕ, ◌≤◌, ◌≡◌, List, [], Option}
-use Rattle.codec.specs.Prelude.{some}
+use Rattle.std.specs.Prelude.{ℕ, ◌≤◌, ◌≡◌, List, []}
+use Rattle.codec.specs.Prelude.{Option, some}
 use Rattle.codec.specs.Number.{put}
 use Rattle.codec.specs.Reply.{gives}
 use Rattle.layout.specs.Knowledge.{Limits, Rules}

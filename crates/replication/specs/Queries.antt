@@ -1,6 +1,6 @@
 -- The calls that write nothing: winner, learned, what a walker has still to give, and coverage.
-use Rattle.std.specs.Prelude.{ℕ, zero, suc, ◌+◌, ◌*◌, ◌/◌, true, false, List, [], ◌∷◌, Option, eqb, length, take, drop}
-use Rattle.codec.specs.Prelude.{none, some}
+use Rattle.std.specs.Prelude.{ℕ, zero, suc, ◌+◌, ◌*◌, ◌/◌, true, false, List, [], ◌∷◌, eqb, length, take, drop}
+use Rattle.codec.specs.Prelude.{Option, none, some}
 use Rattle.codec.specs.Number.{be_at}
 use Rattle.codec.specs.Reply.{first_fault}
 use Rattle.layout.specs.Knowledge.{Limits, Rules, Knowledge}

@@ -1,7 +1,7 @@
 -- Records read from bytes, and the tests on them that stores and batches share. There is nothing to believe here: the laws
 -- `store_exact` and `batch_exact` say in plain relations which bytes are read, and as what.
-use Rattle.std.specs.Prelude.{ℕ, zero, suc, ◌+◌, Bool, true, false, List, [], ◌∷◌, Option, eqb, leb, length}
-use Rattle.codec.specs.Prelude.{none, some}
+use Rattle.std.specs.Prelude.{ℕ, zero, suc, ◌+◌, Bool, true, false, List, [], ◌∷◌, eqb, leb, length}
+use Rattle.codec.specs.Prelude.{Option, none, some}
 use Rattle.codec.specs.Number.{be_at}
 use Rattle.layout.specs.Knowledge.{largest_tick}
 use Rattle.replication.specs.Record.{Content, Rec}

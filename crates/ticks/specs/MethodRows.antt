@@ -1,7 +1,7 @@
 -- How code goes through rows of ticks. There is nothing to believe here: the laws of `proofs/ForRows.antt` say that the first
 -- lacking place, the largest tick and the test of a tick alike in all ranges are found so.
-use Rattle.std.specs.Prelude.{ℕ, max, Bool, true, false, Option, List, [], ◌∷◌, eqb, ltb, leb}
-use Rattle.codec.specs.Prelude.{none, some}
+use Rattle.std.specs.Prelude.{ℕ, max, Bool, true, false, List, [], ◌∷◌, eqb, ltb, leb}
+use Rattle.codec.specs.Prelude.{Option, none, some}
 use Rattle.layout.specs.declared.ReplicaKey.{ReplicaKey}
 use Rattle.layout.specs.declared.VectorIndex.{VectorIndex}
 use Rattle.layout.specs.Knowledge.{Element, Range}

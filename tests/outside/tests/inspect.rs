@@ -1,5 +1,5 @@
 //! The program that prints the sizes of one knowledge, on inputs of every kind of length. The program is looked for in
-//! the repository's `target/bin`, or where `SYNC_INSPECT` says.
+//! `crates/inspect/out`, or where `SYNC_INSPECT` says.
 
 use std::env;
 use std::io::Write;
@@ -10,8 +10,10 @@ use std::thread;
 use inputs::Knowledge;
 
 fn printed(input: &[u8]) -> String {
-    let program = env::var_os("SYNC_INSPECT")
-        .map_or_else(|| PathBuf::from(concat!(env!("CARGO_MANIFEST_DIR"), "/../../target/bin/inspect")), PathBuf::from);
+    let program = env::var_os("SYNC_INSPECT").map_or_else(
+        || PathBuf::from(concat!(env!("CARGO_MANIFEST_DIR"), "/../../crates/inspect/out/inspect")),
+        PathBuf::from,
+    );
     let mut child = Command::new(&program)
         .stdin(Stdio::piped())
         .stdout(Stdio::piped())

@@ -2,7 +2,6 @@
 use native.Mathlib.Omega.{arith}
 use Rattle.apply.proofs.Applying.{own_room, batch_room_lem, asks_needed}
 use Rattle.apply.proofs.Applying.{refuses_uncovered, asks_own, refuses_ahead, merges, on_to_result}
-use borrow.Author.Rules.{rules}
 use borrow.Author.Tests.{not-true, not-false}
 use Rattle.apply.proofs.apply_open.Goals as goal
 

@@ -2,7 +2,6 @@
 use native.Mathlib.Omega.{arith}
 use Rattle.codec.specs.Number.{Bytes}
 use Rattle.apply.proofs.Applying.{not_store, not_batch, both_valid}
-use borrow.Author.Rules.{rules}
 use Rattle.apply.proofs.apply_within.Goals as goal
 
 pub returns-in_default : goal.returns-in_default

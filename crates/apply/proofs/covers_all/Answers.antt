@@ -1,6 +1,5 @@
 -- `apply::covers_all` meets its contract: the words of the span are the first and the last id of all.
 use Rattle.apply.proofs.Merged.{all_covered}
-use borrow.Author.Rules.{rules}
 use Rattle.apply.proofs.covers_all.Goals as goal
 
 pub returns : goal.returns

@@ -1,6 +1,5 @@
 -- `apply::covers_needed` meets its contract: the words of the span are its ids.
 use Rattle.apply.proofs.Applying.{needed_covered}
-use borrow.Author.Rules.{rules}
 use Rattle.apply.proofs.covers_needed.Goals as goal
 
 pub returns : goal.returns

@@ -1,7 +1,6 @@
 -- `apply::covers_own` meets its contract: the largest own tick of learned is compared with the store's.
 use mathlib.Core.Path.{refl}
 use Rattle.apply.proofs.Applying.{own_covered_lem}
-use borrow.Author.Rules.{rules}
 use Rattle.apply.proofs.covers_own.Goals as goal
 
 pub returns : goal.returns

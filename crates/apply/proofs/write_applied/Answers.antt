@@ -7,7 +7,6 @@ use Rattle.codec.proofs.Writing.{zeros-length}
 use Rattle.results.specs.MethodOpened.{limits_of}
 use Rattle.store_write.proofs.Closing.{store_room_lem, close_store}
 use Rattle.apply.proofs.Applying.{apply_inside, own_and_learned}
-use borrow.Author.Rules.{rules}
 use Rattle.apply.proofs.write_applied.Goals as goal
 
 pub write_merged-a-requires : goal.write_merged-a-requires

@@ -1,7 +1,6 @@
 -- `apply::write_merged` meets its contract: a copy where learned is covered, and else what the knowledge part merges.
 use Rattle.results.proofs.Opened.{merge_opened}
 use Rattle.apply.proofs.Merged.{both_open, merged_copied}
-use borrow.Author.Rules.{rules}
 use Rattle.apply.proofs.write_merged.Goals as goal
 
 pub covers_all-requires : goal.covers_all-requires

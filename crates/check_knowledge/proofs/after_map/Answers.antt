@@ -1,5 +1,4 @@
 -- `check_knowledge::after_map` meets its contract. The count of the vectors, then what is after it.
-use native.Mathlib.Omega.{arith}
 use Rattle.check_knowledge.specs.Method.{after_map}
 use Rattle.check_knowledge.proofs.Answers.{told_fault, told_on}
 use mathlib.Core.Path.{sym, ◌∙◌}

@@ -1,5 +1,4 @@
 -- `check_knowledge::after_ranges` meets its contract. The closing fields, then that no byte is left.
-use native.Mathlib.Omega.{arith}
 use Rattle.check_knowledge.proofs.Answers.{answer_whole, answer_more, answer_fault}
 use Rattle.check_knowledge.proofs.after_ranges.Goals as goal
 

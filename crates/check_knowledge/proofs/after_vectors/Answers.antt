@@ -1,5 +1,4 @@
 -- `check_knowledge::after_vectors` meets its contract. The ranges, then what is after them.
-use native.Mathlib.Omega.{arith}
 use Rattle.check_knowledge.specs.Method.{after_vectors}
 use Rattle.check_knowledge.proofs.Answers.{told_fault, told_on}
 use mathlib.Core.Path.{sym, ◌∙◌}

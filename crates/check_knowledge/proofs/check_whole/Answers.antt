@@ -1,5 +1,4 @@
 -- `check_knowledge::check_whole` meets its contract. The replica map, then what is after it.
-use native.Mathlib.Omega.{arith}
 use Rattle.check_knowledge.proofs.Answers.{check_fault, check_on}
 use Rattle.check_knowledge.proofs.check_whole.Goals as goal
 

@@ -1,7 +1,6 @@
 -- `check_knowledge::pack` meets its contract: the four counts, each in its field.
 use native.Mathlib.Omega.{arith}
 use Rattle.check_knowledge.specs.Method.{packed}
-use borrow.Author.Rules.{rules}
 use Rattle.check_knowledge.proofs.pack.Goals as goal
 
 pub returns : goal.returns

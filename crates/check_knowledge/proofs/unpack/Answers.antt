@@ -1,6 +1,4 @@
 -- `check_knowledge::unpack` meets its contract: a refusal's number, or each field.
-use mathlib.Core.Path.{sym}
-use borrow.Author.Rules.{rules}
 use borrow.Author.Tests.{lt-ltb, le-ltb}
 use Rattle.check_knowledge.specs.Method.{unpacked}
 use Rattle.check_knowledge.proofs.unpack.Goals as goal

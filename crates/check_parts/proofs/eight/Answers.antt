@@ -1,7 +1,6 @@
 -- `check_parts::eight` meets its contract. Eight bytes are four and four more.
 use Rattle.codec.proofs.Reading.{be_eight}
 use native.Mathlib.Omega.{arith}
-use borrow.Author.Rules.{rules}
 use Rattle.check_parts.proofs.eight.Goals as goal
 
 pub returns : goal.returns

@@ -1,11 +1,10 @@
 -- `check_parts::elements_stand` meets its contract. The loop's invariant: while both gathering bytes are below 128, the whole answer is the answer from here on, and a key without a mark was not met.
 use borrow.Author.Tests.{ltb-true}
-use lib.ListN.{length, get_or, length-set}
-use Prim.Native.Nat.{◌+◌, ◌-◌, ◌*◌, ◌<◌, ◌≤◌}
-use mathlib.Core.Path.{◌≡◌, refl, sym}
+use lib.ListN.{get_or, length-set}
+use Prim.Native.Nat.{◌+◌}
+use mathlib.Core.Path.{refl, sym}
 use mathlib.Core.Bool.{true≢false}
-use Rattle.layout.specs.Permitted.{largest_replicas}
-use Rattle.check_parts.proofs.Marked.{Marked, marked_none, marked_more, marked_all, gathered}
+use Rattle.check_parts.proofs.Marked.{marked_none, marked_more, marked_all, gathered}
 use native.Mathlib.Omega.{arith}
 use Rattle.check_parts.proofs.elements_stand.Goals as goal
 

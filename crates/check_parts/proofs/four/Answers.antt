@@ -1,7 +1,6 @@
 -- `check_parts::four` meets its contract. The code adds the bytes, each times its power of 256, which is the number that they make.
 use Rattle.codec.proofs.Reading.{be_four}
 use native.Mathlib.Omega.{arith}
-use borrow.Author.Rules.{rules}
 use Rattle.check_parts.proofs.four.Goals as goal
 
 pub returns : goal.returns

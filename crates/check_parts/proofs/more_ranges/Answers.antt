@@ -1,9 +1,5 @@
 -- `check_parts::more_ranges` meets its contract. The loop's invariant: the whole answer is the answer from here on, after the bound of three words.
-use lib.ListN.{length}
-use Prim.Native.Nat.{◌-◌, ◌≤◌}
-use mathlib.Core.Path.{◌≡◌, refl}
-use Rattle.codec.specs.Words.{words3}
-use Rattle.check_parts.specs.Method.{ranges_after}
+use mathlib.Core.Path.{refl}
 use Rattle.check_parts.proofs.Bound.{bound_words_lem, range_went, ranges_stop, ranges_on, ranges_end}
 use native.Mathlib.Omega.{arith}
 use Rattle.check_parts.proofs.more_ranges.Goals as goal

@@ -1,11 +1,7 @@
 -- `check_parts::more_vectors` meets its contract. The loop's invariant: the whole answer is the answer from here on, and there are no more elements than bytes.
 use Prim.Native.Nat.{◌-◌, ◌≤◌}
-use mathlib.Core.Path.{◌≡◌, refl}
+use mathlib.Core.Path.{◌≡◌}
 use Rattle.layout.specs.Read.{repeat, vector}
-use Rattle.check_fields.proofs.Repeat.{repeat_stop, repeat_on, repeat_end}
-use Rattle.check_fields.proofs.Vector.{vector_below}
-use Rattle.check_parts.proofs.Lists.{vector_more, vector_faulty}
-use native.Mathlib.Omega.{arith}
 use Rattle.check_parts.proofs.more_vectors.Given as goal
 
 abbrev pub invariant-loop-k : goal.invariant-loop-k

@@ -1,6 +1,5 @@
 -- `check_parts::range_above` meets its contract. Each return has the test that the definition makes there; where the bound is above, the rest is what it is for any bound.
 use Rattle.check_parts.proofs.Bound.{bound_less, place_cut, place_low, place_above}
-use borrow.Author.Rules.{rules}
 use Rattle.check_parts.proofs.range_above.Goals as goal
 
 pub returns-then-s-at-lt24 : goal.returns-then-s-at-lt24

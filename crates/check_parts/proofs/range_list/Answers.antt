@@ -2,7 +2,6 @@
 use Rattle.layout.specs.Knowledge.{before_ranges}
 use Rattle.layout.specs.Read.{fields}
 use Rattle.check_parts.proofs.Lists.{limited_inside, range_list_fault, range_list_on}
-use borrow.Author.Rules.{rules}
 use Rattle.check_parts.proofs.range_list.Goals as goal
 
 pub returns-in_default : goal.returns-in_default

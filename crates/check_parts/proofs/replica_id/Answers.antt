@@ -1,5 +1,4 @@
 -- `check_parts::replica_id` meets its contract. Each return has the test that the definition makes there.
-use native.Mathlib.Omega.{arith}
 use Rattle.check_parts.proofs.Ids.{id_short, id_seen, id_new}
 use Rattle.check_parts.proofs.replica_id.Goals as goal
 

@@ -1,12 +1,7 @@
 -- `check_parts::replica_ids` meets its contract. The loop's invariant: the whole answer is the answer from here on, and the place is inside the bytes.
 use Rattle.check_fields.proofs.Repeat.{repeat_up}
 use Rattle.check_parts.proofs.Ids.{id_went}
-use lib.ListN.{length}
 use native.Mathlib.Omega.{arith}
-use mathlib.Core.Path.{◌≡◌}
-use Prim.Native.Nat.{◌+◌, ◌-◌, ◌*◌, ◌≤◌}
-use Rattle.layout.specs.Knowledge.{basic}
-use Rattle.layout.specs.Read.{repeat, replica_id}
 use Rattle.check_fields.proofs.Repeat.{repeats}
 use Rattle.check_parts.proofs.replica_ids.Goals as goal
 

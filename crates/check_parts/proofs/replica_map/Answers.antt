@@ -2,7 +2,6 @@
 use Rattle.layout.specs.Knowledge.{opening}
 use Rattle.layout.specs.Read.{fields}
 use Rattle.check_parts.proofs.Lists.{limited_inside, map_fault, map_on}
-use native.Mathlib.Omega.{arith}
 use Rattle.check_parts.proofs.replica_map.Goals as goal
 
 pub returns-in_default : goal.returns-in_default

@@ -1,8 +1,4 @@
 -- `check_parts::seen_id` meets its contract. The loop's invariant: the whole answer is the answer from here on.
-use mathlib.Core.Path.{◌≡◌}
-use Prim.Native.Nat.{◌+◌, ◌-◌, ◌*◌, ◌≤◌}
-use Rattle.codec.specs.Words.{words2}
-use Rattle.layout.specs.Read.{among}
 use Rattle.check_fields.proofs.Among.{among_all, among_found, among_on, among_end}
 use Rattle.check_parts.proofs.Ids.{id_same}
 use native.Mathlib.Omega.{arith}

@@ -3,9 +3,6 @@ use mathlib.Core.Path.{◌≡◌}
 use Prim.Native.Nat.{◌+◌, ◌-◌, ◌*◌, ◌≤◌}
 use Rattle.codec.specs.Words.{words2}
 use Rattle.layout.specs.Read.{among}
-use Rattle.check_fields.proofs.Among.{among_all, among_found, among_on, among_end}
-use Rattle.check_parts.proofs.Ids.{id_same}
-use native.Mathlib.Omega.{arith}
 use Rattle.check_parts.proofs.seen_id.Given as goal
 
 abbrev pub invariant-loop-i : goal.invariant-loop-i

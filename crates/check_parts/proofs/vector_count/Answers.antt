@@ -1,7 +1,6 @@
 -- `check_parts::vector_count` meets its contract. The count, then its limits.
 use Rattle.layout.specs.Parse.{vector_count}
 use Rattle.check_fields.proofs.Steps.{next_step}
-use borrow.Author.Rules.{rules}
 use Rattle.check_parts.proofs.vector_count.Goals as goal
 
 pub returns : goal.returns

@@ -1,5 +1,4 @@
 -- `check_parts::vector_list` meets its contract. The first vector, then those after it.
-use native.Mathlib.Omega.{arith}
 use Rattle.check_fields.proofs.Vector.{first_fault_lem, first_on}
 use Rattle.check_parts.proofs.vector_list.Goals as goal
 

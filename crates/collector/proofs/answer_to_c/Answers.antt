@@ -1,6 +1,5 @@
 -- `collector::answer_to_c` meets its contract, in both cases of the answer.
 use Rattle.collector.proofs.Endings.{answer_written, answer_refused}
-use borrow.Author.Rules.{rules}
 use Rattle.collector.proofs.answer_to_c.Goals as goal
 
 pub returns-in-Written-clause-number : goal.returns-in-Written-clause-number

@@ -1,6 +1,5 @@
 -- `collector::part_to_c` meets its contract, in each of the answers.
 use Rattle.collector.proofs.Places.{part_nothing, part_store, part_batch, part_refusal}
-use borrow.Author.Rules.{rules}
 use Rattle.collector.proofs.part_to_c.Goals as goal
 
 pub returns-in-Nothing : goal.returns-in-Nothing

@@ -1,7 +1,6 @@
 -- `collector::sync_check` meets its contract: in each arm of the match, the number and the four sizes are those that the
 -- definitions give for the answer that `check` ensures. Assumes nothing.
 use mathlib.Core.Path.{sym, ◌∙◌}
-use borrow.Author.Rules.{rules}
 use Rattle.layout.proofs.Told.{number_accepted, sizes_accepted, number_refused, sizes_refused}
 use Rattle.collector.proofs.sync_check.Goals as goal
 

@@ -1,7 +1,6 @@
 -- `collector::sync_compare` meets its contract: number, length and buffer are those of the call's reply, and the order is as `compare`
 -- leaves it.
 use Rattle.collector.proofs.Endings.{answer_called}
-use borrow.Author.Rules.{rules}
 use Rattle.collector.proofs.sync_compare.Goals as goal
 
 pub returns-clause-called : goal.returns-clause-called

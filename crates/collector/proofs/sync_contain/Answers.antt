@@ -1,7 +1,6 @@
 -- `collector::sync_contain` meets its contract: in each arm of the match, number and value are those that the definitions give for
 -- the answer that `contain` ensures. Assumes nothing.
 use mathlib.Core.Path.{sym, ◌∙◌}
-use borrow.Author.Rules.{rules}
 use Rattle.ticks.proofs.Told.{value_contained, value_lacking, contain_stays}
 use Rattle.collector.proofs.sync_contain.Goals as goal
 

@@ -1,7 +1,6 @@
 -- `collector::sync_cover` meets its contract: in each arm of the match, number and value are those that the definitions give for the
 -- answer that `cover` ensures. Assumes nothing.
 use mathlib.Core.Path.{sym, ◌∙◌}
-use borrow.Author.Rules.{rules}
 use Rattle.ticks.proofs.Told.{value_covers, value_lacks, cover_stays}
 use Rattle.collector.proofs.sync_cover.Goals as goal
 

@@ -2,7 +2,6 @@
 -- the answer.
 use mathlib.Core.Path.{sym, ◌∙◌}
 use Rattle.collector.proofs.Places.{covers_these, covers_refusal}
-use borrow.Author.Rules.{rules}
 use Rattle.collector.proofs.sync_coverage.Goals as goal
 
 pub returns-in-Covered : goal.returns-in-Covered

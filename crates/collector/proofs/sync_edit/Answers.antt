@@ -1,6 +1,5 @@
 -- `collector::sync_edit` meets its contract: number, length and buffer are those of the call's reply.
 use Rattle.collector.proofs.Endings.{answer_called}
-use borrow.Author.Rules.{rules}
 use Rattle.collector.proofs.sync_edit.Goals as goal
 
 pub returns : goal.returns

@@ -1,6 +1,5 @@
 -- `collector::sync_winner` meets its contract: the values told are those of the part that the definition gives.
 use Rattle.collector.proofs.Places.{side_called}
-use borrow.Author.Rules.{rules}
 use Rattle.collector.proofs.sync_winner.Goals as goal
 
 pub returns : goal.returns

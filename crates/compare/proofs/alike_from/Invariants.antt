@@ -1,8 +1,6 @@
 -- `compare::alike_from` meets its contract. The loop's invariant: both cursors have come to an item, and nothing lacks below it.
-use mathlib.Core.Path.{refl}
-use native.Mathlib.Omega.{arith}
 use Rattle.codec.specs.Ids.{item_of}
-use Rattle.compare.proofs.HowFar.{Going, going_starts, going_stops, going_done, going_on, going_less}
+use Rattle.compare.proofs.HowFar.{Going}
 use Rattle.compare.proofs.alike_from.Given as goal
 
 abbrev pub invariant-loop-n : goal.invariant-loop-n

@@ -1,6 +1,5 @@
 -- `compare::compare` meets its contract: document 01's rules are those of its two numbers.
 use Rattle.compare.proofs.Calls.{ends_basic}
-use borrow.Author.Rules.{rules}
 use Rattle.compare.proofs.compare.Goals as goal
 
 pub returns-clause-value : goal.returns-clause-value

@@ -4,7 +4,6 @@ use Rattle.codec.specs.Number.{Bytes}
 use Rattle.layout.specs.Permitted.{rules_within}
 use Rattle.lookup.proofs.Calls.{opens_within, refuses_within, opens_open}
 use Rattle.compare.proofs.Calls.{ends_second}
-use borrow.Author.Rules.{rules}
 use Rattle.compare.proofs.compare_second.Goals as goal
 
 pub compare_in-requires : goal.compare_in-requires

@@ -4,7 +4,6 @@ use Rattle.codec.specs.Number.{Bytes}
 use Rattle.layout.specs.Permitted.{rules_within}
 use Rattle.lookup.proofs.Calls.{opens_within, refuses_within}
 use Rattle.compare.proofs.Calls.{ends_first}
-use borrow.Author.Rules.{rules}
 use Rattle.compare.proofs.compare_within.Goals as goal
 
 pub compare_second-requires : goal.compare_second-requires

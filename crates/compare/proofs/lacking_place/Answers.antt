@@ -1,6 +1,5 @@
 -- `compare::lacking_place` meets its contract: nothing lacks, or the search begins where both are no longer known to be alike.
 use Rattle.compare.proofs.Calls.{place_nowhere, place_found}
-use borrow.Author.Rules.{rules}
 use Rattle.compare.proofs.lacking_place.Goals as goal
 
 pub returns-in_default : goal.returns-in_default

@@ -1,6 +1,5 @@
 -- `compare::next_alike` meets its contract, in each of the five ways that it goes.
 use Rattle.compare.proofs.HowFar.{goes_nowhere, goes_done, goes_bound}
-use borrow.Author.Rules.{rules}
 use Rattle.compare.proofs.next_alike.Goals as goal
 
 pub returns-then-y-eq0 : goal.returns-then-y-eq0

@@ -1,6 +1,5 @@
 -- `compare::order_of` meets its contract, in each of the four cases.
 use Rattle.compare.proofs.Calls.{order_alike, order_behind, order_ahead, order_apart}
-use borrow.Author.Rules.{rules}
 use Rattle.compare.proofs.order_of.Goals as goal
 
 pub returns-in_default-y : goal.returns-in_default-y

@@ -1,6 +1,5 @@
 -- `compare::put_lack` meets its contract: nothing, or the place with the two ticks that lookup finds there, one field behind the other.
 use Rattle.compare.proofs.Calls.{lack_nothing, lack_wrote}
-use borrow.Author.Rules.{rules}
 use Rattle.compare.proofs.put_lack.Goals as goal
 
 pub returns-in_default : goal.returns-in_default

@@ -1,6 +1,5 @@
 -- `compare::same_bound` meets its contract: three words of each are compared.
 use Rattle.compare.proofs.HowFar.{bound_same, bound_other}
-use borrow.Author.Rules.{rules}
 use Rattle.compare.proofs.same_bound.Goals as goal
 
 pub returns-then-same3 : goal.returns-then-same3

@@ -3,7 +3,7 @@ use mathlib.Core.Path.{refl}
 use mathlib.Core.Bool.{false}
 use native.Mathlib.Omega.{arith}
 use Rattle.ticks.proofs.Equality.{clash}
-use Rattle.compare.proofs.HowFar.{IdsFrom, ids_all, ids_next, ids_done}
+use Rattle.compare.proofs.HowFar.{ids_all, ids_next, ids_done}
 use Rattle.compare.proofs.same_ids.Goals as goal
 
 pub loop-left-init : goal.loop-left-init

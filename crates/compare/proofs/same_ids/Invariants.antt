@@ -1,9 +1,5 @@
 -- `compare::same_ids` meets its contract. The loop's invariant: all ids are the same where those that are left are.
-use mathlib.Core.Path.{refl}
-use mathlib.Core.Bool.{false}
-use native.Mathlib.Omega.{arith}
-use Rattle.ticks.proofs.Equality.{clash}
-use Rattle.compare.proofs.HowFar.{IdsFrom, ids_all, ids_next, ids_done}
+use Rattle.compare.proofs.HowFar.{IdsFrom}
 use Rattle.compare.proofs.same_ids.Given as goal
 
 abbrev pub invariant-loop-left : goal.invariant-loop-left

@@ -3,7 +3,7 @@ use mathlib.Core.Path.{refl}
 use mathlib.Core.Bool.{false}
 use native.Mathlib.Omega.{arith}
 use Rattle.ticks.proofs.Equality.{clash}
-use Rattle.compare.proofs.HowFar.{ElementsFrom, elements_none, elements_all, elements_next, elements_done}
+use Rattle.compare.proofs.HowFar.{elements_none, elements_all, elements_next, elements_done}
 use Rattle.compare.proofs.same_vector.Goals as goal
 
 pub returns-then-elements_at-n : goal.returns-then-elements_at-n

@@ -1,6 +1,5 @@
 -- `compare::size_of` meets its contract, in each of the two cases.
 use Rattle.compare.proofs.Calls.{size_none, size_some}
-use borrow.Author.Rules.{rules}
 use Rattle.compare.proofs.size_of.Goals as goal
 
 pub returns-in_default : goal.returns-in_default

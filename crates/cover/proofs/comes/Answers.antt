@@ -2,7 +2,6 @@
 use Rattle.leaves.proofs.Part.{part_is}
 use Rattle.cover.proofs.Steps.{comes_none, comes_is}
 use native.Mathlib.Omega.{arith}
-use borrow.Author.Rules.{rules}
 use Rattle.cover.proofs.comes.Goals as goal
 
 pub returns-then-c-eq0 : goal.returns-then-c-eq0

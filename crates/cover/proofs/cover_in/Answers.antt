@@ -1,7 +1,6 @@
 -- `cover::cover_in` meets its contract: 17 for the span, and else whether the first knowledge covers the second.
 use Rattle.cover.proofs.Calls.{cover_first-length, cover_last-length, cover_above, cover_yes, cover_no}
 use Rattle.codec.proofs.Ids.{item_is_read}
-use native.Mathlib.Omega.{arith}
 use Rattle.cover.proofs.cover_in.Goals as goal
 
 pub returns-then-first-ne24 : goal.returns-then-first-ne24

@@ -1,6 +1,5 @@
 -- `cover::cover_within` meets its contract, in each of the answers of the first check.
 use native.Mathlib.Omega.{arith}
-use borrow.Author.Rules.{rules}
 use Rattle.codec.specs.Number.{Bytes}
 use Rattle.layout.specs.Permitted.{rules_within}
 use Rattle.lookup.proofs.Calls.{opens_within, refuses_within}

@@ -1,7 +1,6 @@
 -- `cover::level` meets its contract: a key that there is none of has no tick.
 use mathlib.Core.Path.{refl}
 use Rattle.cover.proofs.Steps.{level_none, level_is}
-use borrow.Author.Rules.{rules}
 use Rattle.cover.proofs.level.Goals as goal
 
 pub returns-then-keys-k : goal.returns-then-keys-k

@@ -1,11 +1,6 @@
 -- `cover::none_above` meets its contract. The loop's invariant: the whole answer is the one from here on.
-use Prim.Native.Nat.{◌+◌, ◌-◌, ◌*◌, ◌≤◌}
-use mathlib.Core.Path.{◌≡◌}
-use lib.ListN.{length}
-use Rattle.layout.specs.Decode.{elements_at}
-use Rattle.lookup.specs.Method.{There, elements_here}
+use Prim.Native.Nat.{◌-◌}
 use Rattle.leaves.proofs.Part.{part_is}
-use Rattle.cover.specs.Method.{level_in, none_above}
 use Rattle.cover.proofs.Steps.{none_empty, none_begins, none_next, none_stop, none_end}
 use native.Mathlib.Omega.{arith}
 use Rattle.cover.proofs.none_above.Goals as goal

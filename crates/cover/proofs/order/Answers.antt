@@ -2,7 +2,6 @@
 use Rattle.leaves.proofs.Part.{part_is}
 use Rattle.cover.proofs.Steps.{words_first, words_second, words_both}
 use native.Mathlib.Omega.{arith}
-use borrow.Author.Rules.{rules}
 use Rattle.cover.proofs.order.Goals as goal
 
 pub returns-then-less3 : goal.returns-then-less3

@@ -2,7 +2,6 @@
 use Rattle.leaves.proofs.Part.{part_is}
 use Rattle.cover.proofs.Steps.{step_stays, step_goes}
 use native.Mathlib.Omega.{arith}
-use borrow.Author.Rules.{rules}
 use borrow.Author.Tests.{not-true, not-false}
 use Rattle.cover.proofs.step.Goals as goal
 

@@ -2,7 +2,6 @@
 use Rattle.leaves.proofs.Part.{part_is}
 use Rattle.lookup.proofs.Loops.{tick_guessed}
 use native.Mathlib.Omega.{arith}
-use borrow.Author.Rules.{rules}
 use Rattle.cover.proofs.tick_in.Goals as goal
 
 pub overflow_add-at : goal.overflow_add-at

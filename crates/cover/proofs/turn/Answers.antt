@@ -1,7 +1,6 @@
 -- `cover::turn` meets its contract: by which of the two has a bound up to the last item.
 use Rattle.cover.proofs.Steps.{bound_left, bound_some, bound_not, turn_both, turn_first_only, turn_second_only, turn_neither}
 use native.Mathlib.Omega.{arith}
-use borrow.Author.Rules.{rules}
 use Rattle.cover.proofs.turn.Goals as goal
 
 pub order-requires : goal.order-requires

@@ -1,11 +1,7 @@
 -- `cover::walk` meets its contract. The loop's invariant: the whole answer is the one from the item on to which both cursors have
 -- come.
-use Prim.Native.Nat.{◌+◌}
-use mathlib.Core.Path.{◌≡◌}
 use borrow.Author.Tests.{not-true, not-false}
-use Rattle.codec.specs.Ids.{item_of}
-use Rattle.cover.specs.Method.{clear_by}
-use Rattle.cover.proofs.Steps.{Clears, clears_starts, clears_whole, clears_not, clears_ends, clears_less, clears_on, first_goes, second_goes}
+use Rattle.cover.proofs.Steps.{clears_starts, clears_whole, clears_not, clears_ends, clears_less, clears_on, first_goes, second_goes}
 use Rattle.cover.proofs.walk.Goals as goal
 
 pub loop-last-init : goal.loop-last-init

@@ -1,11 +1,9 @@
 -- `cover::walk` meets its contract. The loop's invariant: the whole answer is the one from the item on to which both cursors have
 -- come.
 use Prim.Native.Nat.{◌+◌}
-use mathlib.Core.Path.{◌≡◌}
-use borrow.Author.Tests.{not-true, not-false}
 use Rattle.codec.specs.Ids.{item_of}
 use Rattle.cover.specs.Method.{clear_by}
-use Rattle.cover.proofs.Steps.{Clears, clears_starts, clears_whole, clears_not, clears_ends, clears_less, clears_on, first_goes, second_goes}
+use Rattle.cover.proofs.Steps.{Clears}
 use Rattle.cover.proofs.walk.Given as goal
 
 abbrev pub invariant-loop-last : goal.invariant-loop-last

@@ -2,7 +2,6 @@
 use native.Mathlib.Omega.{arith}
 use Rattle.codec.specs.Number.{Bytes}
 use Rattle.edit.proofs.Changing.{change_20, change_raises, change_done}
-use borrow.Author.Rules.{rules}
 use Rattle.edit.proofs.change_item.Goals as goal
 
 pub returns-then-largest-ge-LARGEST_TICK : goal.returns-then-largest-ge-LARGEST_TICK

@@ -1,7 +1,6 @@
 -- `edit::changed_record` meets its contract, for an item that is there and for one that is absent.
 use mathlib.Core.Path.{refl}
 use Rattle.edit.proofs.Changing.{record_kept, record_new}
-use borrow.Author.Rules.{rules}
 use Rattle.edit.proofs.changed_record.Goals as goal
 
 pub returns-in-At-clause-result_value : goal.returns-in-At-clause-result_value

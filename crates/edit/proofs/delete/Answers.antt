@@ -1,7 +1,6 @@
 -- `edit::delete` meets its contract: document 01's limits are those of its three numbers.
 use Rattle.replication.specs.Calls.{delete_reply}
 use Rattle.store_write.proofs.Storing.{ended_base}
-use borrow.Author.Rules.{rules}
 use Rattle.edit.proofs.delete.Goals as goal
 
 pub returns-clause-value : goal.returns-clause-value

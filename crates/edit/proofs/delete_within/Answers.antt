@@ -2,7 +2,6 @@
 use native.Mathlib.Omega.{arith}
 use Rattle.codec.specs.Number.{Bytes}
 use Rattle.edit.proofs.Changing.{delete_15, delete_no_item, opened_end, delete_19, delete_asked, delete_done, zero-tag}
-use borrow.Author.Rules.{rules}
 use Rattle.edit.proofs.delete_within.Goals as goal
 
 pub returns-in_default : goal.returns-in_default

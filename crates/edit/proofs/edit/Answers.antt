@@ -2,7 +2,6 @@
 use Rattle.replication.specs.Calls.{edit_reply}
 use Rattle.replication.specs.Call.{brings}
 use Rattle.store_write.proofs.Storing.{ended_base}
-use borrow.Author.Rules.{rules}
 use Rattle.edit.proofs.edit.Goals as goal
 
 pub returns-clause-value : goal.returns-clause-value

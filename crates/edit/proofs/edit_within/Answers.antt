@@ -2,7 +2,6 @@
 use native.Mathlib.Omega.{arith}
 use Rattle.codec.specs.Number.{Bytes}
 use Rattle.edit.proofs.Changing.{edit_15, edit_no_item, edit_no_tag, opened_end, edit_asked, edit_done}
-use borrow.Author.Rules.{rules}
 use Rattle.edit.proofs.edit_within.Goals as goal
 
 pub returns-in_default : goal.returns-in_default

@@ -1,6 +1,5 @@
 -- `edit::gone` meets its contract, for a record that was found and for none.
 use Rattle.edit.proofs.Changing.{gone_at, gone_nothing}
-use borrow.Author.Rules.{rules}
 use Rattle.edit.proofs.gone.Goals as goal
 
 pub returns-in-At : goal.returns-in-At

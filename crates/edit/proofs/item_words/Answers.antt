@@ -1,6 +1,5 @@
 -- `edit::item_words` meets its contract: three words of 8 bytes are the number of 24.
 use Rattle.edit.proofs.Changing.{item_is}
-use borrow.Author.Rules.{rules}
 use Rattle.edit.proofs.item_words.Goals as goal
 
 pub returns : goal.returns

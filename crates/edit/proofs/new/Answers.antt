@@ -1,6 +1,5 @@
 -- `edit::new` meets its contract: 17 for an id of another length, 14 for a short buffer, else header and empty knowledge.
 use Rattle.edit.proofs.NewStore.{new_wrong, new_short, new_written}
-use borrow.Author.Rules.{rules}
 use Rattle.edit.proofs.new.Goals as goal
 
 pub returns-then-own-ne16-clause-value : goal.returns-then-own-ne16-clause-value

@@ -4,7 +4,6 @@ use mathlib.Core.Bool.{false}
 use borrow.Author.Tests.{eqb-true}
 use Rattle.ticks.proofs.Equality.{clash}
 use Rattle.edit.proofs.Changing.{raised_more}
-use borrow.Author.Rules.{rules}
 use Rattle.edit.proofs.one_too_many.Goals as goal
 
 pub returns-then-v-clamp : goal.returns-then-v-clamp

@@ -3,7 +3,6 @@ use lib.ListN.{replicate}
 use Rattle.replication.proofs.Bytes.Record.{rec_size}
 use Rattle.codec.proofs.Writing.{zeros-length}
 use Rattle.edit.proofs.Changing.{put_becomes}
-use borrow.Author.Rules.{rules}
 use Rattle.edit.proofs.put_changed.Goals as goal
 
 pub returns : goal.returns

@@ -1,7 +1,6 @@
 -- `edit::raise_own` meets its contract: the own replica has no tick, or the copy is the raised knowledge.
 use Rattle.results.proofs.Opened.{raise_opened}
 use Rattle.edit.proofs.Changing.{raised_copy}
-use borrow.Author.Rules.{rules}
 use Rattle.edit.proofs.raise_own.Goals as goal
 
 pub returns-then-before-eq0 : goal.returns-then-before-eq0

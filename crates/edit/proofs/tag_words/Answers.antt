@@ -1,6 +1,5 @@
 -- `edit::tag_words` meets its contract: two words of 8 bytes are the number of 16.
 use Rattle.edit.proofs.Changing.{tag_is}
-use borrow.Author.Rules.{rules}
 use Rattle.edit.proofs.tag_words.Goals as goal
 
 pub returns : goal.returns

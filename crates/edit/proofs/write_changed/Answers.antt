@@ -6,8 +6,6 @@ use Rattle.codec.proofs.Writing.{zeros-length}
 use Rattle.results.specs.MethodOpened.{limits_of}
 use Rattle.store_write.proofs.Closing.{store_room_lem, close_store}
 use Rattle.edit.proofs.Changing.{change_11, change_inside}
-use borrow.Author.Rules.{rules}
-use Rattle.edit.proofs.write_changed.Reads as reads
 use Rattle.edit.proofs.write_changed.Goals as goal
 
 pub returns-then-one_too_many : goal.returns-then-one_too_many

@@ -1,11 +1,9 @@
 -- `filling::add_ids` meets its contract. The loop's invariant: the columns of the keys that are left are still to be added.
-use native.Mathlib.Omega.{arith}
 use Prim.Native.Nat.{◌+◌, ◌-◌, ◌*◌, ◌^◌, ◌≤◌, ◌<◌}
-use mathlib.Core.Path.{◌≡◌, refl}
-use lib.ListN.{length, length-set}
+use mathlib.Core.Path.{◌≡◌}
+use lib.ListN.{length}
 use Rattle.layout.specs.MethodPlaces.{ids_place}
 use Rattle.sampling.specs.MethodColumns.{columns_of, mapped_from, mapped}
-use Rattle.sampling.proofs.Columns.{map-starts, map-ends, map_next}
 use Rattle.filling.proofs.add_ids.Given as goal
 
 abbrev pub invariant-loop-key : goal.invariant-loop-key

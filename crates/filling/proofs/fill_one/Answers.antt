@@ -1,10 +1,8 @@
 -- `filling::fill_one` meets its contract: the table of one knowledge where all fits; or nothing.
-use native.Mathlib.Omega.{arith}
 use Prim.Native.Nat.{◌+◌}
 use mathlib.Core.Path.{◌∙◌}
 use lib.ListN.{length}
 use Rattle.sampling.proofs.Tables.{fits_tells, none_put, one_none, one_some}
-use borrow.Author.Rules.{rules}
 use Rattle.filling.proofs.fill_one.Goals as goal
 
 pub filled_one-requires : goal.filled_one-requires

@@ -4,7 +4,6 @@ use Prim.Native.Nat.{◌+◌}
 use mathlib.Core.Path.{◌∙◌}
 use lib.ListN.{length}
 use Rattle.sampling.proofs.Tables.{fits_tells, fits_fewer, none_put, raised_none, raised_some, raised_put}
-use borrow.Author.Rules.{rules}
 use Rattle.filling.proofs.fill_raised.Goals as goal
 
 pub filled_one-q-requires : goal.filled_one-q-requires

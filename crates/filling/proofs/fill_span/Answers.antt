@@ -4,7 +4,6 @@ use Prim.Native.Nat.{◌+◌}
 use mathlib.Core.Path.{refl, ◌∙◌}
 use lib.ListN.{length}
 use Rattle.sampling.proofs.Tables.{fits_tells, none_put, span_none, span_some, span_put}
-use borrow.Author.Rules.{rules}
 use Rattle.filling.proofs.fill_span.Goals as goal
 
 pub slice_bounds-add_ids-end : goal.slice_bounds-add_ids-end

@@ -1,10 +1,8 @@
 -- `filling::fill_two` meets its contract: the table of two knowledges where both fit; or nothing.
-use native.Mathlib.Omega.{arith}
 use Prim.Native.Nat.{◌+◌}
 use mathlib.Core.Path.{◌∙◌}
 use lib.ListN.{length}
 use Rattle.sampling.proofs.Tables.{fits_tells, none_put, two_none, two_no_second, two_some}
-use borrow.Author.Rules.{rules}
 use Rattle.filling.proofs.fill_two.Goals as goal
 
 pub filled_two-requires : goal.filled_two-requires

@@ -3,7 +3,6 @@ use native.Mathlib.Omega.{arith}
 use mathlib.Core.Path.{refl, ap, ◌∙◌}
 use lib.ListN.{length}
 use Rattle.sampling.proofs.Tables.{in_length, one_put}
-use borrow.Author.Rules.{rules}
 use Rattle.filling.proofs.filled_one.Goals as goal
 
 pub slice_bounds-add_ids-end : goal.slice_bounds-add_ids-end

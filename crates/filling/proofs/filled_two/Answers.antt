@@ -2,7 +2,6 @@
 use native.Mathlib.Omega.{arith}
 use mathlib.Core.Path.{refl}
 use Rattle.sampling.proofs.Tables.{two_put}
-use borrow.Author.Rules.{rules}
 use Rattle.filling.proofs.filled_two.Goals as goal
 
 pub slice_bounds-add_ids-end : goal.slice_bounds-add_ids-end

@@ -1,11 +1,9 @@
 -- `filling::find_id` meets its contract. The loop's invariant: the column is looked for among those that are left.
-use native.Mathlib.Omega.{arith}
 use Prim.Native.Nat.{◌-◌, ◌*◌, ◌≤◌}
-use mathlib.Core.Path.{◌≡◌, refl}
+use mathlib.Core.Path.{◌≡◌}
 use lib.ListN.{length}
 use Rattle.codec.specs.Words.{words2}
 use Rattle.sampling.specs.MethodColumns.{find_from, column_of}
-use Rattle.sampling.proofs.Columns.{find_starts, find_here, find_next, find_ends}
 use Rattle.filling.proofs.find_id.Given as goal
 
 abbrev pub invariant-loop-column : goal.invariant-loop-column

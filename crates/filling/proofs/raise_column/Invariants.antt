@@ -1,11 +1,9 @@
 -- `filling::raise_column` meets its contract. The loop's invariant: the column is still to be set in the rows that are left.
-use native.Mathlib.Omega.{arith}
 use Prim.Native.Nat.{suc, ◌+◌, ◌-◌, ◌*◌, ◌^◌, ◌≤◌, ◌<◌}
-use mathlib.Core.Path.{◌≡◌, refl}
-use lib.ListN.{length, length-set}
+use mathlib.Core.Path.{◌≡◌}
+use lib.ListN.{length}
 use Rattle.tables.specs.MethodWords.{stride}
 use Rattle.sampling.specs.MethodCells.{column_set_from, column_set}
-use Rattle.sampling.proofs.Filling.{set-starts, set-ends, set_next}
 use Rattle.filling.proofs.raise_column.Given as goal
 
 abbrev pub invariant-loop-k : goal.invariant-loop-k

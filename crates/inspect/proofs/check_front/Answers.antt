@@ -5,7 +5,6 @@ use lib.ListN.{length-take}
 use Rattle.layout.specs.Knowledge.{basic}
 use Rattle.layout.specs.Parse.{checked_by}
 use Rattle.layout.proofs.Prefix.{prefix_base}
-use borrow.Author.Rules.{rules}
 use Rattle.inspect.proofs.check_front.Goals as goal
 
 pub slice_bounds-check-end : goal.slice_bounds-check-end

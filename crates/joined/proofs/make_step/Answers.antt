@@ -1,6 +1,5 @@
 -- `joined::make_step` meets its contract: the equations are those of the C function, and by them it makes the call of a list.
 use Rattle.joined.proofs.Steps.{called_of, make_called}
-use borrow.Author.Rules.{rules}
 use Rattle.joined.proofs.make_step.Goals as goal
 
 pub returns : goal.returns

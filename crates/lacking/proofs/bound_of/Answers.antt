@@ -1,5 +1,4 @@
 -- `lacking::bound_of` meets its contract: the bound is three words.
-use borrow.Author.Rules.{rules}
 use Rattle.leaves.proofs.Part.{part_is}
 use Rattle.lacking.proofs.Cells.{bound_none, bound_above, bound_inside}
 use native.Mathlib.Omega.{arith}

@@ -1,8 +1,8 @@
 -- `lacking::clear` meets its contract. The loop's invariant: the cells up to here are 0.
 use Prim.Native.Nat.{◌-◌}
-use mathlib.Core.Path.{◌≡◌, refl}
-use lib.ListN.{length, length-set}
-use Rattle.lacking.proofs.Cells.{Cleared, cleared_none, cleared_more, cleared_all}
+use mathlib.Core.Path.{refl}
+use lib.ListN.{length-set}
+use Rattle.lacking.proofs.Cells.{cleared_none, cleared_more, cleared_all}
 use native.Mathlib.Omega.{arith}
 use Rattle.lacking.proofs.clear.Goals as goal
 

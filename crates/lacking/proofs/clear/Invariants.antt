@@ -1,9 +1,8 @@
 -- `lacking::clear` meets its contract. The loop's invariant: the cells up to here are 0.
 use Prim.Native.Nat.{◌-◌}
-use mathlib.Core.Path.{◌≡◌, refl}
-use lib.ListN.{length, length-set}
-use Rattle.lacking.proofs.Cells.{Cleared, cleared_none, cleared_more, cleared_all}
-use native.Mathlib.Omega.{arith}
+use mathlib.Core.Path.{◌≡◌}
+use lib.ListN.{length}
+use Rattle.lacking.proofs.Cells.{Cleared}
 use Rattle.lacking.proofs.clear.Given as goal
 
 abbrev pub invariant-loop-k : goal.invariant-loop-k

@@ -1,10 +1,8 @@
 -- `lacking::keys_of` meets its contract. The loop's invariant: the keys of the ids up to here.
-use Prim.Native.Nat.{◌+◌, ◌-◌, ◌*◌, ◌≤◌}
+use Prim.Native.Nat.{◌-◌}
 use mathlib.Core.Path.{◌≡◌, refl}
-use lib.ListN.{length, length-set}
-use Rattle.layout.specs.MethodPlaces.{ids_place}
+use lib.ListN.{length-set}
 use Rattle.leaves.proofs.Part.{part_is}
-use Rattle.lacking.specs.Method.{Keyed}
 use Rattle.lacking.proofs.Cells.{keyed_none, keyed_more}
 use native.Mathlib.Omega.{arith}
 use Rattle.lacking.proofs.keys_of.Goals as goal

@@ -1,12 +1,9 @@
 -- `lacking::keys_of` meets its contract. The loop's invariant: the keys of the ids up to here.
 use Prim.Native.Nat.{◌+◌, ◌-◌, ◌*◌, ◌≤◌}
-use mathlib.Core.Path.{◌≡◌, refl}
-use lib.ListN.{length, length-set}
+use mathlib.Core.Path.{◌≡◌}
+use lib.ListN.{length}
 use Rattle.layout.specs.MethodPlaces.{ids_place}
-use Rattle.leaves.proofs.Part.{part_is}
 use Rattle.lacking.specs.Method.{Keyed}
-use Rattle.lacking.proofs.Cells.{keyed_none, keyed_more}
-use native.Mathlib.Omega.{arith}
 use Rattle.lacking.proofs.keys_of.Given as goal
 
 abbrev pub invariant-loop-key : goal.invariant-loop-key

@@ -1,13 +1,6 @@
 -- `lacking::least_lacking` meets its contract. The loop's invariant: the whole answer is the answer from the least id so far
 -- and the elements that are left.
-use Prim.Native.Nat.{◌+◌, ◌-◌, ◌*◌, ◌≤◌}
-use mathlib.Core.Path.{◌≡◌}
-use mathlib.Core.Option.{none}
-use lib.ListN.{length}
-use Rattle.layout.specs.Decode.{elements_at}
-use Rattle.ticks.specs.MethodRows.{least_of}
-use Rattle.lookup.specs.Method.{elements_here}
-use Rattle.lacking.specs.Method.{id_from, level_of, least_id}
+use Prim.Native.Nat.{◌-◌}
 use Rattle.lacking.proofs.Cells.{least_none_above, least_nothing, least_begins, least_next, least_end}
 use native.Mathlib.Omega.{arith}
 use Rattle.lacking.proofs.least_lacking.Goals as goal

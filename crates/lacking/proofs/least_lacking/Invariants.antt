@@ -8,8 +8,6 @@ use Rattle.layout.specs.Decode.{elements_at}
 use Rattle.ticks.specs.MethodRows.{least_of}
 use Rattle.lookup.specs.Method.{elements_here}
 use Rattle.lacking.specs.Method.{id_from, level_of, least_id}
-use Rattle.lacking.proofs.Cells.{least_none_above, least_nothing, least_begins, least_next, least_end}
-use native.Mathlib.Omega.{arith}
 use Rattle.lacking.proofs.least_lacking.Given as goal
 
 abbrev pub invariant-loop-i : goal.invariant-loop-i

@@ -1,5 +1,4 @@
 -- `lacking::least_with` meets its contract: an element whose tick is above the level of its key is compared with the least so far.
-use borrow.Author.Rules.{rules}
 use Rattle.leaves.proofs.Part.{part_is}
 use Rattle.lacking.proofs.Cells.{with_not_above, with_above}
 use native.Mathlib.Omega.{arith}

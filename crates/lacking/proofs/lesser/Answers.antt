@@ -1,6 +1,5 @@
 -- `lacking::lesser` meets its contract: what was best stays unless the new id is below it.
 use Rattle.lacking.proofs.Cells.{lesser_nothing, lesser_new, lesser_old}
-use native.Mathlib.Omega.{arith}
 use Rattle.lacking.proofs.lesser.Goals as goal
 
 pub returns-in_default : goal.returns-in_default

@@ -1,6 +1,5 @@
 -- `lacking::nearer` meets its contract: the stop that is below the other.
 use Rattle.lacking.proofs.Cells.{nearer_second, nearer_first, nearer_less, nearer_not}
-use native.Mathlib.Omega.{arith}
 use Rattle.lacking.proofs.nearer.Goals as goal
 
 pub returns-in_default : goal.returns-in_default

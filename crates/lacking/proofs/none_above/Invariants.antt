@@ -1,16 +1,12 @@
 -- `lacking::none_above` meets its contract. The loop's invariant: what lacks among all elements is what lacks among those that are left.
 use Prim.Native.Nat.{◌+◌, ◌-◌, ◌*◌, ◌≤◌}
-use mathlib.Core.Path.{◌≡◌, sym}
-use mathlib.Core.Bool.{true≢false}
+use mathlib.Core.Path.{◌≡◌}
 use mathlib.Core.Option.{none}
 use lib.ListN.{length}
 use Rattle.layout.specs.Decode.{elements_at}
 use Rattle.ticks.specs.MethodRows.{least_of}
 use Rattle.lookup.specs.Method.{elements_here}
-use Rattle.leaves.proofs.Part.{part_is}
 use Rattle.lacking.specs.Method.{id_from, level_of}
-use Rattle.lacking.proofs.Cells.{none_above_empty, none_above_begins, none_above_next, none_above_all}
-use native.Mathlib.Omega.{arith}
 use Rattle.lacking.proofs.none_above.Given as goal
 
 abbrev pub invariant-loop-i : goal.invariant-loop-i

@@ -1,12 +1,11 @@
 -- `lacking::walk` meets its contract. The loop's invariant: the whole answer is the one from the item on to which both cursors have
 -- come, and the row is the first one's there.
 use Prim.Native.Nat.{◌+◌}
-use mathlib.Core.Path.{◌≡◌, refl}
+use mathlib.Core.Path.{◌≡◌}
 use lib.ListN.{length}
 use Rattle.codec.specs.Ids.{item_of}
 use Rattle.lacking.specs.Method.{walk_by}
-use Rattle.lacking.proofs.Walking.{Walks, walk_starts, walk_whole, walk_here, walk_past, walk_on, walk_less}
-use native.Mathlib.Omega.{arith}
+use Rattle.lacking.proofs.Walking.{Walks}
 use Rattle.lacking.proofs.walk.Given as goal
 
 abbrev pub invariant-loop-p : goal.invariant-loop-p

@@ -1,14 +1,10 @@
 -- `lacking::write_row` meets its contract. The loop's invariant: the row has the ticks of the elements from here on.
 use Prim.Native.Nat.{◌+◌, ◌-◌, ◌*◌, ◌≤◌}
-use mathlib.Core.Path.{◌≡◌, refl}
-use mathlib.Core.Logic.{⊎_elim}
+use mathlib.Core.Path.{◌≡◌}
 use lib.ListN.{length}
 use Rattle.layout.specs.Decode.{elements_at}
 use Rattle.lookup.specs.Method.{There}
-use Rattle.leaves.proofs.Part.{part_is}
 use Rattle.lacking.specs.Method.{RowOf}
-use Rattle.lacking.proofs.Cells.{row_nothing, row_whole, row_begins, Put, put-set, put_skip}
-use native.Mathlib.Omega.{arith}
 use Rattle.lacking.proofs.write_row.Given as goal
 
 abbrev pub invariant-loop-left : goal.invariant-loop-left

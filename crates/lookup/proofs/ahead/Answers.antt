@@ -1,5 +1,4 @@
 -- `lookup::ahead` meets its contract: the difference of two numbers below 2^63 fits.
-use borrow.Author.Rules.{rules}
 use Rattle.lookup.proofs.Calls.{difference_fits, difference_exact}
 use Rattle.lookup.proofs.ahead.Goals as goal
 

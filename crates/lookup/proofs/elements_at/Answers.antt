@@ -1,5 +1,4 @@
 -- `lookup::elements_at` meets its contract: the count is that of the bytes where the elements are all there, and else 0.
-use borrow.Author.Rules.{rules}
 use native.Mathlib.Omega.{arith}
 use Rattle.leaves.proofs.Part.{part_is}
 use Rattle.lookup.proofs.Loops.{there_none, there_short, there_all}

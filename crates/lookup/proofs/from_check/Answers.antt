@@ -1,5 +1,4 @@
 -- `lookup::from_check` meets its contract, in each of the check's two answers.
-use borrow.Author.Rules.{rules}
 use Rattle.lookup.proofs.Calls.{opened_at, opened_refused}
 use Rattle.lookup.proofs.from_check.Goals as goal
 

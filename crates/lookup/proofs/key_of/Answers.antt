@@ -1,13 +1,7 @@
 -- `lookup::key_of` meets its contract. The loop's invariant: the place of the id among all ids is the key and the place
 -- among those that are left.
-use Prim.Native.Nat.{◌+◌, ◌-◌, ◌*◌, ◌≤◌}
-use mathlib.Core.Path.{◌≡◌}
+use Prim.Native.Nat.{◌-◌}
 use native.Mathlib.Omega.{arith}
-use lib.ListN.{length}
-use Rattle.codec.specs.Ids.{replica_of}
-use Rattle.layout.specs.Decode.{ids_at}
-use Rattle.layout.specs.MethodPlaces.{ids_place}
-use Rattle.ticks.specs.Meaning.{place}
 use Rattle.leaves.proofs.Compare.{same_part}
 use Rattle.lookup.proofs.Loops.{ids_all, ids_found, ids_next, ids_none, key_short, key_there}
 use Rattle.lookup.proofs.key_of.Goals as goal

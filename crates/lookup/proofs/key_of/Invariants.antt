@@ -2,14 +2,11 @@
 -- among those that are left.
 use Prim.Native.Nat.{◌+◌, ◌-◌, ◌*◌, ◌≤◌}
 use mathlib.Core.Path.{◌≡◌}
-use native.Mathlib.Omega.{arith}
 use lib.ListN.{length}
 use Rattle.codec.specs.Ids.{replica_of}
 use Rattle.layout.specs.Decode.{ids_at}
 use Rattle.layout.specs.MethodPlaces.{ids_place}
 use Rattle.ticks.specs.Meaning.{place}
-use Rattle.leaves.proofs.Compare.{same_part}
-use Rattle.lookup.proofs.Loops.{ids_all, ids_found, ids_next, ids_none, key_short, key_there}
 use Rattle.lookup.proofs.key_of.Given as goal
 
 abbrev pub invariant-loop-key : goal.invariant-loop-key

@@ -1,5 +1,4 @@
 -- `lookup::open_within` meets its contract: it opens what the check answers.
-use borrow.Author.Rules.{rules}
 use Rattle.layout.specs.Permitted.{rules_within}
 use Rattle.lookup.proofs.Calls.{checked_opens}
 use Rattle.lookup.proofs.open_within.Goals as goal

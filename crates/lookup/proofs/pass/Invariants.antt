@@ -1,15 +1,11 @@
 -- `lookup::pass` meets its contract. The loop's invariant: the cursor past all ranges is the cursor past those that are
 -- left.
 use Prim.Native.Nat.{◌+◌, ◌*◌, ◌≤◌}
-use mathlib.Core.Path.{◌≡◌, refl}
-use borrow.Author.Rules.{rules}
-use native.Mathlib.Omega.{arith}
+use mathlib.Core.Path.{◌≡◌}
 use lib.ListN.{length}
 use Rattle.codec.specs.Ids.{item_of}
-use Rattle.leaves.proofs.Compare.{below_part}
-use Rattle.leaves.proofs.Part.{part_is}
 use Rattle.lookup.specs.Method.{passed}
-use Rattle.lookup.proofs.Loops.{cursor, pass_stop, pass_on, pass_end}
+use Rattle.lookup.proofs.Loops.{cursor}
 use Rattle.lookup.proofs.pass.Given as goal
 
 abbrev pub invariant-loop-left : goal.invariant-loop-left

@@ -1,6 +1,5 @@
 -- `lookup::start` meets its contract: the places are those that the sizes give.
 use Rattle.lookup.proofs.Calls.{start_is}
-use native.Mathlib.Omega.{arith}
 use Rattle.lookup.proofs.start.Goals as goal
 
 pub returns : goal.returns

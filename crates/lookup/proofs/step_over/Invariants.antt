@@ -1,13 +1,9 @@
 -- `lookup::step_over` meets its contract. The loop's invariant: the place after all vectors is the place after those that
 -- are left.
 use Prim.Native.Nat.{◌+◌, ◌-◌, ◌≤◌}
-use mathlib.Core.Path.{◌≡◌, sym}
-use borrow.Author.Rules.{rules}
-use native.Mathlib.Omega.{arith}
+use mathlib.Core.Path.{◌≡◌}
 use lib.ListN.{length}
-use Rattle.leaves.proofs.Part.{part_is}
 use Rattle.lookup.specs.Method.{stepped}
-use Rattle.lookup.proofs.Loops.{stepped_stop, stepped_all, step_stop, step_on, step_end}
 use Rattle.lookup.proofs.step_over.Given as goal
 
 abbrev pub invariant-loop-i : goal.invariant-loop-i

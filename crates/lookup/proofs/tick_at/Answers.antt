@@ -1,7 +1,6 @@
 -- `lookup::tick_at` meets its contract. The elements that were counted are all there, so the one whose index is the key is there too
 -- where the key is below their number; it has the key, or the search finds what the definition says.
 use native.Mathlib.Omega.{arith}
-use borrow.Author.Rules.{rules}
 use Rattle.leaves.proofs.Part.{part_is}
 use Rattle.lookup.proofs.Loops.{tick_beyond, tick_guessed, tick_other}
 use Rattle.lookup.proofs.tick_at.Goals as goal

@@ -1,12 +1,7 @@
 -- `lookup::tick_scan` meets its contract. The loop's invariant: the tick of the key in the vector is its tick among the
 -- elements that are left.
-use Prim.Native.Nat.{◌+◌, ◌-◌, ◌*◌, ◌≤◌}
-use mathlib.Core.Path.{◌≡◌}
-use borrow.Author.Rules.{rules}
+use Prim.Native.Nat.{◌-◌}
 use native.Mathlib.Omega.{arith}
-use lib.ListN.{length}
-use Rattle.layout.specs.Decode.{elements_at}
-use Rattle.ticks.specs.Meaning.{tick_at}
 use Rattle.leaves.proofs.Part.{part_is}
 use Rattle.lookup.proofs.Loops.{elements_all, elements_found, elements_next, elements_none, tick_is, tick_nothing}
 use Rattle.lookup.proofs.tick_scan.Goals as goal

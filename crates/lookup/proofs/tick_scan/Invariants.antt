@@ -2,13 +2,9 @@
 -- elements that are left.
 use Prim.Native.Nat.{◌+◌, ◌-◌, ◌*◌, ◌≤◌}
 use mathlib.Core.Path.{◌≡◌}
-use borrow.Author.Rules.{rules}
-use native.Mathlib.Omega.{arith}
 use lib.ListN.{length}
 use Rattle.layout.specs.Decode.{elements_at}
 use Rattle.ticks.specs.Meaning.{tick_at}
-use Rattle.leaves.proofs.Part.{part_is}
-use Rattle.lookup.proofs.Loops.{elements_all, elements_found, elements_next, elements_none, tick_is, tick_nothing}
 use Rattle.lookup.proofs.tick_scan.Given as goal
 
 abbrev pub invariant-loop-i : goal.invariant-loop-i

@@ -1,5 +1,4 @@
 -- `lookup::vector_place` meets its contract, onwards from the vector whose place is known and from the first one on.
-use native.Mathlib.Omega.{arith}
 use Rattle.lookup.proofs.Loops.{from_here, from_first_lem}
 use Rattle.lookup.proofs.vector_place.Goals as goal
 

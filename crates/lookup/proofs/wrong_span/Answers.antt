@@ -1,6 +1,5 @@
 -- `lookup::wrong_span` meets its contract: test by test.
 use Rattle.lookup.proofs.Span.{wrong_first, wrong_last, wrong_order}
-use borrow.Author.Rules.{rules}
 use Rattle.lookup.proofs.wrong_span.Goals as goal
 
 pub returns-then-first-ne24 : goal.returns-then-first-ne24

@@ -1,8 +1,5 @@
 -- `lookup_ranges::alike` meets its contract. The loop's invariant: the whole answer is the answer for the ranges that are left.
-use Prim.Native.Nat.{◌+◌, ◌*◌, ◌≤◌}
-use mathlib.Core.Path.{◌≡◌, refl}
-use lib.ListN.{length}
-use Rattle.lookup_ranges.specs.Method.{alike_by}
+use mathlib.Core.Path.{refl}
 use Rattle.lookup_ranges.proofs.Ranges.{alike_short, alike_there, alike_next, alike_stop, alike_end}
 use native.Mathlib.Omega.{arith}
 use Rattle.lookup_ranges.proofs.alike.Goals as goal

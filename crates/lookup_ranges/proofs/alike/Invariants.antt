@@ -1,10 +1,8 @@
 -- `lookup_ranges::alike` meets its contract. The loop's invariant: the whole answer is the answer for the ranges that are left.
 use Prim.Native.Nat.{◌+◌, ◌*◌, ◌≤◌}
-use mathlib.Core.Path.{◌≡◌, refl}
+use mathlib.Core.Path.{◌≡◌}
 use lib.ListN.{length}
 use Rattle.lookup_ranges.specs.Method.{alike_by}
-use Rattle.lookup_ranges.proofs.Ranges.{alike_short, alike_there, alike_next, alike_stop, alike_end}
-use native.Mathlib.Omega.{arith}
 use Rattle.lookup_ranges.proofs.alike.Given as goal
 
 abbrev pub invariant-loop-left : goal.invariant-loop-left

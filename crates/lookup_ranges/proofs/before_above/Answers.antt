@@ -1,7 +1,6 @@
 -- `lookup_ranges::before_above` meets its contract: the lowest word that is not 0 is one less, and those below it are full.
 use mathlib.Core.Bool.{false}
 use Rattle.lookup_ranges.proofs.Outside.{before_low, before_middle, before_high, before_none}
-use native.Mathlib.Omega.{arith}
 use Rattle.lookup_ranges.proofs.before_above.Goals as goal
 
 pub returns-then-b-ne0 : goal.returns-then-b-ne0

@@ -1,9 +1,5 @@
 -- `lookup_ranges::inside` meets its contract. The loop's invariant: the whole answer is the answer for the ranges that are left.
-use Prim.Native.Nat.{◌+◌, ◌*◌, ◌≤◌}
-use mathlib.Core.Path.{◌≡◌, refl}
-use lib.ListN.{length}
-use Rattle.codec.specs.Ids.{item_of}
-use Rattle.lookup_ranges.specs.Method.{inside_by}
+use mathlib.Core.Path.{refl}
 use Rattle.lookup_ranges.proofs.Outside.{inside_short, inside_there, inside_next, inside_stop, inside_end}
 use native.Mathlib.Omega.{arith}
 use Rattle.lookup_ranges.proofs.inside.Goals as goal

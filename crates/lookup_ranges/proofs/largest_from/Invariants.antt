@@ -1,11 +1,9 @@
 -- `lookup_ranges::largest_from` meets its contract. The loop's invariant: the largest tick of all ranges is that of the largest so far
 -- and those that are left.
 use Prim.Native.Nat.{◌+◌, ◌*◌, ◌≤◌}
-use mathlib.Core.Path.{◌≡◌, refl}
+use mathlib.Core.Path.{◌≡◌}
 use lib.ListN.{length}
 use Rattle.lookup_ranges.specs.Method.{top_by}
-use Rattle.lookup_ranges.proofs.Ranges.{tops_short, tops_there, tops_next, tops_end}
-use native.Mathlib.Omega.{arith}
 use Rattle.lookup_ranges.proofs.largest_from.Given as goal
 
 abbrev pub invariant-loop-left : goal.invariant-loop-left

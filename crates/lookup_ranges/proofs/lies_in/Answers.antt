@@ -1,6 +1,5 @@
 -- `lookup_ranges::lies_in` meets its contract: by the index, the bound and the end of the range.
 use Rattle.lookup_ranges.proofs.Outside.{lies_nothing, lies_below, lies_past, lies_inside}
-use native.Mathlib.Omega.{arith}
 use Rattle.lookup_ranges.proofs.lies_in.Goals as goal
 
 pub returns-then-four-eq0 : goal.returns-then-four-eq0

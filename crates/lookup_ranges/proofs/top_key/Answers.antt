@@ -1,9 +1,6 @@
 -- `lookup_ranges::top_key` meets its contract. The loop's invariant: the key's largest tick of all ranges is that of the largest so far
 -- and those that are left.
-use Prim.Native.Nat.{◌+◌, ◌*◌, ◌≤◌}
-use mathlib.Core.Path.{◌≡◌, refl}
-use lib.ListN.{length}
-use Rattle.lookup_ranges.specs.Method.{top_key_by}
+use mathlib.Core.Path.{refl}
 use Rattle.lookup_ranges.proofs.Ranges.{keys_short, keys_there, keys_next, keys_end}
 use native.Mathlib.Omega.{arith}
 use Rattle.lookup_ranges.proofs.top_key.Goals as goal

@@ -1,11 +1,6 @@
 -- `lookup_ranges::top_of` meets its contract. The loop's invariant: the largest tick of all elements is that of the largest so far
 -- and those that are left.
-use Prim.Native.Nat.{◌+◌, ◌-◌, ◌*◌, ◌≤◌}
-use mathlib.Core.Path.{◌≡◌}
-use lib.ListN.{length}
-use Rattle.layout.specs.Decode.{elements_at}
-use Rattle.ticks.specs.MethodRows.{top_tick}
-use Rattle.lookup.specs.Method.{elements_here}
+use Prim.Native.Nat.{◌-◌}
 use Rattle.lookup_ranges.proofs.Ranges.{top_nothing, top_begins, top_next, top_end}
 use native.Mathlib.Omega.{arith}
 use Rattle.lookup_ranges.proofs.top_of.Goals as goal

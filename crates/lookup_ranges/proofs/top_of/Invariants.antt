@@ -6,8 +6,6 @@ use lib.ListN.{length}
 use Rattle.layout.specs.Decode.{elements_at}
 use Rattle.ticks.specs.MethodRows.{top_tick}
 use Rattle.lookup.specs.Method.{elements_here}
-use Rattle.lookup_ranges.proofs.Ranges.{top_nothing, top_begins, top_next, top_end}
-use native.Mathlib.Omega.{arith}
 use Rattle.lookup_ranges.proofs.top_of.Given as goal
 
 abbrev pub invariant-loop-i : goal.invariant-loop-i

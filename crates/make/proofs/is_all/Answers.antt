@@ -1,6 +1,5 @@
 -- `make::is_all` meets its contract: the first id is 0, and the last the highest.
 use Rattle.make.proofs.Learned.{not_first, from_first_lem}
-use borrow.Author.Rules.{rules}
 use Rattle.make.proofs.is_all.Goals as goal
 
 pub returns-then-same3 : goal.returns-then-same3

@@ -2,7 +2,6 @@
 use Rattle.layout.specs.Knowledge.{any_id}
 use Rattle.replication.specs.Calls.{make_reply}
 use Rattle.store_write.proofs.Storing.{ended_base}
-use borrow.Author.Rules.{rules}
 use Rattle.make.proofs.make.Goals as goal
 
 pub returns-clause-value : goal.returns-clause-value

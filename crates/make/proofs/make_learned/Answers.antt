@@ -6,7 +6,6 @@ use Rattle.results.specs.MethodOpened.{limits_of}
 use Rattle.store_write.proofs.ClosingBatch.{batch_room_lem, close_batch}
 use Rattle.make.specs.Method.{made_of}
 use Rattle.make.proofs.Batches.{made_inside}
-use borrow.Author.Rules.{rules}
 use Rattle.make.proofs.make_learned.Goals as goal
 
 pub returns : goal.returns

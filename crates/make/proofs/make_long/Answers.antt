@@ -2,7 +2,6 @@
 use native.Mathlib.Omega.{arith}
 use Rattle.codec.proofs.Writing.{zeros-length}
 use Rattle.make.proofs.Batches.{longest_knowledge, needed_inside, needed_counted, needed_given, needed_refused_long}
-use borrow.Author.Rules.{rules}
 use Rattle.make.proofs.make_long.Goals as goal
 
 pub slice_bounds-long-end : goal.slice_bounds-long-end

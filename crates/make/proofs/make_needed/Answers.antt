@@ -1,6 +1,5 @@
 -- `make::make_needed` meets its contract: the given knowledge is needed where it is in normal form, and else its normal form.
 use Rattle.make.proofs.Batches.{needed_normal_lem}
-use borrow.Author.Rules.{rules}
 use Rattle.make.proofs.make_needed.Goals as goal
 
 pub make_learned-requires : goal.make_learned-requires

@@ -2,7 +2,6 @@
 use native.Mathlib.Omega.{arith}
 use Rattle.codec.proofs.Writing.{zeros-length}
 use Rattle.make.proofs.Batches.{needed_inside, needed_counted, needed_given, needed_refused}
-use borrow.Author.Rules.{rules}
 use Rattle.make.proofs.make_normalised.Goals as goal
 
 pub slice_bounds-short-end : goal.slice_bounds-short-end

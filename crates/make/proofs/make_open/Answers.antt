@@ -1,7 +1,6 @@
 -- `make::make_open` meets its contract: 17 for the span, or the batch of the parts that the inputs give.
 use mathlib.Core.Path.{refl, sym, ◌∙◌}
 use Rattle.make.proofs.Steps.{make_no_span, parts, make_ends}
-use borrow.Author.Rules.{rules}
 use Rattle.make.proofs.make_open.Goals as goal
 
 pub returns-then-wrong_span : goal.returns-then-wrong_span

@@ -2,7 +2,6 @@
 use native.Mathlib.Omega.{arith}
 use Rattle.codec.specs.Number.{Bytes}
 use Rattle.make.proofs.Steps.{make_not_store, make_not_read, make_inputs}
-use borrow.Author.Rules.{rules}
 use Rattle.make.proofs.make_within.Goals as goal
 
 pub returns-in_default : goal.returns-in_default

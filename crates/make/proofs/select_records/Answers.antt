@@ -1,5 +1,4 @@
 -- `make::select_records` meets its contract: the records of the span that the given knowledge lacks.
-use borrow.Author.Rules.{rules}
 use Rattle.make.proofs.select_records.Goals as goal
 
 pub returns-clause-count_value : goal.returns-clause-count_value

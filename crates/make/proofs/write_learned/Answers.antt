@@ -1,6 +1,5 @@
 -- `make::write_learned` meets its contract: a copy where the span is all ids, and else the projection.
 use Rattle.make.proofs.Learned.{learned_copied, learned_projected}
-use borrow.Author.Rules.{rules}
 use Rattle.make.proofs.write_learned.Goals as goal
 
 pub returns-then-is_all : goal.returns-then-is_all

@@ -1,7 +1,6 @@
 -- `operations::merge` meets its contract: document 01's limits are those of its two numbers.
 use Rattle.ticks.specs.Calls.{merge_reply}
 use Rattle.operations.proofs.Replies.{ended_basic}
-use borrow.Author.Rules.{rules}
 use Rattle.operations.proofs.merge.Goals as goal
 
 pub returns-clause-value : goal.returns-clause-value

@@ -9,7 +9,6 @@ use Rattle.ticks.proofs.ForCode.{refusing}
 use Rattle.lookup.proofs.Calls.{opens_within, refuses_within}
 use Rattle.loading.proofs.Closing.{merge_second_lem}
 use Rattle.operations.proofs.Replies.{merge_says}
-use borrow.Author.Rules.{rules}
 use Rattle.operations.proofs.merge_second.Goals as goal
 
 pub returns-in-At : goal.returns-in-At

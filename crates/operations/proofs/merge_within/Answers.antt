@@ -7,7 +7,6 @@ use Rattle.ticks.specs.Calls.{merge_reply}
 use Rattle.ticks.proofs.ForCode.{refusing}
 use Rattle.lookup.proofs.Calls.{opens_within, refuses_within}
 use Rattle.loading.proofs.Closing.{merge_first}
-use borrow.Author.Rules.{rules}
 use Rattle.operations.proofs.merge_within.Goals as goal
 
 pub merge_second-requires : goal.merge_second-requires

@@ -1,5 +1,4 @@
 -- `operations::normalise` meets its contract: document 01's limits are those of its two numbers.
-use borrow.Author.Rules.{rules}
 use Rattle.ticks.specs.Calls.{normalise_reply}
 use Rattle.operations.proofs.Replies.{ended_basic}
 use Rattle.operations.proofs.normalise.Goals as goal

@@ -8,7 +8,6 @@ use Rattle.ticks.proofs.ForCode.{refusing}
 use Rattle.lookup.proofs.Calls.{opens_within, refuses_within}
 use Rattle.loading.proofs.Closing.{normalise_refused}
 use Rattle.operations.proofs.Replies.{normalise_says}
-use borrow.Author.Rules.{rules}
 use Rattle.operations.proofs.normalise_within.Goals as goal
 
 pub returns-in-At : goal.returns-in-At

@@ -1,7 +1,6 @@
 -- `operations::project` meets its contract: document 01's limits are those of its two numbers.
 use Rattle.ticks.specs.Calls.{project_reply}
 use Rattle.operations.proofs.Replies.{ended_basic}
-use borrow.Author.Rules.{rules}
 use Rattle.operations.proofs.project.Goals as goal
 
 pub returns-clause-value : goal.returns-clause-value

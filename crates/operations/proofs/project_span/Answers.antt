@@ -7,7 +7,6 @@ use Rattle.ticks.specs.Calls.{project_reply}
 use Rattle.loading.proofs.Closing.{project_span}
 use Rattle.sampling.proofs.Opening.{opened_read}
 use Rattle.operations.proofs.Replies.{project_says}
-use borrow.Author.Rules.{rules}
 use Rattle.operations.proofs.project_span.Goals as goal
 
 pub returns-then-wrong_span : goal.returns-then-wrong_span

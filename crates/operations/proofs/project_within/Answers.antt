@@ -7,7 +7,6 @@ use Rattle.ticks.specs.Calls.{project_reply}
 use Rattle.ticks.proofs.ForCode.{refusing}
 use Rattle.lookup.proofs.Calls.{opens_within, refuses_within}
 use Rattle.loading.proofs.Closing.{project_refused}
-use borrow.Author.Rules.{rules}
 use Rattle.operations.proofs.project_within.Goals as goal
 
 pub project_span-requires : goal.project_span-requires

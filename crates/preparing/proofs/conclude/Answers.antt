@@ -2,7 +2,6 @@
 use native.Mathlib.Omega.{arith}
 use Rattle.layout.specs.Permitted.{rules_within}
 use Rattle.preparing.proofs.Ends.{end_few, end_many}
-use borrow.Author.Rules.{rules}
 use Rattle.preparing.proofs.conclude.Goals as goal
 
 pub returns-then-q : goal.returns-then-q

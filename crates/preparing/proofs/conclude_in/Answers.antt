@@ -1,7 +1,6 @@
 -- `preparing::conclude_in` meets its contract: the end goes by what planning has left in the lists.
 use Rattle.layout.specs.Permitted.{rules_within}
 use Rattle.preparing.proofs.Ends.{end_planned}
-use borrow.Author.Rules.{rules}
 use Rattle.preparing.proofs.conclude_in.Goals as goal
 
 pub returns : goal.returns

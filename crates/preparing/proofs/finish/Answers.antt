@@ -1,6 +1,5 @@
 -- `preparing::finish` meets its contract, in both cases of what was made ready.
 use Rattle.preparing.proofs.Ends.{finished_ready, finished_refused}
-use borrow.Author.Rules.{rules}
 use Rattle.preparing.proofs.finish.Goals as goal
 
 pub returns-in-Ready : goal.returns-in-Ready

@@ -2,7 +2,6 @@
 use native.Mathlib.Omega.{arith}
 use Rattle.layout.specs.Permitted.{rules_within}
 use Rattle.preparing.proofs.Judged.{judged_11, judged_12, judged_ready}
-use borrow.Author.Rules.{rules}
 use Rattle.preparing.proofs.judge.Goals as goal
 
 pub returns-then-clamp-z : goal.returns-then-clamp-z

@@ -1,7 +1,6 @@
 -- `preparing::prepare` meets its contract: the plan of a table is judged by the limits.
 use Rattle.layout.specs.Permitted.{rules_within}
 use Rattle.preparing.proofs.Judged.{planned_is}
-use borrow.Author.Rules.{rules}
 use Rattle.preparing.proofs.prepare.Goals as goal
 
 pub returns : goal.returns

@@ -1,7 +1,6 @@
 -- `preparing::put` meets its contract: a buffer that is too short stays, and else the table is written.
 use native.Mathlib.Omega.{arith}
 use Rattle.preparing.proofs.Ends.{end_short, end_written}
-use borrow.Author.Rules.{rules}
 use Rattle.preparing.proofs.put.Goals as goal
 
 pub returns-then-out-n : goal.returns-then-out-n

@@ -2,7 +2,6 @@
 use native.Mathlib.Omega.{arith}
 use mathlib.Core.Path.{◌∙◌}
 use Rattle.sampling.proofs.Tables.{in_rows_lem, in_bounds, in_is}
-use borrow.Author.Rules.{rules}
 use Rattle.raising.proofs.fill.Goals as goal
 
 pub returns-then-top-ge-ROWS : goal.returns-then-top-ge-ROWS

@@ -1,10 +1,9 @@
 -- `raising::fill_rows` meets its contract. The loop's invariant: the rows that are left are still to be raised, from the cursor on.
 use native.Mathlib.Omega.{arith}
-use Prim.Native.Nat.{suc, ◌+◌, ◌-◌, ◌*◌, ◌^◌, ◌≤◌, ◌<◌}
-use mathlib.Core.Path.{◌≡◌, ap, ◌∙◌}
+use Prim.Native.Nat.{◌-◌}
+use mathlib.Core.Path.{ap, ◌∙◌}
 use lib.ListN.{length}
 use Rattle.tables.specs.MethodWords.{bound_at}
-use Rattle.sampling.specs.MethodCells.{filled_from, filled}
 use Rattle.sampling.proofs.Filling.{fill_starts, fill_ends, fill_next, filled-length}
 use Rattle.raising.proofs.fill_rows.Goals as goal
 

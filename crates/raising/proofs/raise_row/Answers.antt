@@ -3,9 +3,7 @@ use native.Mathlib.Omega.{arith}
 use Prim.Native.Nat.{◌-◌}
 use mathlib.Core.Path.{ap, ◌∙◌}
 use lib.ListN.{length}
-use Rattle.lookup.specs.Method.{elements_here}
-use Rattle.sampling.specs.MethodCells.{raised_by}
-use Rattle.sampling.proofs.Cells.{by_size, Rest, rest_starts, rest_ends, rest_next}
+use Rattle.sampling.proofs.Cells.{by_size, rest_starts, rest_ends, rest_next}
 use Rattle.raising.proofs.raise_row.Goals as goal
 
 pub loop-i-init : goal.loop-i-init

@@ -1,11 +1,8 @@
 -- `raising::raise_row` meets its contract. The loop's invariant: the whole row is what the elements that are left raise.
-use native.Mathlib.Omega.{arith}
 use Prim.Native.Nat.{◌-◌}
-use mathlib.Core.Path.{ap, ◌∙◌}
-use lib.ListN.{length}
 use Rattle.lookup.specs.Method.{elements_here}
 use Rattle.sampling.specs.MethodCells.{raised_by}
-use Rattle.sampling.proofs.Cells.{by_size, Rest, rest_starts, rest_ends, rest_next}
+use Rattle.sampling.proofs.Cells.{Rest}
 use Rattle.raising.proofs.raise_row.Given as goal
 
 abbrev pub invariant-loop-i : goal.invariant-loop-i

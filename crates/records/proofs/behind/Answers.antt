@@ -1,7 +1,6 @@
 -- `records::behind` meets its contract: the place and the length of the record there.
 use native.Mathlib.Omega.{arith}
 use Rattle.records.proofs.Fields.{length_most, behind_past, behind_added}
-use borrow.Author.Rules.{rules}
 use Rattle.records.proofs.behind.Goals as goal
 
 pub returns-then-s-at : goal.returns-then-s-at

@@ -1,6 +1,5 @@
 -- `records::has_item` meets its contract: the words read are those of the item.
 use Rattle.records.proofs.Finding.{same_item}
-use borrow.Author.Rules.{rules}
 use Rattle.records.proofs.has_item.Goals as goal
 
 pub returns : goal.returns

@@ -1,12 +1,7 @@
 -- `records::in_order` meets its contract. The loop's invariant: the check of all records is the check of those that are left, above
 -- the last item, and these take all bytes that are left.
-use Prim.Native.Nat.{◌+◌, ◌*◌}
-use mathlib.Core.Path.{◌≡◌}
 use native.Mathlib.Omega.{arith}
 use borrow.Author.Tests.{not-true, not-false}
-use lib.ListN.{length}
-use Rattle.replication.specs.MethodRecords.{shaped_at}
-use Rattle.records.specs.Method.{common_length, least}
 use Rattle.records.proofs.Lengths.{left-length, left_whole, left_next}
 use Rattle.records.proofs.Shape.{shape_all, shape_end, shape_stop, shape_low, shape_invalid, shape_on}
 use Rattle.records.proofs.in_order.Goals as goal

@@ -2,13 +2,9 @@
 -- the last item, and these take all bytes that are left.
 use Prim.Native.Nat.{◌+◌, ◌*◌}
 use mathlib.Core.Path.{◌≡◌}
-use native.Mathlib.Omega.{arith}
-use borrow.Author.Tests.{not-true, not-false}
 use lib.ListN.{length}
 use Rattle.replication.specs.MethodRecords.{shaped_at}
 use Rattle.records.specs.Method.{common_length, least}
-use Rattle.records.proofs.Lengths.{left-length, left_whole, left_next}
-use Rattle.records.proofs.Shape.{shape_all, shape_end, shape_stop, shape_low, shape_invalid, shape_on}
 use Rattle.records.proofs.in_order.Given as goal
 
 abbrev pub invariant-loop-left : goal.invariant-loop-left

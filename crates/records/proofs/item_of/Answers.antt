@@ -1,7 +1,6 @@
 -- `records::item_of` meets its contract: the words are read where all bytes of the item are there.
 use native.Mathlib.Omega.{arith}
 use Rattle.records.proofs.Fields.{item_total, item_missing}
-use borrow.Author.Rules.{rules}
 use Rattle.records.proofs.item_of.Goals as goal
 
 pub returns-then-beyond : goal.returns-then-beyond

@@ -2,7 +2,6 @@
 use native.Mathlib.Omega.{arith}
 use Rattle.leaves.proofs.Part.{part_is}
 use Rattle.records.proofs.Fields.{item_read_lem}
-use borrow.Author.Rules.{rules}
 use Rattle.records.proofs.item_there.Goals as goal
 
 pub returns : goal.returns

@@ -1,7 +1,6 @@
 -- `records::length_at` meets its contract: the kind has a length, and so many bytes are left.
 use native.Mathlib.Omega.{arith}
 use Rattle.records.proofs.Fields.{length-past, length_cut, length-there}
-use borrow.Author.Rules.{rules}
 use Rattle.records.proofs.length_at.Goals as goal
 
 pub returns-then-s-at : goal.returns-then-s-at

@@ -1,11 +1,8 @@
 -- `records::place_of` meets its contract. The loop's invariant: the place of the item's record among all records is the one among those
 -- that are left.
 use Prim.Native.Nat.{◌-◌}
-use lib.ListN.{length}
-use mathlib.Core.Path.{◌≡◌, refl}
+use mathlib.Core.Path.{refl}
 use native.Mathlib.Omega.{arith}
-use Rattle.codec.specs.Words.{words3}
-use Rattle.replication.specs.Queries.{places, place_of}
 use Rattle.records.proofs.Finding.{length-at, length-inside, search_past, search_end, search_found, search_on}
 use Rattle.records.proofs.place_of.Goals as goal
 

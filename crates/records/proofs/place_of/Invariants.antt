@@ -2,11 +2,9 @@
 -- that are left.
 use Prim.Native.Nat.{◌-◌}
 use lib.ListN.{length}
-use mathlib.Core.Path.{◌≡◌, refl}
-use native.Mathlib.Omega.{arith}
+use mathlib.Core.Path.{◌≡◌}
 use Rattle.codec.specs.Words.{words3}
 use Rattle.replication.specs.Queries.{places, place_of}
-use Rattle.records.proofs.Finding.{length-at, length-inside, search_past, search_end, search_found, search_on}
 use Rattle.records.proofs.place_of.Given as goal
 
 abbrev pub invariant-loop-p : goal.invariant-loop-p

@@ -2,7 +2,6 @@
 use native.Mathlib.Omega.{arith}
 use Rattle.leaves.proofs.Part.{part_is}
 use Rattle.records.proofs.Fields.{replica_total, replica_missing}
-use borrow.Author.Rules.{rules}
 use Rattle.records.proofs.replica_at.Goals as goal
 
 pub returns-then-beyond : goal.returns-then-beyond

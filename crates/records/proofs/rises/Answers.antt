@@ -1,6 +1,5 @@
 -- `records::rises` meets its contract: an item above the last one is at least the one after it.
 use Rattle.records.proofs.Shape.{rises_above, rises_first}
-use borrow.Author.Rules.{rules}
 use Rattle.records.proofs.rises.Goals as goal
 
 pub returns-then-any : goal.returns-then-any

@@ -1,7 +1,6 @@
 -- `records::shaped` meets its contract: bytes of another length hold no such table, and then the records are looked at.
 use native.Mathlib.Omega.{arith}
 use Rattle.records.proofs.Lengths.{table_past, table_other}
-use borrow.Author.Rules.{rules}
 use Rattle.records.proofs.shaped.Goals as goal
 
 pub returns-then-s-at : goal.returns-then-s-at

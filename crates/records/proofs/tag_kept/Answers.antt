@@ -2,7 +2,6 @@
 use native.Mathlib.Omega.{arith}
 use Rattle.leaves.proofs.Part.{part_is}
 use Rattle.records.proofs.Shape.{tag_live, tag_dead}
-use borrow.Author.Rules.{rules}
 use Rattle.records.proofs.tag_kept.Goals as goal
 
 pub returns-then-kind-eq2 : goal.returns-then-kind-eq2

@@ -4,7 +4,6 @@ use mathlib.Core.Path.{sym}
 use Rattle.codec.proofs.Total.{read_missing}
 use Rattle.leaves.proofs.Part.{part_is}
 use Rattle.records.proofs.Fields.{tick_total}
-use borrow.Author.Rules.{rules}
 use Rattle.records.proofs.tick_at.Goals as goal
 
 pub returns-then-beyond : goal.returns-then-beyond

@@ -2,7 +2,6 @@
 use native.Mathlib.Omega.{arith}
 use Rattle.leaves.proofs.Part.{part_is}
 use Rattle.records.proofs.Shape.{valid-zero, valid_later, valid_large, valid_tag}
-use borrow.Author.Rules.{rules}
 use Rattle.records.proofs.valid.Goals as goal
 
 pub returns-then-create-lt1 : goal.returns-then-create-lt1

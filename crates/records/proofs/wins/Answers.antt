@@ -1,6 +1,5 @@
 -- `records::wins` meets its contract: ticks that differ decide, else the replicas.
 use Rattle.records.proofs.Fields.{wins_by_tick, wins_by_replica}
-use borrow.Author.Rules.{rules}
 use Rattle.records.proofs.wins.Goals as goal
 
 pub returns-then-mine-theirs : goal.returns-then-mine-theirs

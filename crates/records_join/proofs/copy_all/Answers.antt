@@ -2,11 +2,10 @@
 -- it. The loop ends behind the last address, or where a record has no room: there no later one has.
 use Prim.Native.Nat.{◌-◌}
 use mathlib.Core.Path.{refl, ap, ◌∙◌}
-use mathlib.Core.Logic.{⊎_elim}
 use native.Mathlib.Omega.{arith}
 use lib.ListN.{length}
 use Rattle.codec.proofs.Writing.{placed-length}
-use Rattle.records_join.proofs.Runs.{Pending, copied_empty, pending_none, pending_longer, pending_begun, pending_end, pending_full}
+use Rattle.records_join.proofs.Runs.{copied_empty, pending_none, pending_longer, pending_begun, pending_end, pending_full}
 use Rattle.records_join.proofs.copy_all.Goals as goal
 use Rattle.records_join.proofs.copy_all.Goals.{then-goes_on, else-goes_on, else-loop-i-test, then-loop-i-test+then-beyond}
 

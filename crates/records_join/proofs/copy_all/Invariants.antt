@@ -1,12 +1,8 @@
 -- `records_join::copy_all` meets its contract. The loop's invariant: copying all is writing the pending run and copying what is left behind
 -- it. The loop ends behind the last address, or where a record has no room: there no later one has.
 use Prim.Native.Nat.{◌-◌}
-use mathlib.Core.Path.{refl, ap, ◌∙◌}
-use mathlib.Core.Logic.{⊎_elim}
-use native.Mathlib.Omega.{arith}
 use lib.ListN.{length}
-use Rattle.codec.proofs.Writing.{placed-length}
-use Rattle.records_join.proofs.Runs.{Pending, copied_empty, pending_none, pending_longer, pending_begun, pending_end, pending_full}
+use Rattle.records_join.proofs.Runs.{Pending}
 use Rattle.records_join.proofs.copy_all.Given as goal
 
 abbrev pub invariant-loop-i : goal.invariant-loop-i

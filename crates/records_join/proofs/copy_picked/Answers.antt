@@ -1,8 +1,7 @@
 -- `records_join::copy_picked` meets its contract: past the end of the output nothing is written, and the first n of fewer addresses are all.
 use mathlib.Core.Path.{sym, ◌∙◌}
-use mathlib.Core.Logic.{⊎_elim, inl, inr}
+use mathlib.Core.Logic.{inl, inr}
 use native.Mathlib.Omega.{arith}
-use borrow.Author.Rules.{rules}
 use Rattle.records_join.proofs.Copies.{copied_past}
 use Rattle.records_join.proofs.Runs.{first_copied}
 use Rattle.records_join.proofs.copy_picked.Goals as goal

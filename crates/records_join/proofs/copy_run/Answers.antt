@@ -1,7 +1,6 @@
 -- `records_join::copy_run` meets its contract: an address is a place of the first bytes or of the second.
 use mathlib.Core.Path.{sym, ap, ◌∙◌}
 use native.Mathlib.Omega.{arith}
-use borrow.Author.Rules.{rules}
 use Rattle.codec.specs.Part.{placed}
 use Rattle.records_join.proofs.Runs.{run_first, run_later}
 use Rattle.records_join.proofs.copy_run.Goals as goal

@@ -1,10 +1,9 @@
 -- `records_join::join` meets its contract. The loop's invariant: what is counted and stored so far, with what is left to join from the present
 -- places on, is the whole. The measure is the bytes that are left on both sides.
-use mathlib.Core.Path.{◌≡◌, refl}
+use mathlib.Core.Path.{◌≡◌}
 use Prim.Native.Nat.{◌+◌, ◌-◌}
-use native.Mathlib.Omega.{arith}
 use lib.ListN.{length}
-use Rattle.records_join.proofs.Steps.{Joining, joining_all, count_end, size_end, chosen_end, joining_more, joining_room, joining_less}
+use Rattle.records_join.proofs.Steps.{Joining}
 use Rattle.records_join.proofs.join.Given as goal
 
 abbrev pub invariant-loop-r : goal.invariant-loop-r

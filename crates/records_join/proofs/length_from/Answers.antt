@@ -1,7 +1,6 @@
 -- `records_join::length_from` meets its contract: an address is a place of the first bytes or of the second.
 use mathlib.Core.Path.{sym, ◌∙◌}
 use native.Mathlib.Omega.{arith}
-use borrow.Author.Rules.{rules}
 use Rattle.replication.specs.Queries.{length_at}
 use Rattle.records_join.proofs.Addresses.{at_first, at_later}
 use Rattle.records_join.proofs.length_from.Goals as goal

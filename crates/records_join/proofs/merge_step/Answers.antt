@@ -1,6 +1,5 @@
 -- `records_join::merge_step` meets its contract: where one table has ended, the other's record is next.
 use native.Mathlib.Omega.{arith}
-use borrow.Author.Rules.{rules}
 use Rattle.records.proofs.Finding.{length-inside}
 use Rattle.records_join.proofs.Steps.{steps_none, steps_first, steps_second}
 use Rattle.records_join.proofs.merge_step.Goals as goal

@@ -1,5 +1,4 @@
 -- `records_join::merge_step_both` meets its contract: the tests are those of the join, on the items as the records have them.
-use borrow.Author.Rules.{rules}
 use borrow.Author.Tests.{not-true, not-false}
 use Rattle.records_join.proofs.Steps.{steps_left, steps_right, steps_theirs, steps_mine}
 use Rattle.records_join.proofs.merge_step_both.Goals as goal

@@ -1,5 +1,4 @@
 -- `records_join::put` meets its contract: past the end of the list nothing is stored.
-use borrow.Author.Rules.{rules}
 use Rattle.records_join.proofs.Steps.{put_past}
 use Rattle.records_join.proofs.put.Goals as goal
 

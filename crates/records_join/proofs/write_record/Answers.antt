@@ -1,7 +1,6 @@
 -- `records_join::write_record` meets its contract: without room nothing is written; with it, the fields one after the other.
 use native.Mathlib.Omega.{arith}
 use Rattle.records_join.proofs.Written.{record_out, record_wrote}
-use borrow.Author.Rules.{rules}
 use Rattle.records_join.proofs.write_record.Goals as goal
 
 pub returns-then-beyond : goal.returns-then-beyond

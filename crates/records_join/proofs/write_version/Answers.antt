@@ -1,6 +1,5 @@
 -- `records_join::write_version` meets its contract: the tick stands behind the replica.
 use Rattle.records_join.proofs.Written.{version_wrote}
-use borrow.Author.Rules.{rules}
 use Rattle.records_join.proofs.write_version.Goals as goal
 
 pub returns : goal.returns

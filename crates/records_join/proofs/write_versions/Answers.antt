@@ -1,6 +1,5 @@
 -- `records_join::write_versions` meets its contract: the create version stands behind the change version.
 use Rattle.records_join.proofs.Written.{versions_wrote}
-use borrow.Author.Rules.{rules}
 use Rattle.records_join.proofs.write_versions.Goals as goal
 
 pub returns : goal.returns

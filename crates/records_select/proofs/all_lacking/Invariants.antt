@@ -1,11 +1,10 @@
 -- `records_select::all_lacking` meets its contract. The loop's invariant: what is counted and stored so far, with what is left to select from the
 -- present place and cursor on, is the whole. The measure is the bytes that are left.
-use mathlib.Core.Path.{◌≡◌, refl}
+use mathlib.Core.Path.{◌≡◌}
 use Prim.Native.Nat.{◌-◌}
-use native.Mathlib.Omega.{arith}
 use lib.ListN.{length}
 use Rattle.codec.specs.Ids.{item_of}
-use Rattle.records_select.proofs.Picking.{Selecting, selecting_all, count_end, size_end, picks_end, pick_inside, selecting_more, selecting_less, selecting_room}
+use Rattle.records_select.proofs.Picking.{Selecting}
 use Rattle.records_select.proofs.all_lacking.Given as goal
 
 abbrev pub invariant-loop-last : goal.invariant-loop-last

@@ -1,14 +1,10 @@
 -- `records_select::from_first` meets its contract. The loop's invariant: what is skipped from the first place on is what is skipped from the present
 -- place on. The measure is the bytes that are left.
-use mathlib.Core.Path.{◌≡◌, refl}
+use mathlib.Core.Path.{refl}
 use Prim.Native.Nat.{◌-◌}
 use native.Mathlib.Omega.{arith}
-use lib.ListN.{length}
 use borrow.Author.Tests.{not-true, not-false}
-use Rattle.codec.specs.Ids.{item_of}
-use Rattle.replication.specs.Queries.{places}
 use Rattle.records.proofs.Finding.{length-inside}
-use Rattle.records_select.specs.MethodSelect.{from_first}
 use Rattle.records_select.proofs.Picking.{less_left, skip_end, skip_stop, skip_on}
 use Rattle.records_select.proofs.from_first.Goals as goal
 

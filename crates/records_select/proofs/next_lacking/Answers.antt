@@ -2,11 +2,9 @@
 -- present place on, with the cursor as it was moved on. The measure is the bytes that are left.
 use Prim.Native.Nat.{◌-◌}
 use native.Mathlib.Omega.{arith}
-use lib.ListN.{length}
 use borrow.Author.Tests.{not-true, not-false}
-use Rattle.codec.specs.Ids.{item_of}
 use Rattle.records.proofs.Finding.{length-inside}
-use Rattle.records_select.proofs.Picking.{less_left, Passed, passed_none, pick_end, pick_past, pick_taken, pick_on}
+use Rattle.records_select.proofs.Picking.{less_left, passed_none, pick_end, pick_past, pick_taken, pick_on}
 use Rattle.records_select.proofs.next_lacking.Goals as goal
 
 pub loop-last-init : goal.loop-last-init

@@ -1,5 +1,4 @@
 -- `records_select::select` meets its contract: what is selected behind the places that are skipped is the whole selection.
-use borrow.Author.Rules.{rules}
 use Rattle.records_select.proofs.Picking.{select_count, select_size, select_picks}
 use Rattle.records_select.proofs.select.Goals as goal
 

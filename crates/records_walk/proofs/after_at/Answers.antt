@@ -1,7 +1,6 @@
 -- `records_walk::after_at` meets its contract: where no record stands its length is 0.
 use native.Mathlib.Omega.{arith}
 use Rattle.records_walk.proofs.Given.{after_fits, after_added, later_added}
-use borrow.Author.Rules.{rules}
 use Rattle.records_walk.proofs.after_at.Goals as goal
 
 pub overflow_add-result : goal.overflow_add-result

@@ -4,7 +4,6 @@ use Prim.Native.Nat.{ℕ, ◌+◌}
 use native.Mathlib.Omega.{arith}
 use Rattle.records.proofs.Finding.{length-inside}
 use Rattle.records_walk.proofs.Given.{part_none, start_none, part_some, start_some}
-use borrow.Author.Rules.{rules}
 use Rattle.records_walk.proofs.part_at.Goals as goal
 
 pub returns-then-n-eq0 : goal.returns-then-n-eq0

@@ -1,7 +1,6 @@
 -- `results::merge_opened` meets its contract: it works in the scratch for the last row that the table may have.
 use Rattle.results.specs.declared.Size.TheVariants as Z
 use Rattle.results.proofs.Opened.{merged_sized}
-use borrow.Author.Rules.{rules}
 use Rattle.results.proofs.merge_opened.Goals as goal
 
 pub returns-in-Small : goal.returns-in-Small

@@ -1,6 +1,5 @@
 -- `results::normalise_in` meets its contract: the end of the table that was filled.
 use Rattle.results.proofs.Opened.{end_filled}
-use borrow.Author.Rules.{rules}
 use Rattle.results.proofs.normalise_in.Goals as goal
 
 pub returns : goal.returns

@@ -1,6 +1,5 @@
 -- `results::normalise_opened` meets its contract: a copy of what is in normal form, and else what is written from a table.
 use Rattle.results.proofs.Copied.{normalised_copied, normalised_by_table}
-use borrow.Author.Rules.{rules}
 use Rattle.results.proofs.normalise_opened.Goals as goal
 
 pub returns-then-normal_opened : goal.returns-then-normal_opened

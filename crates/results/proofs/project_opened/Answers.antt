@@ -1,7 +1,6 @@
 -- `results::project_opened` meets its contract: it works in the scratch for the last row that the table may have.
 use Rattle.results.specs.declared.Size.TheVariants as Z
 use Rattle.results.proofs.Opened.{projected_sized}
-use borrow.Author.Rules.{rules}
 use Rattle.results.proofs.project_opened.Goals as goal
 
 pub returns-in-Small : goal.returns-in-Small

@@ -1,7 +1,6 @@
 -- `results::raise_opened` meets its contract: it works in the scratch for the last row that the table may have.
 use Rattle.results.specs.declared.Size.TheVariants as Z
 use Rattle.results.proofs.Opened.{raised_sized}
-use borrow.Author.Rules.{rules}
 use Rattle.results.proofs.raise_opened.Goals as goal
 
 pub returns-in-Small : goal.returns-in-Small

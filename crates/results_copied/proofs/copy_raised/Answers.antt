@@ -1,7 +1,6 @@
 -- `results_copied::copy_raised` meets its contract: 14, or the copy with the tick written over in each vector.
 use mathlib.Core.Path.{refl}
 use Rattle.results_copied.proofs.Loops.{copied_short, copied_raised}
-use borrow.Author.Rules.{rules}
 use Rattle.results_copied.proofs.copy_raised.Goals as goal
 
 pub returns-then-out-n : goal.returns-then-out-n

@@ -1,6 +1,5 @@
 -- `results_copied::copy_whole` meets its contract: 14, or all bytes at the front.
 use Rattle.results_copied.proofs.Whole.{whole_short, whole_copied}
-use borrow.Author.Rules.{rules}
 use Rattle.results_copied.proofs.copy_whole.Goals as goal
 
 pub returns-then-out-n : goal.returns-then-out-n

@@ -1,13 +1,11 @@
 -- `results_copied::write_first` meets its contract. The loop's invariant: writing among all elements is writing among those that are left.
-use Prim.Native.Nat.{◌+◌, ◌-◌}
-use mathlib.Core.Path.{◌≡◌, refl, ap, ◌∙◌}
+use Prim.Native.Nat.{◌-◌}
+use mathlib.Core.Path.{refl, ap, ◌∙◌}
 use native.Mathlib.Omega.{arith}
 use lib.ListN.{length}
 use Rattle.codec.proofs.Writing.{placed-length}
-use Rattle.layout.specs.Decode.{elements_at}
 use Rattle.leaves.proofs.Part.{part_is}
-use Rattle.results_copied.specs.MethodRaised.{first_written}
-use Rattle.results_copied.proofs.Loops.{left_from, first_start, first_found, first_on, first_end, there_inside}
+use Rattle.results_copied.proofs.Loops.{first_start, first_found, first_on, first_end, there_inside}
 use Rattle.results_copied.proofs.write_first.Goals as goal
 
 pub loop-i-init : goal.loop-i-init

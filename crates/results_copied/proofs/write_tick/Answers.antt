@@ -3,7 +3,6 @@
 use native.Mathlib.Omega.{arith}
 use Rattle.leaves.proofs.Part.{part_is}
 use Rattle.results_copied.proofs.Loops.{there_inside, written_beyond, written_other, written_guessed}
-use borrow.Author.Rules.{rules}
 use Rattle.results_copied.proofs.write_tick.Goals as goal
 
 pub returns-then-n-guess : goal.returns-then-n-guess

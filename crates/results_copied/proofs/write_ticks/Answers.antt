@@ -1,10 +1,9 @@
 -- `results_copied::write_ticks` meets its contract. The loop's invariant: writing in all vectors is writing in those that are left; a place is at
 -- most 8 bytes a vector past the end of the bytes.
-use Prim.Native.Nat.{◌+◌, ◌-◌, ◌*◌, ◌≤◌}
-use mathlib.Core.Path.{◌≡◌, refl, ap, ◌∙◌}
+use Prim.Native.Nat.{◌-◌}
+use mathlib.Core.Path.{refl, ap, ◌∙◌}
 use native.Mathlib.Omega.{arith}
 use lib.ListN.{length}
-use Rattle.results_copied.specs.MethodRaised.{vectors_written}
 use Rattle.results_copied.proofs.Overwritten.{vector-length}
 use Rattle.results_copied.proofs.Loops.{vectors_start, vectors_on, vectors_end, there_next}
 use Rattle.results_copied.proofs.write_ticks.Goals as goal

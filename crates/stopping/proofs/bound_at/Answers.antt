@@ -1,5 +1,4 @@
 -- `stopping::bound_at` meets its contract: the bound is three words.
-use native.Mathlib.Omega.{arith}
 use Rattle.sampling.proofs.Bounds.{bound_read}
 use Rattle.stopping.proofs.bound_at.Goals as goal
 

@@ -1,10 +1,7 @@
 -- `stopping::stops` meets its contract. The loop's invariant: the rows are still to be put at the bounds that are left.
 use native.Mathlib.Omega.{arith}
-use Prim.Native.Nat.{◌+◌, ◌-◌, ◌≤◌}
-use mathlib.Core.Path.{◌≡◌, refl, ◌∙◌}
-use lib.ListN.{length}
-use Rattle.codec.specs.Ids.{item_of}
-use Rattle.sampling.specs.MethodRows.{rows_of, stopped_from}
+use Prim.Native.Nat.{◌-◌}
+use mathlib.Core.Path.{refl, ◌∙◌}
 use Rattle.sampling.proofs.Bounds.{stop_starts, stop_ends, stop_last, stop_next, stop_whole}
 use Rattle.stopping.proofs.stops.Goals as goal
 

@@ -1,6 +1,5 @@
 -- `store_headers::write_batch_header` meets its contract: without room nothing is written; with it, the fields one behind the other.
 use Rattle.store_headers.proofs.Headers.{batch_head_short, batch_head_wrote}
-use borrow.Author.Rules.{rules}
 use Rattle.store_headers.proofs.write_batch_header.Goals as goal
 
 pub returns-then-out-lt-BATCH : goal.returns-then-out-lt-BATCH

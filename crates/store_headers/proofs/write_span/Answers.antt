@@ -1,7 +1,6 @@
 -- `store_headers::write_span` meets its contract: one id behind the other.
 use native.Mathlib.Omega.{arith}
 use Rattle.store_headers.proofs.Headers.{both_wrote}
-use borrow.Author.Rules.{rules}
 use Rattle.store_headers.proofs.write_span.Goals as goal
 
 pub returns : goal.returns

@@ -1,6 +1,5 @@
 -- `store_headers::write_store_header` meets its contract: without room nothing is written; with it, the fields one behind the other.
 use Rattle.store_headers.proofs.Headers.{store_head_short, store_head_wrote}
-use borrow.Author.Rules.{rules}
 use Rattle.store_headers.proofs.write_store_header.Goals as goal
 
 pub returns-then-out-lt-STORE : goal.returns-then-out-lt-STORE

@@ -1,7 +1,6 @@
 -- `store_open::asked_by` meets its contract: the create version is asked only where the change version is there, and only where it does not
 -- follow.
 use native.Mathlib.Omega.{arith}
-use borrow.Author.Rules.{rules}
 use borrow.Author.Tests.{not-true, not-false}
 use Rattle.leaves.proofs.Part.{part_is}
 use Rattle.store_open.proofs.Asked.{asked_lacking, asked_none, asked_create, asked_same}

@@ -3,7 +3,6 @@ use native.Mathlib.Omega.{arith}
 use Rattle.layout.specs.Permitted.{within}
 use Rattle.store_open.proofs.Judged.{normal_open}
 use Rattle.store_open.proofs.Batch.{batch_room_lem, batch_ordered, batch_learned_lem, batch_outside, batch_lacks, batch_valid}
-use borrow.Author.Rules.{rules}
 use borrow.Author.Tests.{not-true, not-false}
 use Rattle.store_open.proofs.batch_learned.Goals as goal
 

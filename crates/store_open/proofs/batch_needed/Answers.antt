@@ -1,6 +1,5 @@
 -- `store_open::batch_needed` meets its contract: the check of the needed knowledge, and then that of the learned one.
 use Rattle.store_open.proofs.Batch.{batch_needed_lem}
-use borrow.Author.Rules.{rules}
 use Rattle.store_open.proofs.batch_needed.Goals as goal
 
 pub returns-in_default : goal.returns-in_default

@@ -1,6 +1,5 @@
 -- `store_open::below` meets its contract: the first words that differ decide.
 use native.Mathlib.Omega.{arith}
-use borrow.Author.Rules.{rules}
 use Rattle.codec.specs.Number.{Bytes}
 use Rattle.leaves.proofs.Compare.{bound_first, bound_second, bound_third}
 use Rattle.leaves.proofs.Part.{part_is}

@@ -1,6 +1,5 @@
 -- `store_open::each_asked` meets its contract: the slots and the table are filled, and then the records are looked at.
 use native.Mathlib.Omega.{arith}
-use borrow.Author.Rules.{rules}
 use mathlib.Core.Path.{sym}
 use lib.Seq.{length-take-le}
 use Rattle.store_open.proofs.Keys.{ids_once}

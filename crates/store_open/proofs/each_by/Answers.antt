@@ -3,9 +3,7 @@
 use native.Mathlib.Omega.{arith}
 use mathlib.Core.Path.{sym, ◌∙◌}
 use borrow.Author.Tests.{not-true, not-false}
-use Rattle.layout.specs.Decode.{decode}
-use Rattle.records_versions.proofs.Passing.{follows_whole, Passes, passes_start, passes_end, passes_stop, passes_on}
-use Rattle.store_open.specs.MethodEach.{asked}
+use Rattle.records_versions.proofs.Passing.{follows_whole, passes_start, passes_end, passes_stop, passes_on}
 use Rattle.store_open.proofs.Keys.{ids_once}
 use Rattle.store_open.proofs.Places.{cursor_at}
 use Rattle.store_open.proofs.Asked.{follows_asked}

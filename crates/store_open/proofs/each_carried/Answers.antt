@@ -1,5 +1,4 @@
 -- `store_open::each_carried` meets its contract: learned is asked first, and then needed.
-use borrow.Author.Rules.{rules}
 use borrow.Author.Tests.{not-true, not-false}
 use Rattle.store_open.proofs.Asked.{carried_yes, carried_no}
 use Rattle.store_open.proofs.each_carried.Goals as goal

@@ -1,5 +1,4 @@
 -- `store_open::each_contained` meets its contract: it asks for both versions.
-use borrow.Author.Rules.{rules}
 use Rattle.store_open.proofs.Asked.{asked_contained}
 use Rattle.store_open.proofs.each_contained.Goals as goal
 

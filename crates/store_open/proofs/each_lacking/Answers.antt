@@ -1,5 +1,4 @@
 -- `store_open::each_lacking` meets its contract: it asks that the change version is lacking.
-use borrow.Author.Rules.{rules}
 use Rattle.store_open.proofs.Asked.{asked_each_lacking}
 use Rattle.store_open.proofs.each_lacking.Goals as goal
 

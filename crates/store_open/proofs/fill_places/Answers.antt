@@ -1,9 +1,9 @@
 -- `store_open::fill_places` meets its contract. The loop's invariant: the table has the places of the vectors so far, and the next one is known.
 use native.Mathlib.Omega.{arith}
 use Prim.Native.Nat.{◌-◌}
-use mathlib.Core.Path.{◌≡◌, refl}
-use lib.ListN.{length, length-set}
-use Rattle.store_open.proofs.Places.{Filling, filling_start, filling_on, filling_end}
+use mathlib.Core.Path.{refl}
+use lib.ListN.{length-set}
+use Rattle.store_open.proofs.Places.{filling_start, filling_on, filling_end}
 use Rattle.store_open.proofs.fill_places.Goals as goal
 
 pub loop-j-init : goal.loop-j-init

@@ -1,9 +1,8 @@
 -- `store_open::fill_slots` meets its contract: whatever is written, the slots stay as many.
 use native.Mathlib.Omega.{arith}
-use Prim.Native.Nat.{◌+◌, ◌-◌, ◌*◌, ◌≤◌}
-use mathlib.Core.Path.{◌≡◌, refl}
-use lib.ListN.{length, length-set}
-use Rattle.layout.specs.MethodPlaces.{ids_place}
+use Prim.Native.Nat.{◌-◌}
+use mathlib.Core.Path.{refl}
+use lib.ListN.{length-set}
 use Rattle.store_open.proofs.fill_slots.Goals as goal
 
 pub loop-key-init : goal.loop-key-init

@@ -1,8 +1,7 @@
 -- `store_open::fill_slots` meets its contract: whatever is written, the slots stay as many.
-use native.Mathlib.Omega.{arith}
 use Prim.Native.Nat.{◌+◌, ◌-◌, ◌*◌, ◌≤◌}
-use mathlib.Core.Path.{◌≡◌, refl}
-use lib.ListN.{length, length-set}
+use mathlib.Core.Path.{◌≡◌}
+use lib.ListN.{length}
 use Rattle.layout.specs.MethodPlaces.{ids_place}
 use Rattle.store_open.proofs.fill_slots.Given as goal
 

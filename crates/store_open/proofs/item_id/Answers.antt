@@ -1,5 +1,4 @@
 -- `store_open::item_id` meets its contract: an id is its three words.
-use borrow.Author.Rules.{rules}
 use native.Mathlib.Omega.{arith}
 use Rattle.leaves.proofs.Part.{part_is}
 use Rattle.records.proofs.Fields.{item_read_lem}

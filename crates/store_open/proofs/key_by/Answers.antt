@@ -1,6 +1,5 @@
 -- `store_open::key_by` meets its contract: a guess is taken where its id is the one.
 use native.Mathlib.Omega.{arith}
-use borrow.Author.Rules.{rules}
 use Rattle.leaves.proofs.Compare.{same_part}
 use Rattle.store_open.proofs.Keys.{guess_is}
 use Rattle.store_open.proofs.key_by.Goals as goal

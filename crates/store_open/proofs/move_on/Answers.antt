@@ -1,5 +1,4 @@
 -- `store_open::move_on` meets its contract: past the ranges, and then the place of the vector.
-use borrow.Author.Rules.{rules}
 use Rattle.store_open.proofs.Places.{move_is}
 use Rattle.store_open.proofs.move_on.Goals as goal
 

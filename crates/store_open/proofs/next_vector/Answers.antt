@@ -1,6 +1,5 @@
 -- `store_open::next_vector` meets its contract: a vector is stepped over by its count, where that is there.
 use native.Mathlib.Omega.{arith}
-use borrow.Author.Rules.{rules}
 use Rattle.leaves.proofs.Part.{part_is}
 use Rattle.store_open.proofs.Places.{next_stays, next_on}
 use Rattle.store_open.proofs.next_vector.Goals as goal

@@ -3,7 +3,6 @@ use mathlib.Core.Path.{refl}
 use native.Mathlib.Omega.{arith}
 use Rattle.normal_form.proofs.Calls.{sizes}
 use Rattle.store_open.proofs.Judged.{refused_other, accepted_normal, accepted_other}
-use borrow.Author.Rules.{rules}
 use borrow.Author.Tests.{not-true, not-false}
 use Rattle.store_open.proofs.normal_part.Goals as goal
 

@@ -1,13 +1,8 @@
 -- `store_open::pass` meets its contract. The loop's invariant: the cursor past all ranges is the cursor past those that are left.
 use native.Mathlib.Omega.{arith}
-use borrow.Author.Rules.{rules}
-use Prim.Native.Nat.{◌+◌, ◌*◌, ◌≤◌}
-use mathlib.Core.Path.{◌≡◌, refl}
-use lib.ListN.{length}
-use Rattle.codec.specs.Ids.{item_of}
+use mathlib.Core.Path.{refl}
 use Rattle.leaves.proofs.Part.{part_is}
-use Rattle.lookup.specs.Method.{passed}
-use Rattle.lookup.proofs.Loops.{cursor, pass_stop, pass_on, pass_end}
+use Rattle.lookup.proofs.Loops.{pass_stop, pass_on, pass_end}
 use Rattle.store_open.proofs.pass.Goals as goal
 
 pub loop-left-init : goal.loop-left-init

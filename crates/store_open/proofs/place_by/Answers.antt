@@ -1,6 +1,5 @@
 -- `store_open::place_by` meets its contract: the table has the place that walking leads to.
 use native.Mathlib.Omega.{arith}
-use borrow.Author.Rules.{rules}
 use Rattle.store_open.proofs.Places.{place_taken}
 use Rattle.store_open.proofs.place_by.Goals as goal
 

@@ -1,6 +1,5 @@
 -- `store_open::replica_id` meets its contract: an id is its two words.
 use native.Mathlib.Omega.{arith}
-use borrow.Author.Rules.{rules}
 use Rattle.leaves.proofs.Part.{part_is}
 use Rattle.records.proofs.Fields.{pair_read}
 use Rattle.store_open.proofs.replica_id.Goals as goal

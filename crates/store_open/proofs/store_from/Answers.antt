@@ -2,7 +2,6 @@
 use Rattle.layout.specs.Permitted.{within}
 use Rattle.store_open.proofs.Judged.{normal_open}
 use Rattle.store_open.proofs.Store.{store_other, store_ordered, store_unlike, store_lacks, store_valid}
-use borrow.Author.Rules.{rules}
 use borrow.Author.Tests.{not-true, not-false}
 use Rattle.store_open.proofs.store_from.Goals as goal
 

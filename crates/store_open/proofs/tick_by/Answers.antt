@@ -1,5 +1,4 @@
 -- `store_open::tick_by` meets its contract: the replica's key has that tick in the vector.
-use borrow.Author.Rules.{rules}
 use Rattle.records_versions.proofs.Versions.{tick_in_is}
 use Rattle.store_open.proofs.tick_by.Goals as goal
 

@@ -2,12 +2,10 @@
 -- those contained in all are those counted and those among the records that are left.
 use Prim.Native.Nat.{◌+◌, ◌≤◌}
 use mathlib.Core.Path.{◌≡◌}
-use native.Mathlib.Omega.{arith}
 use Rattle.layout.specs.Decode.{decode}
 use Rattle.replication.specs.Queries.{count_in}
 use Rattle.replication.specs.MethodRecords.{records_at}
-use Rattle.records_versions.proofs.Passing.{Follows, follows_start, follows_next}
-use Rattle.store_queries.proofs.Counting.{count_ends, count_next}
+use Rattle.records_versions.proofs.Passing.{Follows}
 use Rattle.store_queries.proofs.count_in.Given as goal
 
 abbrev pub invariant-loop-left : goal.invariant-loop-left

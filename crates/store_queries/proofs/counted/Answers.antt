@@ -1,6 +1,5 @@
 -- `store_queries::counted` meets its contract, in both cases of the test.
 use Rattle.store_queries.proofs.Counting.{tally_yes, tally_no}
-use borrow.Author.Rules.{rules}
 use Rattle.store_queries.proofs.counted.Goals as goal
 
 pub returns-then-change_in : goal.returns-then-change_in

@@ -1,6 +1,5 @@
 -- `store_queries::coverage` meets its contract: the limits given are document 01's.
 use Rattle.store_queries.proofs.Counting.{coverage_basic}
-use borrow.Author.Rules.{rules}
 use Rattle.store_queries.proofs.coverage.Goals as goal
 
 pub returns : goal.returns

@@ -3,7 +3,6 @@ use native.Mathlib.Omega.{arith}
 use Rattle.codec.specs.Number.{Bytes}
 use Rattle.store_queries.proofs.Counting.{coverage_not_store, coverage_table, coverage_shaped}
 use Rattle.store_queries.proofs.Counting.{coverage_not_read, coverage_opens, coverage_is}
-use borrow.Author.Rules.{rules}
 use Rattle.store_queries.proofs.coverage_within.Goals as goal
 
 pub returns-in_default : goal.returns-in_default

@@ -1,6 +1,5 @@
 -- `store_queries::knowledge_part` meets its contract: the limits given are document 01's.
 use Rattle.store_queries.proofs.Handed.{knowledge_base}
-use borrow.Author.Rules.{rules}
 use Rattle.store_queries.proofs.knowledge_part.Goals as goal
 
 pub returns : goal.returns

@@ -2,7 +2,6 @@
 use native.Mathlib.Omega.{arith}
 use Rattle.codec.specs.Number.{Bytes}
 use Rattle.store_queries.proofs.Handed.{knowledge_not_store, knowledge_is}
-use borrow.Author.Rules.{rules}
 use Rattle.store_queries.proofs.knowledge_within.Goals as goal
 
 pub returns-in-Valid : goal.returns-in-Valid

@@ -1,6 +1,5 @@
 -- `store_queries::learned_part` meets its contract: the limits given are document 01's.
 use Rattle.store_queries.proofs.Handed.{learned_base}
-use borrow.Author.Rules.{rules}
 use Rattle.store_queries.proofs.learned_part.Goals as goal
 
 pub returns : goal.returns

@@ -2,7 +2,6 @@
 use native.Mathlib.Omega.{arith}
 use Rattle.codec.specs.Number.{Bytes}
 use Rattle.store_queries.proofs.Handed.{learned_not_batch, learned_place, learned_is}
-use borrow.Author.Rules.{rules}
 use Rattle.store_queries.proofs.learned_within.Goals as goal
 
 pub overflow_add-result : goal.overflow_add-result

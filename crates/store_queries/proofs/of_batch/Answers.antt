@@ -1,6 +1,5 @@
 -- `store_queries::of_batch` meets its contract: the length comes from the kind.
 use Rattle.store_queries.proofs.Winning.{batch_record}
-use borrow.Author.Rules.{rules}
 use Rattle.store_queries.proofs.of_batch.Goals as goal
 
 pub returns : goal.returns

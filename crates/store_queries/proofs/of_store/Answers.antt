@@ -1,6 +1,5 @@
 -- `store_queries::of_store` meets its contract: the length comes from the kind.
 use Rattle.store_queries.proofs.Winning.{store_record}
-use borrow.Author.Rules.{rules}
 use Rattle.store_queries.proofs.of_store.Goals as goal
 
 pub returns : goal.returns

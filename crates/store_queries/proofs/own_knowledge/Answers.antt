@@ -2,7 +2,6 @@
 use Rattle.layout.specs.Knowledge.{base}
 use Rattle.store_queries.proofs.Parts.{handed_as}
 use Rattle.store_queries.proofs.Handed.{knowledge_inside}
-use borrow.Author.Rules.{rules}
 use Rattle.store_queries.proofs.own_knowledge.Goals as goal
 
 pub part_of-requires : goal.part_of-requires

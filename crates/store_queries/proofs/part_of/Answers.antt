@@ -1,7 +1,6 @@
 -- `store_queries::part_of` meets its contract, in each of the answers.
 use mathlib.Core.Path.{refl, sym, ap, ◌∙◌}
 use native.Mathlib.Omega.{arith}
-use borrow.Author.Rules.{rules}
 use Rattle.replication.specs.declared.Part.{Part}
 use Rattle.replication.specs.Queries.{part_bytes, part_number}
 use Rattle.store_queries.proofs.Parts.{taken, hands_nothing, hands_store, hands_batch, hands_refusal}

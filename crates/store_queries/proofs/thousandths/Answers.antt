@@ -1,6 +1,5 @@
 -- `store_queries::thousandths` meets its contract, with records and without.
 use Rattle.store_queries.proofs.Counting.{rate_none, rate_some}
-use borrow.Author.Rules.{rules}
 use Rattle.store_queries.proofs.thousandths.Goals as goal
 
 pub returns-then-all-eq0 : goal.returns-then-all-eq0

@@ -1,6 +1,5 @@
 -- `store_queries::winner_in` meets its contract, in each of the ways that the two searches go.
 use Rattle.store_queries.proofs.Winning.{winner_nobody, winner_theirs, winner_mine, winner_wins, winner_stays}
-use borrow.Author.Rules.{rules}
 use Rattle.store_queries.proofs.winner_in.Goals as goal
 
 pub returns-then-wins : goal.returns-then-wins

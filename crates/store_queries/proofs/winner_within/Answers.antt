@@ -2,7 +2,6 @@
 use native.Mathlib.Omega.{arith}
 use Rattle.codec.specs.Number.{Bytes}
 use Rattle.store_queries.proofs.Winning.{winner_not_store, winner_not_batch, winner_no_item, winner_lengths, winner_is}
-use borrow.Author.Rules.{rules}
 use Rattle.store_queries.proofs.winner_within.Goals as goal
 
 pub returns-in_default : goal.returns-in_default

@@ -4,7 +4,6 @@ use Rattle.codec.specs.Ids.{item_of}
 use Rattle.store_write.specs.MethodClosing.{batch_around}
 use mathlib.Core.Path.{refl}
 use Rattle.store_write.proofs.Around.{closed_written, closed_fits}
-use borrow.Author.Rules.{rules}
 use Rattle.store_write.proofs.close_batch.Goals as goal
 
 pub returns-in-Written-clause-value : goal.returns-in-Written-clause-value

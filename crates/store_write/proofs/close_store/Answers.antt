@@ -7,7 +7,6 @@ use borrow.Author.Tests.{le-leb, lt-leb}
 use Rattle.codec.specs.Total.{clamp}
 use Rattle.layout.specs.Permitted.{largest_records}
 use Rattle.store_write.proofs.Around.{closed_fits, closed_other, closed_over, closed_written}
-use borrow.Author.Rules.{rules}
 use Rattle.store_write.proofs.close_store.Goals as goal
 
 pub returns-then-e-most-clause-value : goal.returns-then-e-most-clause-value

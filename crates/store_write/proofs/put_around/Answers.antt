@@ -8,7 +8,6 @@ use lib.ListN.{take}
 use Rattle.replication.specs.OpenStore.{store_knowledge}
 use Rattle.records_join.specs.MethodJoin.{copied}
 use Rattle.store_write.proofs.Storing.{put_short, put_whole}
-use borrow.Author.Rules.{rules}
 use Rattle.store_write.proofs.put_around.Goals as goal
 
 pub returns-then-beyond-clause-value : goal.returns-then-beyond-clause-value

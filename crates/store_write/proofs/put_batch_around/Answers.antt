@@ -6,7 +6,6 @@ use lib.ListN.{length}
 use Rattle.replication.specs.OpenBatch.{batch_needed}
 use Rattle.store_write.proofs.Storing.{put_short, put_whole}
 use Rattle.store_write.proofs.ClosingBatch.{batch_around_lem}
-use borrow.Author.Rules.{rules}
 use Rattle.store_write.proofs.put_batch_around.Goals as goal
 
 pub returns-then-beyond-clause-value : goal.returns-then-beyond-clause-value

@@ -3,7 +3,6 @@ use native.Mathlib.Omega.{arith}
 use mathlib.Core.Path.{refl}
 use Rattle.store_write.specs.MethodClosing.{batch_room}
 use Rattle.store_write.proofs.Around.{room_short, room_some}
-use borrow.Author.Rules.{rules}
 use Rattle.store_write.proofs.room_in_batch.Goals as goal
 
 pub returns-then-beyond-clause-value : goal.returns-then-beyond-clause-value

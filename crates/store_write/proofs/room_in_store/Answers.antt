@@ -5,7 +5,6 @@ use Rattle.codec.specs.Total.{clamp}
 use Rattle.layout.specs.Permitted.{largest_records}
 use Rattle.store_write.specs.MethodClosing.{store_room}
 use Rattle.store_write.proofs.Around.{room_not, room_short, room_some}
-use borrow.Author.Rules.{rules}
 use Rattle.store_write.proofs.room_in_store.Goals as goal
 
 pub returns-then-most-e-clause-value : goal.returns-then-most-e-clause-value

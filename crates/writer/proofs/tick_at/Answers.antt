@@ -1,6 +1,5 @@
 -- `writer::tick_at` meets its contract.
 use Rattle.tables.specs.MethodWords.{cell}
-use native.Mathlib.Omega.{arith}
 use Rattle.writer.proofs.tick_at.Goals as goal
 
 pub returns : goal.returns

@@ -1,6 +1,5 @@
 -- `writer::write` meets its contract: each part goes on where the one before ended.
 use Rattle.writer.proofs.Laying.{page_wrote}
-use native.Mathlib.Omega.{arith}
 use Rattle.writer.proofs.write.Goals as goal
 
 pub returns : goal.returns

@@ -2,7 +2,6 @@
 use Rattle.codec.specs.Number.{put}
 use Rattle.codec.specs.Part.{part}
 use Rattle.layout.specs.Knowledge.{put_fields, before_ranges}
-use native.Mathlib.Omega.{arith}
 use Rattle.writer.proofs.write_before_ranges.Goals as goal
 
 pub returns : goal.returns

@@ -1,6 +1,5 @@
 -- `writer::write_cell` meets its contract: no element where the tick is 0.
 use Rattle.writer.proofs.Laying.{cell_none, cell_some, none_after, some_after}
-use native.Mathlib.Omega.{arith}
 use Rattle.writer.proofs.write_cell.Goals as goal
 
 pub returns-then-tick-eq0 : goal.returns-then-tick-eq0

@@ -1,6 +1,5 @@
 -- `writer::write_element` meets its contract: the key and the tick.
 use Rattle.writer.proofs.Laying.{element_wrote}
-use native.Mathlib.Omega.{arith}
 use Rattle.writer.proofs.write_element.Goals as goal
 
 pub returns : goal.returns

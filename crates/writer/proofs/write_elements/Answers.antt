@@ -1,12 +1,8 @@
 -- `writer::write_elements` meets its contract. The loop's invariant: the elements in the columns from here on are left to write,
 -- and the place is by as many elements before the end.
-use Prim.Native.Nat.{◌+◌, ◌-◌, ◌*◌, ◌^◌, ◌≤◌, ◌<◌}
-use mathlib.Core.Path.{◌≡◌, refl}
-use lib.ListN.{length}
-use Rattle.tables.specs.MethodWords.{cell, numbers_at}
-use Rattle.tables.specs.MethodPlan.{elements_from}
-use Rattle.tables.specs.MethodPieces.{element_pieces}
-use Rattle.writer.specs.Method.{Left}
+use Prim.Native.Nat.{◌-◌}
+use mathlib.Core.Path.{refl}
+use Rattle.tables.specs.MethodWords.{cell}
 use Rattle.writer.proofs.Laying.{elements_begin, elements_more, elements_end, elements_of_most, places_begin, places_more, places_end}
 use native.Mathlib.Omega.{arith}
 use Rattle.writer.proofs.write_elements.Goals as goal

@@ -1,6 +1,5 @@
 -- `writer::write_id` meets its contract: two words.
 use Rattle.writer.proofs.Laying.{id_wrote}
-use native.Mathlib.Omega.{arith}
 use Rattle.writer.proofs.write_id.Goals as goal
 
 pub returns : goal.returns

@@ -1,10 +1,6 @@
 -- `writer::write_ids` meets its contract. The loop's invariant: the ids from here on are left to write.
-use Prim.Native.Nat.{◌+◌, ◌-◌, ◌*◌, ◌^◌, ◌≤◌, ◌<◌}
-use mathlib.Core.Path.{◌≡◌, refl}
-use lib.ListN.{length}
-use Rattle.tables.specs.MethodWords.{numbers_at}
-use Rattle.tables.specs.MethodPieces.{id_pieces}
-use Rattle.writer.specs.Method.{Left}
+use Prim.Native.Nat.{◌-◌}
+use mathlib.Core.Path.{refl}
 use Rattle.writer.proofs.Laying.{ids_begin, ids_more, ids_end}
 use native.Mathlib.Omega.{arith}
 use Rattle.writer.proofs.write_ids.Goals as goal

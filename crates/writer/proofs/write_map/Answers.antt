@@ -1,6 +1,5 @@
 -- `writer::write_map` meets its contract: past the end nothing is written.
 use Rattle.writer.proofs.Laying.{left_past, map-wrote}
-use native.Mathlib.Omega.{arith}
 use Rattle.writer.proofs.write_map.Goals as goal
 
 pub returns-then-out-at : goal.returns-then-out-at

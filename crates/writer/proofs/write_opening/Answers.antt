@@ -2,7 +2,6 @@
 use Rattle.codec.specs.Number.{put}
 use Rattle.codec.specs.Part.{part}
 use Rattle.layout.specs.Knowledge.{put_fields, opening}
-use native.Mathlib.Omega.{arith}
 use Rattle.writer.proofs.write_opening.Goals as goal
 
 pub returns : goal.returns

@@ -1,6 +1,5 @@
 -- `writer::write_range` meets its contract: three words and the index.
 use Rattle.writer.proofs.Laying.{range_wrote}
-use native.Mathlib.Omega.{arith}
 use Rattle.writer.proofs.write_range.Goals as goal
 
 pub returns : goal.returns

@@ -1,6 +1,5 @@
 -- `writer::write_range_list` meets its contract: past the end nothing is written.
 use Rattle.writer.proofs.Laying.{left_past, range_list_wrote}
-use native.Mathlib.Omega.{arith}
 use Rattle.writer.proofs.write_range_list.Goals as goal
 
 pub returns-then-out-at : goal.returns-then-out-at

@@ -1,10 +1,6 @@
 -- `writer::write_ranges` meets its contract. The loop's invariant: the ranges of the rows from here on are left to write.
-use Prim.Native.Nat.{◌+◌, ◌-◌, ◌*◌, ◌^◌, ◌≤◌, ◌<◌}
-use mathlib.Core.Path.{◌≡◌, refl}
-use lib.ListN.{length}
-use Rattle.tables.specs.MethodWords.{numbers_at}
-use Rattle.tables.specs.MethodPieces.{ranges_pieces}
-use Rattle.writer.specs.Method.{Left}
+use Prim.Native.Nat.{◌-◌}
+use mathlib.Core.Path.{refl}
 use Rattle.writer.proofs.Laying.{ranges_begin, ranges_more, ranges_end}
 use native.Mathlib.Omega.{arith}
 use Rattle.writer.proofs.write_ranges.Goals as goal

@@ -1,12 +1,10 @@
 -- `writer::write_ranges` meets its contract. The loop's invariant: the ranges of the rows from here on are left to write.
 use Prim.Native.Nat.{◌+◌, ◌-◌, ◌*◌, ◌^◌, ◌≤◌, ◌<◌}
-use mathlib.Core.Path.{◌≡◌, refl}
+use mathlib.Core.Path.{◌≡◌}
 use lib.ListN.{length}
 use Rattle.tables.specs.MethodWords.{numbers_at}
 use Rattle.tables.specs.MethodPieces.{ranges_pieces}
 use Rattle.writer.specs.Method.{Left}
-use Rattle.writer.proofs.Laying.{ranges_begin, ranges_more, ranges_end}
-use native.Mathlib.Omega.{arith}
 use Rattle.writer.proofs.write_ranges.Given as goal
 
 abbrev pub invariant-loop-i : goal.invariant-loop-i

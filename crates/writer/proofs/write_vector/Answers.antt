@@ -1,7 +1,6 @@
 -- `writer::write_vector` meets its contract: past the end nothing is written.
 use mathlib.Core.Path.{refl}
 use Rattle.writer.proofs.Laying.{left_past, vector_wrote}
-use native.Mathlib.Omega.{arith}
 use Rattle.writer.proofs.write_vector.Goals as goal
 
 pub returns-then-out-at : goal.returns-then-out-at

@@ -1,10 +1,6 @@
 -- `writer::write_vectors` meets its contract. The loop's invariant: the vectors of the rows from here on are left to write.
-use Prim.Native.Nat.{◌-◌, ◌≤◌}
-use mathlib.Core.Path.{◌≡◌, refl}
-use lib.ListN.{length}
-use Rattle.tables.specs.MethodWords.{cell, numbers_at}
-use Rattle.tables.specs.MethodPieces.{vectors_pieces}
-use Rattle.writer.specs.Method.{Left}
+use Prim.Native.Nat.{◌-◌}
+use mathlib.Core.Path.{refl}
 use Rattle.writer.proofs.Laying.{vectors_begin, vectors_more, vectors_end}
 use native.Mathlib.Omega.{arith}
 use Rattle.writer.proofs.write_vectors.Goals as goal

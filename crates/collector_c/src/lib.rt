@@ -1,0 +1,256 @@
+// The C interface as an archive: each export calls the function of the crate `collector` of the same name, and its contract is that
+// function's, clause by clause.
+#![tactic(auto)]
+
+ghost use Rattle.std.specs.Prelude.{◌≡◌, length};
+ghost use Rattle.codec.specs.Reply.{answer};
+ghost use Rattle.layout.specs.Knowledge.{basic, base};
+ghost use Rattle.layout.specs.Parse.{checked_by};
+ghost use Rattle.layout.specs.Answer.{checked_number, checked_sizes};
+ghost use Rattle.ticks.specs.Calls.{contain_number, contain_value, contain_answer, lead_number, lead_value, lead_answer};
+ghost use Rattle.ticks.specs.Calls.{cover_number, cover_value, cover_answer};
+ghost use Rattle.ticks.specs.Calls.{normalise_reply, merge_reply, project_reply};
+ghost use Rattle.ticks.specs.Compare.{compare_reply, order_value};
+ghost use Rattle.replication.specs.Calls.{new_reply, edit_reply, delete_reply, make_reply, apply_reply};
+ghost use Rattle.replication.specs.Call.{brings};
+ghost use Rattle.replication.specs.Queries.{winner_part, learned_part, knowledge_part, length_at};
+ghost use Rattle.replication.specs.Queries.{coverage_number, coverage_contained, coverage_all, coverage_thousandths, coverage_answer};
+ghost use Rattle.collector.specs.Called.{Called, PartCalled, SideCalled};
+
+// Checks a knowledge: its sizes r, v, e and g, or the refusal's number, and then no size changes.
+#[unsafe(no_mangle)]
+pub extern "C" fn sync_check(knowledge: &[u8], sizes: &mut [u64; 4]) -> u32
+    ensures { let a = checked_by basic knowledge.now in
+        (result ≡ checked_number a) × (sizes.new ≡ checked_sizes a sizes.old) }
+{
+    collector::sync_check(knowledge, sizes)
+}
+
+// Does a knowledge contain the version of an item, a replica and a tick: 1 or 0; or the refusal's number, and then nothing
+// changes.
+#[unsafe(no_mangle)]
+pub extern "C" fn sync_contain(
+    knowledge: &[u8],
+    item: &[u8],
+    replica: &[u8],
+    tick: u64,
+    contained: &mut u32,
+) -> u32
+    ensures { let a = contain_answer basic knowledge.now item.now replica.now tick in
+        (result ≡ contain_number a) × (contained.new ≡ contain_value a contained.old) }
+{
+    collector::sync_contain(knowledge, item, replica, tick, contained)
+}
+
+// The tick that the first knowledge knows of an item and a replica minus the second's; or the refusal's number, and then
+// nothing changes.
+#[unsafe(no_mangle)]
+pub extern "C" fn sync_lead(
+    first: &[u8],
+    second: &[u8],
+    item: &[u8],
+    replica: &[u8],
+    lead: &mut i64,
+) -> u32
+    ensures { let a = lead_answer basic first.now second.now item.now replica.now in
+        (result ≡ lead_number a) × (lead.new ≡ lead_value a lead.old) }
+{
+    collector::sync_lead(first, second, item, replica, lead)
+}
+
+// Does the first knowledge know at least as much as the second from the first id to the last: 1 or 0; or the refusal's
+// number, and then nothing changes.
+#[unsafe(no_mangle)]
+pub extern "C" fn sync_cover(
+    knowledge: &[u8],
+    other: &[u8],
+    first: &[u8],
+    last: &[u8],
+    covers: &mut u32,
+) -> u32
+    ensures { let a = cover_answer basic knowledge.now other.now first.now last.now in
+        (result ≡ cover_number a) × (covers.new ≡ cover_value a covers.old) }
+{
+    collector::sync_cover(knowledge, other, first, last, covers)
+}
+
+// Writes the normal form of a knowledge, and its length; or gives the refusal's number, and then nothing changes.
+#[unsafe(no_mangle)]
+pub extern "C" fn sync_normalise(knowledge: &[u8], out: &mut [u8], written: &mut u64) -> u32
+    ensures { Called (normalise_reply basic knowledge.now) result
+        written.old written.new out.old out.new }
+{
+    collector::sync_normalise(knowledge, out, written)
+}
+
+// Writes the knowledge that knows the larger of the ticks that two know, and its length; or gives the refusal's number, and then
+// nothing changes.
+#[unsafe(no_mangle)]
+pub extern "C" fn sync_merge(first: &[u8], second: &[u8], out: &mut [u8], written: &mut u64) -> u32
+    ensures { Called (merge_reply basic first.now second.now) result
+        written.old written.new out.old out.new }
+{
+    collector::sync_merge(first, second, out, written)
+}
+
+// Writes what a knowledge knows from the first id to the last, and its length; or gives the refusal's number, and then nothing
+// changes.
+#[unsafe(no_mangle)]
+pub extern "C" fn sync_project(
+    knowledge: &[u8],
+    first: &[u8],
+    last: &[u8],
+    out: &mut [u8],
+    written: &mut u64,
+) -> u32
+    ensures { Called (project_reply basic knowledge.now first.now last.now) result
+        written.old written.new out.old out.new }
+{
+    collector::sync_project(knowledge, first, last, out, written)
+}
+
+// Which of two knowledges is ahead, over all ids: the order (0 alike, 1 the first is behind, 2 the first is ahead, 3 each lacks
+// something), and for each that lacks something the first place where it does, with both ticks, and the length of these; or the
+// refusal's number, and then nothing changes.
+#[unsafe(no_mangle)]
+pub extern "C" fn sync_compare(
+    first: &[u8],
+    second: &[u8],
+    order: &mut u32,
+    out: &mut [u8],
+    written: &mut u64,
+) -> u32
+    ensures called { Called (compare_reply basic first.now second.now) result
+        written.old written.new out.old out.new }
+    ensures value { order.new ≡ order_value basic first.now second.now
+        (answer (compare_reply basic first.now second.now) (length out.old)) order.old }
+{
+    collector::sync_compare(first, second, order, out, written)
+}
+
+// ---- stores and batches: the calls that write one
+
+// Writes a new store under a replica id, with the empty knowledge and no records, and its length; or gives the refusal's number, and then
+// nothing changes.
+#[unsafe(no_mangle)]
+pub extern "C" fn sync_new(own: &[u8], out: &mut [u8], written: &mut u64) -> u32
+    ensures { Called (new_reply own.now) result
+        written.old written.new out.old out.new }
+{
+    collector::sync_new(own, out, written)
+}
+
+// Writes a store with an item edited, and its length; or gives the refusal's number, and then nothing changes.
+#[unsafe(no_mangle)]
+pub extern "C" fn sync_edit(
+    store: &[u8],
+    item: &[u8],
+    tag: &[u8],
+    out: &mut [u8],
+    written: &mut u64,
+) -> u32
+    ensures { Called (edit_reply base store.now item.now (brings tag.now)) result
+        written.old written.new out.old out.new }
+{
+    collector::sync_edit(store, item, tag, out, written)
+}
+
+// Writes a store with an item deleted, and its length; or gives the refusal's number, and then nothing changes.
+#[unsafe(no_mangle)]
+pub extern "C" fn sync_delete(store: &[u8], item: &[u8], out: &mut [u8], written: &mut u64) -> u32
+    ensures { Called (delete_reply base store.now item.now) result
+        written.old written.new out.old out.new }
+{
+    collector::sync_delete(store, item, out, written)
+}
+
+// Writes the batch that a store makes for a knowledge and a span of items, and its length; or gives the refusal's number, and then
+// nothing changes.
+#[unsafe(no_mangle)]
+pub extern "C" fn sync_make(
+    store: &[u8],
+    knowledge: &[u8],
+    first: &[u8],
+    last: &[u8],
+    out: &mut [u8],
+    written: &mut u64,
+) -> u32
+    ensures { Called (make_reply basic store.now knowledge.now first.now last.now) result
+        written.old written.new out.old out.new }
+{
+    collector::sync_make(store, knowledge, first, last, out, written)
+}
+
+// Writes a store with a batch applied, and its length; or gives the refusal's number, and then nothing changes.
+#[unsafe(no_mangle)]
+pub extern "C" fn sync_apply(store: &[u8], batch: &[u8], out: &mut [u8], written: &mut u64) -> u32
+    ensures { Called (apply_reply base store.now batch.now) result
+        written.old written.new out.old out.new }
+{
+    collector::sync_apply(store, batch, out, written)
+}
+
+// ---- stores and batches: the calls that write nothing
+
+// Where the winner of an item stands: the side (0 none, 1 the store's, 2 the batch's), the place and the length; or the refusal's
+// number, and then nothing changes.
+#[unsafe(no_mangle)]
+pub extern "C" fn sync_winner(
+    store: &[u8],
+    batch: &[u8],
+    item: &[u8],
+    side: &mut u32,
+    at: &mut u64,
+    length: &mut u64,
+) -> u32
+    ensures { SideCalled (winner_part base store.now batch.now item.now) result
+        side.old side.new at.old at.new length.old length.new }
+{
+    collector::sync_winner(store, batch, item, side, at, length)
+}
+
+// Where a batch's learned knowledge stands, and its length; or the refusal's number, and then nothing changes.
+#[unsafe(no_mangle)]
+pub extern "C" fn sync_learned(batch: &[u8], at: &mut u64, length: &mut u64) -> u32
+    ensures { PartCalled (learned_part base batch.now) result
+        at.old at.new length.old length.new }
+{
+    collector::sync_learned(batch, at, length)
+}
+
+// Where a store's own knowledge stands, and its length; or the refusal's number, and then nothing changes.
+#[unsafe(no_mangle)]
+pub extern "C" fn sync_knowledge(store: &[u8], at: &mut u64, length: &mut u64) -> u32
+    ensures { PartCalled (knowledge_part base store.now) result
+        at.old at.new length.old length.new }
+{
+    collector::sync_knowledge(store, at, length)
+}
+
+// How many of a store's records have a change version that the knowledge contains, how many records there are, and the first as
+// thousandths of the second, to the nearest, an exact half up; or the refusal's number, and then nothing changes.
+#[unsafe(no_mangle)]
+pub extern "C" fn sync_coverage(
+    store: &[u8],
+    knowledge: &[u8],
+    contained: &mut u64,
+    all: &mut u64,
+    thousandths: &mut u64,
+) -> u32
+    ensures { let a = coverage_answer basic store.now knowledge.now in
+        (result ≡ coverage_number a)
+        × ((contained.new ≡ coverage_contained a contained.old)
+        × ((all.new ≡ coverage_all a all.old)
+        × (thousandths.new ≡ coverage_thousandths a thousandths.old))) }
+{
+    collector::sync_coverage(store, knowledge, contained, all, thousandths)
+}
+
+// The length of the whole record of a known kind at a place of a lent table, 0 where none stands there. It refuses nothing.
+#[unsafe(no_mangle)]
+pub extern "C" fn sync_walk(table: &[u8], at: u64, length: &mut u64) -> u32
+    ensures number { result ≡ 0 }
+    ensures size { length.new ≡ length_at table.now at }
+{
+    collector::sync_walk(table, at, length)
+}
