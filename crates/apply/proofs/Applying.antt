@@ -13,9 +13,14 @@ use Rattle.codec.specs.Number.{Bytes, be_at}
 use Rattle.codec.specs.Reply.{Reply}
 use Rattle.codec.specs.Total.{read_at, clamp}
 use Rattle.codec.specs.Words.{words2, words3}
-use Rattle.codec.specs.declared.Answer.{Answer}
-use Rattle.codec.specs.declared.Answer.TheVariants as A
-use Rattle.codec.proofs.Total.{read_id2, read_id3}
+use Rattle.codec.specs.Answer.{Answer}
+use Rattle.codec.specs.Answer as A
+use Rattle.codec.specs.declared.Item.{Item}
+use Rattle.codec.specs.declared.Replica.{Replica}
+use Rattle.codec.specs.declared.Refusal.{Refusal}
+use Rattle.codec.specs.Ids.{item_of, replica_of, item_read, replica_read}
+use Rattle.codec.specs.Refusal.{number}
+use Rattle.std.specs.Prelude.{Result, Ok, Err}
 use Rattle.layout.specs.declared.ReplicaKey.{ReplicaKey}
 use Rattle.layout.specs.Knowledge.{Limits, Knowledge, any_id}
 use Rattle.layout.specs.Permitted.{largest_records, within}
@@ -45,10 +50,9 @@ use Rattle.codec.specs.MethodEnded.{Ended}
 use Rattle.codec.proofs.Ended.{ended_refused}
 use Rattle.records_join.specs.MethodJoin.{size_from, join_at, fronted}
 use Rattle.store_open.specs.declared.KnowledgePart.{KnowledgePart}
-use Rattle.store_open.specs.declared.OpenedStore.{OpenedStore}
-use Rattle.store_open.specs.declared.OpenedStore.TheVariants as S
-use Rattle.store_open.specs.declared.OpenedBatch.{OpenedBatch}
-use Rattle.store_open.specs.declared.OpenedBatch.TheVariants as B
+use Rattle.store_open.specs.declared.OpenStore.{OpenStore}
+use Rattle.store_open.specs.declared.OpenBatch.{OpenBatch}
+use Rattle.store_open.proofs.Ids.{item_at, replica_at}
 use Rattle.store_open.specs.Method.{store_opened, batch_opened}
 use Rattle.store_open.proofs.Opened.{StoreOpen, BatchOpen, store_open, store_closed, batch_open, batch_closed}
 use Rattle.store_open.proofs.Opened.{store_place, store_room_lem, store_slice, store_lookup}
@@ -61,23 +65,14 @@ use Rattle.apply.specs.Method.{own_covered, applied_reply, BothValid, OwnAndLear
 
 -- ---- cover of needed
 
--- three words that were read from a place on
-pub record Words3 (s : List ℕ) (at x y z : ℕ) : Type 0 where
-  pub high : x ≡ read_at s 8 at
-  pub middle : y ≡ read_at s 8 (at + 8)
-  pub low : z ≡ read_at s 8 (at + 16)
-
-item_is : (s : List ℕ) (at x y z : ℕ) → Words3 s at x y z → at + 24 ≤ length s → words3 x y z ≡ be_at s 24 at
-item_is s at x y z w h = rw (w.high, w.middle, w.low) (read_id3 s at h)
-
 module _ (k : List ℕ) (r : ℕ) (c : Cursor) (n : List ℕ) (m : ℕ) (d : Cursor) (t : List ℕ) (a : Open k r c) (b : Open n m d)
-    (header : batch_needed ≤ length t) (span : first_id t ≤ last_id t) (f0 f1 f2 l0 l1 l2 : ℕ) (first : Words3 t 1 f0 f1 f2)
-    (last : Words3 t 25 l0 l1 l2) (z : Bool) (e : z ≡ covers_by k r c n m d (words3 f0 f1 f2) (words3 l0 l1 l2)) where
+    (header : batch_needed ≤ length t) (span : first_id t ≤ last_id t) (f l : Item)
+    (first : f ≡ item_read (take (1 + 24 - 1) (drop 1 t))) (last : l ≡ item_read (take (25 + 24 - 25) (drop 25 t)))
+    (z : Bool) (e : z ≡ covers_by k r c n m d (item_of f) (item_of l)) where
   pub needed_covered : z ≡ covers (decode k) (decode n) (first_id t) (last_id t)
   needed_covered =
       e
-      ∙ ap₂ (covers_by k r c n m d) (item_is t 1 f0 f1 f2 first (omega (arith, header)))
-      (item_is t 25 l0 l1 l2 last (omega (arith, header)))
+      ∙ ap₂ (covers_by k r c n m d) (item_at t 1 f first (omega (arith, header))) (item_at t 25 l last (omega (arith, header)))
       ∙ by-places k r c n m d (first_id t) (last_id t) a b span
 
 -- ---- the own tick
@@ -98,23 +93,34 @@ own_covered_lem k r c l m d p a b alike mine e key f top g z h =
 
 -- ---- a store and a batch that were opened
 
-module _ (a b n : ℕ) (s : List ℕ) (own : KnowledgePart) (t : List ℕ) (needed learned : KnowledgePart)
-    (v : BothValid (within a b n) s own t needed learned) where
+module _ (a b n : ℕ) (s : List ℕ) (mine : OpenStore) (t : List ℕ) (theirs : OpenBatch) (v : BothValid (within a b n) s mine t theirs) where
   abbrev L : Limits
   L = within a b n
 
-  store : StoreOpen L s own v.count
-  store = store_open a b n s v.store_bytes own v.count v.store
+  abbrev own : KnowledgePart
+  own = mine.own
 
-  batch : BatchOpen L t needed learned v.carried
-  batch = batch_open a b n t v.batch_bytes needed learned v.carried v.batch
+  abbrev needed : KnowledgePart
+  needed = theirs.needed
 
-  -- the parts are inside
+  abbrev learned : KnowledgePart
+  learned = theirs.learned
+
+  store : StoreOpen L s own mine.count
+  store = store_open a b n s v.store_bytes mine v.store
+
+  batch : BatchOpen L t needed learned theirs.count
+  batch = batch_open a b n t v.batch_bytes theirs v.batch
+
+  -- the own id and the parts are inside
+  pub own_there : 1 + 16 ≤ length s
+  own_there = omega (arith, store.tests.header)
+
   pub own_room : store_knowledge + own.length ≤ length s
-  own_room = store_room_lem L s own v.count store
+  own_room = store_room_lem L s own mine.count store
 
   pub batch_room_lem : batch_needed + needed.length + learned.length ≤ length t
-  batch_room_lem = batch_fits L t needed learned v.carried batch
+  batch_room_lem = batch_fits L t needed learned theirs.count batch
 
   -- the bytes of the knowledges, as they are sliced
   abbrev own_bytes : List ℕ
@@ -129,28 +135,28 @@ module _ (a b n : ℕ) (s : List ℕ) (own : KnowledgePart) (t : List ℕ) (need
 
   own_open : Open own_bytes own.view.r own.view.start
   own_open =
-      subst (λ (x : List ℕ). Open x own.view.r own.view.start) (sym (store_slice L s own v.count store))
-      (store_lookup L s own v.count store)
+      subst (λ (x : List ℕ). Open x own.view.r own.view.start) (sym (store_slice L s own mine.count store))
+      (store_lookup L s own mine.count store)
 
   needed_open : Open needed_bytes needed.view.r needed.view.start
   needed_open =
-      subst (λ (x : List ℕ). Open x needed.view.r needed.view.start) (sym (needed_slice L t needed learned v.carried batch))
-      (needed_lookup L t needed learned v.carried batch)
+      subst (λ (x : List ℕ). Open x needed.view.r needed.view.start) (sym (needed_slice L t needed learned theirs.count batch))
+      (needed_lookup L t needed learned theirs.count batch)
 
   learned_open : Open learned_bytes learned.view.r learned.view.start
   learned_open =
-      subst (λ (x : List ℕ). Open x learned.view.r learned.view.start) (sym (learned_slice L t needed learned v.carried batch))
-      (learned_lookup L t needed learned v.carried batch)
+      subst (λ (x : List ℕ). Open x learned.view.r learned.view.start) (sym (learned_slice L t needed learned theirs.count batch))
+      (learned_lookup L t needed learned theirs.count batch)
 
   -- they are the store's and the batch's
   own_is : (store_at L s).knowledge ≡ decode own_bytes
-  own_is = store.knowledge ∙ ap decode (sym (store_slice L s own v.count store))
+  own_is = store.knowledge ∙ ap decode (sym (store_slice L s own mine.count store))
 
   needed_is : (batch_at L t).needed ≡ decode needed_bytes
-  needed_is = batch.needed ∙ ap decode (sym (needed_slice L t needed learned v.carried batch))
+  needed_is = batch.needed ∙ ap decode (sym (needed_slice L t needed learned theirs.count batch))
 
   learned_is : (batch_at L t).learned ≡ decode learned_bytes
-  learned_is = batch.learned ∙ ap decode (sym (learned_slice L t needed learned v.carried batch))
+  learned_is = batch.learned ∙ ap decode (sym (learned_slice L t needed learned theirs.count batch))
 
   -- what is asked for the first half of 18
   pub asks_needed : Open own_bytes own.view.r own.view.start × Open needed_bytes needed.view.r needed.view.start
@@ -173,13 +179,13 @@ module _ (a b n : ℕ) (s : List ℕ) (own : KnowledgePart) (t : List ℕ) (need
         ended_refused (apply_reply L s t) out 18
         (apply_uncovered L s (store_at L s) store.value t (batch_at L t) batch.value (uncovered_is ∙ ap not f))
 
-    module _ (f : z ≡ true) (p0 p1 : ℕ) (h : p0 ≡ read_at s 8 1) (i : p1 ≡ read_at s 8 9) where
-      id_is : words2 p0 p1 ≡ (store_at L s).own
-      id_is = ap₂ words2 h i ∙ read_id2 s 1 (omega (arith, store.tests.header)) ∙ sym (store_own L s)
+    module _ (f : z ≡ true) (p : Replica) (read : p ≡ replica_read (take (1 + 16 - 1) (drop 1 s))) where
+      id_is : replica_of p ≡ (store_at L s).own
+      id_is = replica_at s 1 p read own_there ∙ sym (store_own L s)
 
       -- what is asked for the second half
       pub asks_own : Open own_bytes own.view.r own.view.start × Open learned_bytes learned.view.r learned.view.start
-          × (own_alike (words2 p0 p1) (decode own_bytes) ≡ true)
+          × (own_alike (replica_of p) (decode own_bytes) ≡ true)
       asks_own = (
         own_open,
         learned_open,
@@ -187,19 +193,19 @@ module _ (a b n : ℕ) (s : List ℕ) (own : KnowledgePart) (t : List ℕ) (need
       )
 
       own_covers : covers_for ((store_at L s).own ∷ []) (store_at L s).knowledge (batch_at L t).learned 0 highest
-          ≡ own_covered (words2 p0 p1) (decode own_bytes) (decode learned_bytes)
+          ≡ own_covered (replica_of p) (decode own_bytes) (decode learned_bytes)
       own_covers =
-          ap (λ (p : ℕ). covers_for (p ∷ []) (store_at L s).knowledge (batch_at L t).learned 0 highest) (sym id_is)
-          ∙ ap₂ (λ (x y : Knowledge). covers_for (words2 p0 p1 ∷ []) x y 0 highest) own_is learned_is
+          ap (λ (q : ℕ). covers_for (q ∷ []) (store_at L s).knowledge (batch_at L t).learned 0 highest) (sym id_is)
+          ∙ ap₂ (λ (x y : Knowledge). covers_for (replica_of p ∷ []) x y 0 highest) own_is learned_is
 
       -- what the result goes by
-      pub merges : Merges L s own_bytes own (words2 p0 p1) t learned_bytes learned (batch_needed + needed.length)
+      pub merges : Merges L s own_bytes own (replica_of p) t learned_bytes learned (batch_needed + needed.length)
       merges = record {
         store_bytes = v.store_bytes;
         batch_bytes = v.batch_bytes;
         id = id_is;
         mine =
-            subst (λ (x : List ℕ). Opens (any_id L) x own.view.r own.view.start) (sym (store_slice L s own v.count store))
+            subst (λ (x : List ℕ). Opens (any_id L) x own.view.r own.view.start) (sym (store_slice L s own mine.count store))
             store.opens;
         mine_is = own_is;
         normal =
@@ -207,15 +213,15 @@ module _ (a b n : ℕ) (s : List ℕ) (own : KnowledgePart) (t : List ℕ) (need
             ((store_exact L s (store_at L s) store.opens.permitted v.store_bytes).0 store.value).1.normal;
         theirs =
             subst (λ (x : List ℕ). Opens (any_id L) x learned.view.r learned.view.start)
-            (sym (learned_slice L t needed learned v.carried batch)) batch.learned_opens;
+            (sym (learned_slice L t needed learned theirs.count batch)) batch.learned_opens;
         theirs_is = learned_is;
         room = own_room;
         other_room = batch_room_lem;
-        records = ap (table_at s) (store_place L s own v.count store) ∙ store_walked L s store.tests;
-        others = ap (table_at t) (batch_place L t needed learned v.carried batch) ∙ batch_walked L t batch.tests;
+        records = ap (table_at s) (store_place L s own mine.count store) ∙ store_walked L s store.tests;
+        others = ap (table_at t) (batch_place L t needed learned theirs.count batch) ∙ batch_walked L t batch.tests;
       }
 
-      module _ (y : Bool) (g : y ≡ own_covered (words2 p0 p1) (decode own_bytes) (decode learned_bytes)) where
+      module _ (y : Bool) (g : y ≡ own_covered (replica_of p) (decode own_bytes) (decode learned_bytes)) where
         ahead_is : own_ahead (store_at L s) (batch_at L t) ≡ not y
         unfolding own_ahead
         ahead_is = ap not (own_covers ∙ sym g)
@@ -281,26 +287,19 @@ module _ (limits : R.Limits) (s k : List ℕ) (own : KnowledgePart) (p : ℕ) (t
 
 -- ---- what the checks answered
 
-module _ (a b n : ℕ) (s t : List ℕ) (o : OpenedStore) (e : o ≡ store_opened (within a b n) s) where
-  pub not_store : (out : List ℕ) → o ≡ S.NotValid → Ended (apply_reply (within a b n) s t) out out (A.Refused 15)
-  not_store out f =
-      ended_refused (apply_reply (within a b n) s t) out 15
-      (apply_store (within a b n) s t 15 (store_closed a b n s (sym e ∙ f)))
+module _ (a b n : ℕ) (s t : List ℕ) (o : Result OpenStore Refusal) (e : o ≡ store_opened (within a b n) s) where
+  pub not_store : (out : List ℕ) (x : Refusal) → o ≡ Err x → Ended (apply_reply (within a b n) s t) out out (A.Refused (number x))
+  not_store out x f =
+      ended_refused (apply_reply (within a b n) s t) out (number x)
+      (apply_store (within a b n) s t (number x) (store_closed a b n s x (sym e ∙ f)))
 
-  module _ (bytes : Bytes s) (own : KnowledgePart) (m : ℕ) (f : o ≡ S.Valid own m) (q : OpenedBatch)
+  module _ (bytes : Bytes s) (mine : OpenStore) (f : o ≡ Ok mine) (q : Result OpenBatch Refusal)
       (g : q ≡ batch_opened (within a b n) t) where
-    pub not_batch : (out : List ℕ) → q ≡ B.NotValid → Ended (apply_reply (within a b n) s t) out out (A.Refused 16)
-    not_batch out h =
-        ended_refused (apply_reply (within a b n) s t) out 16
-        (apply_batch (within a b n) s t _ 16 (store_open a b n s bytes own m (sym e ∙ f)).value (batch_closed a b n t (sym g ∙ h)))
+    pub not_batch : (out : List ℕ) (x : Refusal) → q ≡ Err x → Ended (apply_reply (within a b n) s t) out out (A.Refused (number x))
+    not_batch out x h =
+        ended_refused (apply_reply (within a b n) s t) out (number x)
+        (apply_batch (within a b n) s t _ (number x) (store_open a b n s bytes mine (sym e ∙ f)).value
+        (batch_closed a b n t x (sym g ∙ h)))
 
-    pub both_valid : Bytes t → (needed learned : KnowledgePart) (c : ℕ) → q ≡ B.Valid needed learned c
-        → BothValid (within a b n) s own t needed learned
-    both_valid others needed learned c h = record {
-      store_bytes = bytes;
-      count = m;
-      store = sym e ∙ f;
-      batch_bytes = others;
-      carried = c;
-      batch = sym g ∙ h;
-    }
+    pub both_valid : Bytes t → (theirs : OpenBatch) → q ≡ Ok theirs → BothValid (within a b n) s mine t theirs
+    both_valid others theirs h = record { store_bytes = bytes; store = sym e ∙ f; batch_bytes = others; batch = sym g ∙ h }

@@ -8,7 +8,7 @@ use native.Mathlib.Omega.{arith}
 use Rattle.codec.specs.Reply.{Reply, gives}
 use Rattle.codec.specs.Words.{words3}
 use Rattle.codec.specs.MethodEnded.{Ended}
-use Rattle.codec.specs.declared.Answer.{Answer}
+use Rattle.codec.specs.Answer.{Answer}
 use Rattle.layout.specs.Knowledge as K
 use Rattle.layout.specs.Permitted.{largest_replicas}
 use Rattle.layout.specs.declared.Limits.{Limits}

@@ -1,5 +1,5 @@
 -- What the code of apply knows from step to step. There is nothing to believe here: the call's contract cites the reply of `replication`.
-use Rattle.std.specs.Prelude.{ℕ, ◌+◌, ◌≤◌, ◌≡◌, Bool, List, [], ◌∷◌, length}
+use Rattle.std.specs.Prelude.{ℕ, ◌+◌, ◌≤◌, ◌≡◌, Ok, Bool, List, [], ◌∷◌, length}
 use Rattle.codec.specs.Number.{Bytes}
 use Rattle.codec.specs.Reply.{Reply}
 use Rattle.layout.specs.Knowledge.{Limits, Knowledge, any_id}
@@ -16,8 +16,8 @@ use Rattle.lookup.specs.declared.View.{View}
 use Rattle.lookup.specs.Method.{Opens}
 use Rattle.results.specs.MethodOpened.{Reads}
 use Rattle.store_open.specs.declared.KnowledgePart.{KnowledgePart}
-use Rattle.store_open.specs.declared.OpenedStore.TheVariants as S
-use Rattle.store_open.specs.declared.OpenedBatch.TheVariants as B
+use Rattle.store_open.specs.declared.OpenStore.{OpenStore}
+use Rattle.store_open.specs.declared.OpenBatch.{OpenBatch}
 use Rattle.store_open.specs.Method.{store_opened, batch_opened}
 
 -- for every item the first knowledge has at least the second's tick of one replica
@@ -29,13 +29,11 @@ abbrev pub applied_reply : Limits → List ℕ → List ℕ → Reply
 applied_reply L s t = store_reply L (applied (store_at L s) (batch_at L t))
 
 -- both checks have accepted: a store s with its knowledge, and a batch t with its two
-pub record BothValid (L : Limits) (s : List ℕ) (own : KnowledgePart) (t : List ℕ) (needed learned : KnowledgePart) : Type 0 where
+pub record BothValid (L : Limits) (s : List ℕ) (mine : OpenStore) (t : List ℕ) (theirs : OpenBatch) : Type 0 where
   pub store_bytes : Bytes s
-  pub count : ℕ
-  pub store : store_opened L s ≡ S.Valid own count
+  pub store : store_opened L s ≡ Ok mine
   pub batch_bytes : Bytes t
-  pub carried : ℕ
-  pub batch : batch_opened L t ≡ B.Valid needed learned carried
+  pub batch : batch_opened L t ≡ Ok theirs
 
 -- the bytes k of a store's knowledge, which is in normal form, and those of a learned one, both opened under the limits
 pub record OwnAndLearned (most : R.Limits) (k : List ℕ) (v : View) (l : List ℕ) (w : View) : Type 0 where

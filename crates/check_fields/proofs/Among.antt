@@ -19,28 +19,26 @@ unfolding among
 among_clause s n step at j x r e = rw (e, among)
 
 among_next :
-    (s : List ℕ) (n step at k j x : ℕ) (b r : Bool)
+    (s : List ℕ) (n step at k j x : ℕ) (r : Bool)
     → k ≡ suc j
-    → b ≡ eqb (be_at s n at) x
-    → b ≡ r
+    → eqb (be_at s n at) x ≡ r
     → among s n step at k x ≡ elim r [ true ↦ true | false ↦ among s n step (at + step) j x ]
-among_next s n step at k j x b r e f h = ap (λ (m : ℕ). among s n step at m x) e ∙ among_clause s n step at j x r (sym f ∙ h)
-
-pub among_all : (s : List ℕ) (n step at k x : ℕ) → among s n step at k x ≡ among s n step at (k - 0) x
-among_all s n step at k x = let e : k ≡ k - 0 = omega arith in ap (λ (m : ℕ). among s n step at m x) e
+among_next s n step at k j x r e h = ap (λ (m : ℕ). among s n step at m x) e ∙ among_clause s n step at j x r h
 
 module _ (whole : Bool) (s : List ℕ) (n step at k i x : ℕ) (inv : whole ≡ among s n step at (k - i) x) where
-  pub among_found : i < k → (b : Bool) → b ≡ eqb (be_at s n at) x → b ≡ true → true ≡ whole
-  among_found h b e f = sym (inv ∙ among_next s n step at (k - i) (k - (i + 1)) x b true (omega arith) e f)
+  pub among_found : i < k → eqb (be_at s n at) x ≡ true → true ≡ whole
+  among_found h e = sym (inv ∙ among_next s n step at (k - i) (k - (i + 1)) x true (omega arith) e)
 
-  pub among_on : i < k → (b : Bool) → b ≡ eqb (be_at s n at) x → b ≡ false → whole ≡ among s n step (at + step) (k - (i + 1)) x
-  among_on h b e f = inv ∙ among_next s n step at (k - i) (k - (i + 1)) x b false (omega arith) e f
-
-  pub among_misses : i < k → (y : ℕ) → y ≡ be_at s n at → (y ≡ x → ⊥) → whole ≡ among s n step (at + step) (k - (i + 1)) x
-  among_misses h y e f = among_on h false (sym (ne_eqb (be_at s n at) x λ m. f (e ∙ m))) refl
+  pub among_on : i < k → eqb (be_at s n at) x ≡ false → (next : ℕ) → next ≡ at + step → whole ≡ among s n step next (k - (i + 1)) x
+  among_on h e next p =
+      inv ∙ among_next s n step at (k - i) (k - (i + 1)) x false (omega arith) e
+      ∙ ap (λ (b : ℕ). among s n step b (k - (i + 1)) x) (sym p)
 
   pub among_meets : i < k → (y : ℕ) → y ≡ be_at s n at → y ≡ x → true ≡ whole
-  among_meets h y e f = among_found h true (sym (eq-eqb (be_at s n at) x (sym e ∙ f))) refl
+  among_meets h y e f = among_found h (eq-eqb (be_at s n at) x (sym e ∙ f))
+
+  pub among_misses : i < k → (y : ℕ) → y ≡ be_at s n at → (y ≡ x → ⊥) → (next : ℕ) → next ≡ at + step → whole ≡ among s n step next (k - (i + 1)) x
+  among_misses h y e f next p = among_on h (ne_eqb (be_at s n at) x λ m. f (e ∙ m)) next p
 
   pub among_end : k ≤ i → false ≡ whole
   unfolding among

@@ -11,8 +11,10 @@ use lib.ListN.{length}
 use Rattle.codec.specs.Number.{be_at}
 use Rattle.codec.specs.Total.{read_at}
 use Rattle.codec.proofs.Total.{read_there}
-use Rattle.layout.specs.declared.Got.{Got}
-use Rattle.layout.specs.declared.Got.TheVariants.{Num, Fault}
+use Rattle.layout.specs.Got.{Got}
+use Rattle.std.specs.Prelude.{Ok}
+use Rattle.layout.specs.declared.Read.{Read}
+use Rattle.layout.specs.Got.{Num, Fault, got_of}
 use Rattle.layout.specs.Knowledge.{largest_tick}
 use Rattle.layout.specs.Read.{◌▷◌, among, tick, element}
 use Rattle.check_fields.proofs.Steps.{Went, number_there, number_short}
@@ -133,3 +135,7 @@ element_went s r start k at g e y b f =
         let o : b ≡ at + 12 = cc q in
         let i : at + 12 ≤ length s = leb-true _ _ t in
         record { count = p; place = o; inside = omega arith }
+
+pub element_on : (s : List ℕ) (r start k at : ℕ) (x : Read) → got_of (Ok x) ≡ element s r start k at → Went s 12 k at x.number x.next
+unfolding got_of
+element_on s r start k at x e = element_went s r start k at (got_of (Ok x)) e x.number x.next refl

@@ -3,16 +3,18 @@
 -- decides them. The count after a run is its last byte where the three before it are 0.
 use mathlib.Core.Path.{◌≡◌, refl, sym, ap, ap₂, ◌∙◌}
 use mathlib.Core.List.{List, [], ◌∷◌}
-use Prim.Native.Nat.{ℕ, ◌+◌, ◌*◌, ◌^◌, ◌<◌, ◌≤◌}
+use Prim.Native.Nat.{ℕ, ◌+◌, ◌-◌, ◌*◌, ◌^◌, ◌<◌, ◌≤◌}
 use native.Mathlib.Omega.{arith}
 use borrow.Author.Tests.{eq-eqb}
-use lib.ListN.{length, drop}
+use lib.ListN.{length, get_or, take, drop, length-take, length-drop}
+use native.Mathlib.Nat.{add-zero}
 use Rattle.codec.specs.Number.{Bytes, be_at}
 use Rattle.codec.specs.Total.{read_at}
-use Rattle.codec.proofs.Numbers.{be_add, be_below}
+use Rattle.codec.proofs.Numbers.{be_add, be_below, be_take, be_drop}
+use Rattle.codec.proofs.Reading.{be_one}
 use Rattle.codec.proofs.Total.{read_there}
-use Rattle.layout.specs.declared.Got.{Got}
-use Rattle.layout.specs.declared.Got.TheVariants.{Num}
+use Rattle.layout.specs.Got.{Got}
+use Rattle.layout.specs.Got.{Num}
 use Rattle.layout.specs.Knowledge.{Field, field, opening, before_vectors, before_ranges, closing}
 use Rattle.layout.specs.Read.{◌▷◌, number, same, fields}
 use Rattle.check_fields.proofs.Steps.{number_there}
@@ -54,6 +56,31 @@ count_after :
     → Num n next ≡ (f ▷ number s 4)
 count_after s f x at n next e h i p =
     ap₂ Num i p ∙ sym (ap (λ (g : Got). g ▷ number s 4) e ∙ number_there s 4 x at h)
+
+-- a read in the n bytes from a place on
+module _ (s : List ℕ) (at n : ℕ) (h : at + n ≤ length s) where
+  inside_length : length (take (at + n - at) (drop at s)) ≡ n
+  inside_length = simp (length-take, length-drop) (omega arith)
+
+  pub inside_read : (m k : ℕ) → k + m ≤ n → read_at (take (at + n - at) (drop at s)) m k ≡ read_at s m (at + k)
+  inside_read m k l =
+      read_there (take (at + n - at) (drop at s)) m k (omega (arith, inside_length))
+      ∙ be_take (drop at s) m k (at + n - at) (omega arith)
+      ∙ be_drop s m at k
+      ∙ sym (read_there s m (at + k) (omega arith))
+
+  pub inside_first : (m : ℕ) → m ≤ n → read_at (take (at + n - at) (drop at s)) m 0 ≡ read_at s m at
+  inside_first m l = inside_read m 0 (omega arith) ∙ ap (λ (p : ℕ). read_at s m p) (add-zero at)
+
+  -- a byte in them
+  pub inside_byte : (k : ℕ) → k < n → get_or (take (at + n - at) (drop at s)) k 0 ≡ read_at s 1 (at + k)
+  inside_byte k l =
+      sym (be_one (take (at + n - at) (drop at s)) k)
+      ∙ sym (read_there (take (at + n - at) (drop at s)) 1 k (omega (arith, inside_length)))
+      ∙ inside_read 1 k (omega arith)
+
+pub byte_there : (s : List ℕ) (at : ℕ) → at < length s → get_or s at 0 ≡ read_at s 1 at
+byte_there s at h = sym (be_one s at) ∙ sym (read_there s 1 at (omega arith))
 
 -- ---- the opening, and the count r
 
@@ -162,29 +189,26 @@ counting s at a b c n bs h a1 a2 b1 b2 c1 c2 n1 =
 -- ---- the fields before the ranges, and the count g
 
 pub ranging :
-    (s : List ℕ) (at a b c d n : ℕ)
+    (s : List ℕ) (at a b c n : ℕ)
     → Bytes s
     → at + 16 ≤ length s
     → a ≡ read_at s 8 at
     → a ≡ 98784247809
     → b ≡ read_at s 4 (at + 8)
     → b ≡ 22
-    → c ≡ read_at s 2 (at + 12)
+    → c ≡ read_at s 3 (at + 12)
     → c ≡ 0
-    → d ≡ read_at s 1 (at + 14)
-    → d ≡ 0
     → n ≡ read_at s 1 (at + 15)
     → Num n (at + 16) ≡ (fields s before_ranges 0 at ▷ number s 4)
 unfolding before_ranges fields
-ranging s at a b c d n bs h a1 a2 b1 b2 c1 c2 d1 d2 n1 =
+ranging s at a b c n bs h a1 a2 b1 b2 c1 c2 n1 =
     let p : be_at s 8 at ≡ 23 * 4294967296 + 1 = known s 8 at 98784247809 a (omega arith) a1 a2 in
     let q : be_at s 4 (at + 8) ≡ 22 = known s 4 (at + 8) 22 b (omega arith) b1 b2 in
-    let k : be_at s 2 (at + 12) ≡ 0 = known s 2 (at + 12) 0 c (omega arith) c1 c2 in
-    let l : be_at s 1 (at + 14) ≡ 0 = known s 1 (at + 14) 0 d (omega arith) d1 d2 in
+    let k : be_at s 3 (at + 12) ≡ 0 = known s 3 (at + 12) 0 c (omega arith) c1 c2 in
     let last : be_at s 1 (at + 15) ≡ n = known s 1 (at + 15) n n (omega arith) n1 refl in
     let w = four_four s bs at 23 1 p (omega arith) in
     let count : n ≡ be_at s 4 (at + 12) =
-    omega (arith, be_split s 2 2 (at + 12) (at + 14) (omega arith), be_split s 1 1 (at + 14) (at + 15) (omega arith)) in
+    omega (arith, be_split s 3 1 (at + 12) (at + 15) (omega arith)) in
     count_after s (fields s before_ranges 0 at) 22 (at + 12) n (at + 16)
     (field_known s 4 23 (drop 1 before_ranges) 0 at (at + 4) refl (omega arith) w.0
     ∙ field_known s 4 1 (drop 2 before_ranges) 23 (at + 4) (at + 8) (omega arith) (omega arith) w.1

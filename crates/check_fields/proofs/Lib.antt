@@ -1,5 +1,4 @@
 -- The laws that the reading of fields is proved by; the crates above use them too.
-pub mod Digits
 pub mod Steps
 pub mod Among
 pub mod Repeat

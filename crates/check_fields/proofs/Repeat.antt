@@ -4,11 +4,14 @@ use mathlib.Core.List.{List}
 use Prim.Native.Nat.{ℕ, zero, suc, ◌+◌, ◌-◌, ◌*◌, ◌<◌, ◌≤◌}
 use native.Mathlib.Nat.{mul-zero, mul-suc}
 use lib.ListN.{length}
+use Rattle.std.specs.Prelude.{Result, Ok, Err, IsErrAnd}
 use native.Mathlib.Omega.{arith}
-use Rattle.layout.specs.declared.Got.{Got}
-use Rattle.layout.specs.declared.Got.TheVariants.{Num, Fault}
+use Rattle.layout.specs.Got.{Got}
+use Rattle.codec.specs.declared.Refusal.{Refusal}
+use Rattle.layout.specs.declared.Read.{Read}
+use Rattle.layout.specs.Got.{Num, Fault, got_of}
 use Rattle.layout.specs.Read.{◌▷◌, repeat}
-use Rattle.check_fields.proofs.Steps.{Went}
+use Rattle.check_fields.proofs.Steps.{Went, passed, then_on}
 
 pub repeat_all : (f : ℕ → ℕ → Got) (n x at : ℕ) → repeat f n x at ≡ repeat f (n - 0) x at
 repeat_all f n x at = let e : n ≡ n - 0 = omega arith in ap (λ (m : ℕ). repeat f m x at) e
@@ -18,28 +21,23 @@ unfolding repeat
 repeat_next f n m x at g e h = rw (e, h)
 
 module _ (whole : Got) (f : ℕ → ℕ → Got) (n k x at : ℕ) (inv : whole ≡ repeat f (n - k) x at) where
-  pub repeat_stop : k < n → (g : Got) → g ≡ f x at → (j : ℕ) → g ≡ Fault j → g ≡ whole
-  repeat_stop h g e j t = t ∙ sym (inv ∙ repeat_next f (n - k) (n - (k + 1)) x at g (omega arith) e ∙ rw t)
+  -- the part here, and what is left after it
+  pub repeat_step : k < n → whole ≡ (f x at ▷ repeat f (n - (k + 1)))
+  repeat_step h = inv ∙ repeat_next f (n - k) (n - (k + 1)) x at (f x at) (omega arith) refl
 
-  pub repeat_on : k < n → (g : Got) → g ≡ f x at → (y b : ℕ) → g ≡ Num y b → whole ≡ repeat f (n - (k + 1)) y b
-  repeat_on h g e y b t = inv ∙ repeat_next f (n - k) (n - (k + 1)) x at g (omega arith) e ∙ rw t
+  pub repeat_refused : k < n → (e : Refusal) → got_of (Err e) ≡ f x at → got_of (Err e) ≡ whole
+  unfolding got_of
+  repeat_refused h e i = ap (λ (g : Got). g ▷ repeat f (n - (k + 1))) i ∙ sym (repeat_step h)
 
-  pub repeat_up :
-      k < n
-      → (g : Got)
-      → g ≡ f x at
-      → (y b : ℕ)
-      → g ≡ Num y b
-      → (z : ℕ)
-      → y ≡ z
-      → whole ≡ repeat f (n - (k + 1)) z b
-  repeat_up h g e y b t z u = repeat_on h g e y b t ∙ ap (λ (v : ℕ). repeat f (n - (k + 1)) v b) u
+  pub repeat_fault : k < n → (r : Result Read Refusal) (e : Refusal) → IsErrAnd r (λ y. y ≡ e) → got_of (Err e) ≡ f x at → got_of r ≡ whole
+  repeat_fault h r e i j = passed r e i whole (repeat_refused h e j)
+
+  pub repeat_on : k < n → (y : Read) → got_of (Ok y) ≡ f x at → whole ≡ repeat f (n - (k + 1)) y.number y.next
+  repeat_on h y e = repeat_step h ∙ sym (then_on y (f x at) _ (repeat f (n - (k + 1))) e refl)
 
   pub repeat_end : n ≤ k → Num x at ≡ whole
   unfolding repeat
   repeat_end h = let z : n - k ≡ 0 = omega arith in sym (inv ∙ ap (λ (m : ℕ). repeat f m x at) z)
-
-pub ruleset repeats = (repeat_all, repeat_stop, repeat_on, repeat_end)
 
 -- n parts of one size each, where each is one more and inside the bytes
 pub repeat_went :

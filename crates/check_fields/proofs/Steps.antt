@@ -1,13 +1,19 @@
 -- The steps of reading, one law for each way that a function of the code returns: its premises are the facts that
 -- the code has tested there. Each holds since the definition makes the same test.
-use mathlib.Core.Path.{◌≡◌, sym, ap, ◌∙◌}
+use mathlib.Core.Path.{◌≡◌, refl, sym, ap, ◌∙◌}
+use Rattle.std.specs.Prelude.{Result, Ok, Err, IsErrAnd}
+use Rattle.std.proofs.lemmas.Result.{err_from_is_err_and}
 use mathlib.Core.List.{List}
 use Prim.Native.Nat.{ℕ, ◌+◌, ◌≤◌, ◌<◌}
 use borrow.Author.Tests.{le-leb, lt-leb, eq-eqb, ne_eqb}
 use lib.ListN.{length}
 use Rattle.codec.specs.Number.{be_at}
-use Rattle.layout.specs.declared.Got.{Got}
-use Rattle.layout.specs.declared.Got.TheVariants.{Num, Fault}
+use Rattle.codec.specs.Total.{read_at}
+use Rattle.codec.proofs.Total.{read_there}
+use Rattle.layout.specs.Got.{Got}
+use Rattle.codec.specs.declared.Refusal.{Refusal}
+use Rattle.layout.specs.declared.Read.{Read}
+use Rattle.layout.specs.Got.{Num, Fault, got_of}
 use Rattle.layout.specs.Read.{◌▷◌, number, same, limit, empty}
 
 -- one more part of a size, counted, and inside the bytes
@@ -24,17 +30,27 @@ pub number_short : (s : List ℕ) (n x at : ℕ) → length s < at + n → numbe
 unfolding number
 number_short s n x at h = rw (lt-leb (at + n) (length s) h, number)
 
--- the step after one whose answer is known by another name
-pub next_step : (f : ℕ → ℕ → Got) (g h k : Got) → h ≡ g → k ≡ (h ▷ f) → k ≡ (g ▷ f)
-next_step f g h k e i = i ∙ ap (λ (x : Got). x ▷ f) e
+pub number_is : (s : List ℕ) (n x at y : ℕ) → at + n ≤ length s → y ≡ read_at s n at → Num y (at + n) ≡ number s n x at
+number_is s n x at y h e = rw (e, read_there s n at h) (sym (number_there s n x at h))
 
--- ---- a number of n bytes
+-- the number before does not matter
+pub number_any : (s : List ℕ) (n x at : ℕ) → number s n 0 at ≡ number s n x at
+unfolding number
+number_any s n x at = refl
 
-pub number_cut : (s : List ℕ) (n : ℕ) (g : Got) (x at : ℕ) → g ≡ Num x at → length s < at + n → Fault 1 ≡ (g ▷ number s n)
-number_cut s n g x at e h = rw e (sym (number_short s n x at h))
+-- ---- the exits of a `?`: the refusal is handed on, and without one the next step follows
 
-pub number_read : (s : List ℕ) (n : ℕ) (g : Got) (x at y : ℕ) → g ≡ Num x at → at + n ≤ length s → y ≡ be_at s n at → Num y (at + n) ≡ (g ▷ number s n)
-number_read s n g x at y e h f = rw (e, f) (sym (number_there s n x at h))
+module _ (r : Result Read Refusal) (e : Refusal) (h : IsErrAnd r (λ x. x ≡ e)) (g : Got) (i : got_of (Err e) ≡ g) where
+  pub passed : got_of r ≡ g
+  passed = let p = err_from_is_err_and r h in ap got_of (p.1 ∙ ap Err p.2) ∙ i
+
+  pub passed_on : (f : ℕ → ℕ → Got) → got_of r ≡ (g ▷ f)
+  unfolding got_of
+  passed_on f = passed ∙ sym i ∙ ap (λ (k : Got). k ▷ f) i
+
+pub then_on : (x : Read) (g h : Got) (f : ℕ → ℕ → Got) → got_of (Ok x) ≡ g → h ≡ f x.number x.next → h ≡ (g ▷ f)
+unfolding got_of
+then_on x g h f e i = i ∙ ap (λ (k : Got). k ▷ f) e
 
 -- ---- a comparison
 
@@ -65,13 +81,3 @@ empty_yes g x at e f = rw (e, f)
 pub empty_no : (g : Got) (x at : ℕ) → g ≡ Num x at → (x ≡ 0 → ⊥) → Fault 4 ≡ (g ▷ empty)
 unfolding empty
 empty_no g x at e f = rw (e, ne_eqb x 0 f, empty)
-
-pub ruleset steps = (
-  same_yes,
-  same_no,
-  limit_low,
-  limit_high,
-  limit_in,
-  empty_yes,
-  empty_no,
-)

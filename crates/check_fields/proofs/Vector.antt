@@ -2,7 +2,7 @@
 -- inside the bytes, and each of its elements takes twelve of them.
 use mathlib.Core.Path.{◌≡◌, refl, sym, ap, ◌∙◌}
 use mathlib.Core.Bool.{Bool, true, false}
-use mathlib.Core.List.{List, []}
+use mathlib.Core.List.{List}
 use Prim.Native.Nat.{ℕ, ◌+◌, ◌-◌, ◌*◌, ◌<◌, ◌≤◌}
 use native.Mathlib.Nat.{zero-add}
 use native.Mathlib.Omega.{arith}
@@ -10,25 +10,14 @@ use borrow.Author.Tests.{leb-true, leb-false, eqb-true, eqb-false, eq-eqb, ne_eq
 use lib.Dec.{leb, eqb}
 use lib.ListN.{length}
 use Rattle.codec.specs.Number.{be_at}
-use Rattle.layout.specs.declared.Got.{Got}
-use Rattle.layout.specs.declared.Got.TheVariants.{Num, Fault}
+use Rattle.layout.specs.Got.{Got}
+use Rattle.layout.specs.Got.{Num, Fault}
 use Rattle.layout.specs.Knowledge.{before_elements}
 use Rattle.layout.specs.Read.{◌▷◌, repeat, number, same, fields, limit, empty, element, first_vector, vector}
 use Rattle.layout.specs.Parse.{vector_list}
 use Rattle.check_fields.proofs.Steps.{number_there, number_short, limit_low, limit_high, limit_in}
-use Rattle.check_fields.proofs.Run.{run_none, run_next, run_whole}
 use Rattle.check_fields.proofs.Repeat.{repeat_went}
 use Rattle.check_fields.proofs.Element.{element_went}
-
-pub count_field :
-    (s : List ℕ) (at : ℕ) (f g : Got)
-    → f ≡ (number s 4 0 at ▷ same 1)
-    → g ≡ (f ▷ number s 4)
-    → g ≡ (fields s before_elements 0 at ▷ number s 4)
-unfolding before_elements
-count_field s at f g e h =
-    let w : f ≡ fields s before_elements 0 at = run_whole s before_elements 0 at f (run_next s 4 1 [] (Num 0 at) f f e (run_none s f)) in
-    cc (ap (λ (k : Got). k ▷ number s 4) w)
 
 -- the count, as the tests decide
 module _ (s : List ℕ) (at : ℕ) where

@@ -1,3 +1,3 @@
--- The laws that the reader's functions are proved by.
+-- The laws that the check is proved by.
 pub mod Answers
 pub mod Packed

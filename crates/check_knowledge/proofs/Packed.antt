@@ -9,8 +9,8 @@ use borrow.Author.Tests.{lt-ltb, le-ltb}
 use lib.Arith.{digits_div, digits_mod}
 use lib.ListN.{length}
 use Rattle.codec.specs.Number.{Bytes}
-use Rattle.layout.specs.declared.Checked.{Checked}
-use Rattle.layout.specs.declared.Checked.TheVariants.{Accepted, Refused}
+use Rattle.layout.specs.Checked.{Checked}
+use Rattle.layout.specs.Checked.{Accepted, Refused}
 use Rattle.layout.specs.Knowledge.{Rules, basic, base, encode}
 use Rattle.layout.specs.Permitted.{rules_within}
 use Rattle.layout.specs.Parse.{checked_by}

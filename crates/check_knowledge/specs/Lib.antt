@@ -1,2 +1,2 @@
--- The reader's own method.
+-- The check's answer as one number.
 pub mod Method

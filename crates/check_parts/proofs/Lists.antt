@@ -10,8 +10,8 @@ use borrow.Author.Tests.{leb-true, leb-false}
 use lib.Dec.{leb}
 use lib.ListN.{length}
 use Rattle.codec.specs.Number.{be_at}
-use Rattle.layout.specs.declared.Got.{Got}
-use Rattle.layout.specs.declared.Got.TheVariants.{Num, Fault}
+use Rattle.layout.specs.Got.{Got}
+use Rattle.layout.specs.Got.{Num, Fault}
 use Rattle.layout.specs.Knowledge.{basic, opening, before_ranges}
 use Rattle.layout.specs.Read.{◌▷◌, repeat, number, fields, limit, replica_id, element, vector}
 use Rattle.layout.specs.Parse.{replica_map, range_list}

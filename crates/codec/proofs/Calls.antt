@@ -3,7 +3,7 @@
 -- placed at its front. Each is one clause of `answer` and one of `after`.
 use Rattle.std.proofs.Common.{◌≡◌, ℕ, ◌+◌, ◌<◌, ◌≤◌, List, ◌++◌, length, drop, ap, ◌∙◌, zero-add, arith, le-leb}
 use borrow.Author.Tests.{lt-leb}
-use Rattle.codec.specs.declared.Answer.TheVariants.{Written, Refused}
+use Rattle.codec.specs.Answer.{Written, Refused}
 use Rattle.codec.specs.Reply.{Reply, gives, refuses, answer, after}
 use Rattle.codec.specs.Part.{placed}
 use Rattle.codec.proofs.Writing.{placed_in}

@@ -1,7 +1,7 @@
 -- A call that writes has ended as its reply says: how that is shown in each case of the reply, and what it says in each.
 use Rattle.std.proofs.Common.{◌≡◌, ℕ, ◌<◌, ◌≤◌, Bool, true, false, leb, List, length, sym, refl, ◌∙◌, leb-false, leb-true}
-use Rattle.codec.specs.declared.Answer.{Answer}
-use Rattle.codec.specs.declared.Answer.TheVariants.{Written, Refused}
+use Rattle.codec.specs.Answer.{Answer}
+use Rattle.codec.specs.Answer.{Written, Refused}
 use Rattle.codec.specs.Reply.{Reply, gives, refuses}
 use Rattle.codec.specs.Part.{placed}
 use Rattle.codec.specs.MethodEnded.{Ended}

@@ -7,8 +7,8 @@
 use Rattle.std.proofs.Common.{◌≡◌, ℕ, ◌<◌, ◌≤◌, Bool, true, false, leb, ◌⊎◌, ◌↔◌, List, [], ◌∷◌, ◌++◌, length, take, drop, sym, refl, ap, ◌∙◌, inl, inr, arith, length-append, length-drop, drop_at, le-leb, leb-false, leb-true}
 use lib.Seq.{take-append_seam}
 use borrow.Author.Tests.{lt-leb}
-use Rattle.codec.specs.declared.Answer.{Answer}
-use Rattle.codec.specs.declared.Answer.TheVariants.{Written, Refused}
+use Rattle.codec.specs.Answer.{Answer}
+use Rattle.codec.specs.Answer.{Written, Refused}
 use Rattle.codec.specs.Reply.{Reply, gives, refuses, answer, after, number_of, written_of, Line, first_fault}
 use Rattle.codec.specs.Parsed.{accepted, refused, line, own_fault, read_or}
 

@@ -1,13 +1,14 @@
 -- Writing into a buffer: stores one after the other from a place on leave what `placed` says, where the place has
--- room for all of them, and a buffer that has no room stays as it was. Copying a part byte by byte is the same.
-use Rattle.std.proofs.Common.{◌≡◌, ℕ, zero, suc, ◌+◌, ◌/◌, ◌%◌, ◌^◌, ◌<◌, ◌≤◌, Bool, true, false, leb, List, [], ◌∷◌, ◌++◌, length, get_or, take, drop, set, replicate, sym, refl, ap, ◌∙◌, ap₂, append_assoc, add-zero, mul_comm, suc-add, zero-add, div-one, add-one, arith, length-append, length-drop, take-append-drop, length-take, get_or-drop, get_or-take, pow-add, le-leb, leb-false, leb-true}
-use native.Mathlib.Nat.{div-div-eq-div-mul}
-use native.Mathlib.Numerals.{add-two, add-three}
+-- room for all of them, and a buffer that has no room stays as it was. Copying a part is the same.
+use Rattle.std.proofs.Common.{◌≡◌, ℕ, zero, suc, ◌+◌, ◌-◌, ◌*◌, ◌/◌, ◌%◌, ◌^◌, ◌<◌, ◌≤◌, Bool, true, false, leb, List, [], ◌∷◌, ◌++◌, length, get_or, take, drop, set, replicate, sym, refl, ap, ◌∙◌, append_assoc, add-zero, add-one, arith, length-append, length-drop, take-append-drop, length-take, le-leb, leb-false, leb-true}
+use borrow.Rule.Slice.PartMut.{put_mid}
+use Rattle.std.proofs.lemmas.List.{drop-drop}
 use borrow.Author.Tests.{lt-leb}
 use lib.Seq.{sets, sets-eq, length-sets, take-length, paste, paste-zero, paste-suc}
 use Rattle.codec.specs.Number.{put}
 use Rattle.codec.specs.Part.{placed, part, bytes}
-use Rattle.codec.proofs.Numbers.{put-length, put-append}
+use Rattle.codec.proofs.Numbers.{put-length}
+use Rattle.codec.proofs.Reading.{powers}
 
 -- scratch
 pub zeros-length : (n : ℕ) → length (replicate {A = ℕ} n 0) ≡ n
@@ -46,34 +47,13 @@ placed-length d at vs = go (leb (at + length vs) (length d)) refl
     go true e = ap length (sym (stored d at vs (leb-true (at + length vs) (length d) e))) ∙ length-sets d at vs
     go false e = ap length (sym (placed_out d at vs (leb-false (at + length vs) (length d) e)))
 
--- the n bytes of x: at a literal width `sets` computes to the stores that the code makes
+-- the n bytes of x
 module _ (d : List ℕ) (at n x : ℕ) where
   pub no_room : length d < at + n → d ≡ placed d at (bytes n x)
   no_room h = placed_out d at (bytes n x) (rw bytes-length h)
 
   pub written : at + n ≤ length d → sets d at (bytes n x) ≡ placed d at (bytes n x)
   written h = stored d at (bytes n x) (rw bytes-length h)
-
--- the stores of four bytes, as the code makes them: its places are `at + 1` and so on
-module _ (d : List ℕ) (at x : ℕ) where
-  pub four_stores :
-      set (set (set (set d at (x / 16777216 % 256)) (at + 1) (x / 65536 % 256)) (at + 2) (x / 256 % 256)) (at + 3) (x % 256)
-      ≡ sets d at (bytes 4 x)
-  unfolding bytes put
-  four_stores = rw (add-one at, add-two at, add-three at, div-one x)
-
--- a number of eight bytes is one of four, and four more
-pub put_high : (n m x : ℕ) (t : List ℕ) → put (n + m) x t ≡ put n (x / 256 ^ m) (put m x t)
-unfolding put
-put_high zero m x t = rw (zero-add m)
-put_high (suc n) m x t = rw (suc-add n m) (ap₂ {C = List ℕ} (λ b r. b ∷ r) (ap (λ (v : ℕ). v % 256) digit) (put_high n m x t))
-  where
-    digit : x / 256 ^ (n + m) ≡ x / 256 ^ m / 256 ^ n
-    digit = rw (pow-add 256 n m, mul_comm (256 ^ n) (256 ^ m)) (sym (div-div-eq-div-mul x (256 ^ m) (256 ^ n)))
-
-bytes_eight : (x : ℕ) → bytes 8 x ≡ bytes 4 (x / 4294967296) ++ bytes 4 x
-unfolding bytes
-bytes_eight x = put_high 4 4 x [] ∙ put-append 4 (x / 4294967296) (put 4 x [])
 
 pub sets-append : (d vs ws : List ℕ) (at : ℕ) → sets d at (vs ++ ws) ≡ sets (sets d at vs) (at + length vs) ws
 sets-append d [] ws at = rw (add-zero at)
@@ -135,20 +115,6 @@ placed_swap d at j vs ws h = go (leb (j + length ws) (length d)) refl
         sym (placed_out (placed d at vs) j ws (rw (placed-length d at vs) r))
         ∙ ap (λ (l : List ℕ). placed l at vs) (placed_out d j ws r)
 
-pub eight_stored :
-    (d e f : List ℕ) (at x : ℕ)
-    → e ≡ sets d at (bytes 4 (x / 4294967296))
-    → f ≡ sets e (at + 4) (bytes 4 x)
-    → at + 8 ≤ length d
-    → f ≡ placed d at (bytes 8 x)
-eight_stored d e f at x p q h =
-    q
-    ∙ ap (λ (l : List ℕ). sets l (at + 4) (bytes 4 x)) p
-    ∙ ap (λ (k : ℕ). sets (sets d at (bytes 4 (x / 4294967296))) (at + k) (bytes 4 x)) (sym (bytes-length 4 (x / 4294967296)))
-    ∙ sym (sets-append d (bytes 4 (x / 4294967296)) (bytes 4 x) at)
-    ∙ ap (λ (l : List ℕ). sets d at l) (sym (bytes_eight x))
-    ∙ written d at 8 x h
-
 -- a part that is not there is empty, and so nothing is written
 module _ (s : List ℕ) (from n : ℕ) where
   part_in : from + n ≤ length s → part s from n ≡ take n (drop from s)
@@ -169,7 +135,23 @@ module _ (d s : List ℕ) (at from n : ℕ) where
   pub no_place : from + n ≤ length s → length d < at + n → d ≡ placed d at (part s from n)
   no_place h k = placed_out d at (part s from n) (rw (part_length_lem s from n h) k)
 
--- ---- copying a part, byte by byte
+-- a part that is copied into a place that has room for it
+module _ (d s : List ℕ) (at from n : ℕ) (h : from + n ≤ length s) (k : at + n ≤ length d) where
+  pub part_copied : (ys : List ℕ) → ys ≡ take (from + n - from) (drop from s) → put_mid at (at + n - at) d ys ≡ placed d at (part s from n)
+  part_copied ys e =
+      let z : ys ≡ part s from n = e ∙ ap (λ (m : ℕ). take m (drop from s)) (omega arith) ∙ sym (part_in s from n h) in
+      let w : at + length (part s from n) ≤ length d = rw (part_length_lem s from n h) k in
+      rw (z, placed_in d at (part s from n) w, part_length_lem s from n h, drop-drop)
+      (ap (λ (m : ℕ). take at d ++ (part s from n ++ drop m d)) (omega arith))
+
+-- ---- writing a number byte by byte
+
+-- a byte of a number, by its place
+byte_at : (n x i : ℕ) → i < n → get_or (put n x []) i 0 ≡ x / 256 ^ (n - 1 - i) % 256
+unfolding put
+byte_at zero x i h = absurd (omega arith)
+byte_at (suc n) x zero h = ap (λ (m : ℕ). x / 256 ^ m % 256) (omega arith)
+byte_at (suc n) x (suc i) h = byte_at n x i (omega arith) ∙ ap (λ (m : ℕ). x / 256 ^ m % 256) (omega arith)
 
 -- d, with the first i of vs from a place on
 pub copying : List ℕ → ℕ → List ℕ → ℕ → List ℕ
@@ -179,22 +161,19 @@ pub copying_none : (d : List ℕ) (at : ℕ) (vs : List ℕ) → d ≡ copying d
 unfolding copying
 copying_none d at vs = paste-zero d at vs
 
-module _ (d s : List ℕ) (at from n : ℕ) (h : from + n ≤ length s) (k : at + n ≤ length d) where
-  part_at : (i : ℕ) → i < n → get_or (part s from n) i 0 ≡ get_or s (from + i) 0
-  part_at i l = rw (part_in s from n h, get_or-take, get_or-drop)
-
+module _ (d : List ℕ) (at n x : ℕ) (k : at + n ≤ length d) where
   pub copying_more :
       (e : List ℕ) (i : ℕ)
       → i < n
-      → e ≡ copying d at (part s from n) i
-      → set e (at + i) (get_or s (from + i) 0) ≡ copying d at (part s from n) (i + 1)
-  unfolding copying
+      → e ≡ copying d at (bytes n x) i
+      → set e (at + i) (x / 2 ^ (8 * (n - 1 - i)) % 256) ≡ copying d at (bytes n x) (i + 1)
+  unfolding copying bytes
   copying_more e i l c =
-      let v : i < length (part s from n) = rw (part_length_lem s from n h) l in
-      rw (c, ← part_at i l, add-one i) (paste-suc d at (part s from n) i 0 (omega arith) v)
+      let v : i < length (put n x []) = rw (bytes-length n x) l in
+      rw (c, powers, ← byte_at n x i l, add-one i) (paste-suc d at (put n x []) i 0 (omega arith) v)
 
-  pub copying_all : (e : List ℕ) (i : ℕ) → i ≡ n → e ≡ copying d at (part s from n) i → e ≡ placed d at (part s from n)
+  pub copying_all : (e : List ℕ) (i : ℕ) → i ≡ n → e ≡ copying d at (bytes n x) i → e ≡ placed d at (bytes n x)
   unfolding copying
   copying_all e i l c =
-      let z : length (part s from n) ≡ i = part_length_lem s from n h ∙ sym l in
-      c ∙ rw (placed_in d at (part s from n) (omega arith), ← z, take-length, append_assoc)
+      let z : length (bytes n x) ≡ i = bytes-length n x ∙ sym l in
+      c ∙ rw (placed_in d at (bytes n x) (omega arith), ← z, take-length, append_assoc)

@@ -5,6 +5,8 @@ pub mod Total
 pub mod Words
 pub mod Ids
 pub mod Part
+pub mod Refusal
+pub mod Answer
 pub mod Reply
 pub mod Parsed
 pub mod MethodEnded

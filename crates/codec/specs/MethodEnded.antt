@@ -2,7 +2,7 @@
 -- equations themselves.
 use Rattle.std.specs.Prelude.{ℕ, ◌≡◌, List, length}
 use Rattle.codec.specs.Reply.{Reply, answer, after}
-use Rattle.codec.specs.declared.Answer.{Answer}
+use Rattle.codec.specs.Answer.{Answer}
 
 -- the call has ended as its reply says
 pub record Ended (reply : Reply) (out after' : List ℕ) (a : Answer) : Type 0 where

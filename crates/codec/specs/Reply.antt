@@ -1,8 +1,8 @@
 -- The answer of a call that writes. Document 01: "Only the number returns; buffers are unaltered" on a refusal;
 -- demand 1: "a success writes the stated bytes from the front and none after them."
 use Rattle.std.specs.Prelude.{ℕ, Bool, true, false, List, [], ◌∷◌, ◌++◌, leb, length, drop}
-use Rattle.codec.specs.declared.Answer.{Answer}
-use Rattle.codec.specs.declared.Answer.TheVariants.{Written, Refused}
+use Rattle.codec.specs.Answer.{Answer}
+use Rattle.codec.specs.Answer.{Written, Refused}
 
 -- what a call comes to before its output buffer is looked at: the bytes to be written, or the refusal's number
 pub data Reply : Type 0 where

@@ -4,8 +4,8 @@ use mathlib.Core.Path.{◌≡◌, sym, ap, ◌∙◌}
 use mathlib.Core.List.{List}
 use Prim.Native.Nat.{ℕ}
 use lib.ListN.{length}
-use Rattle.codec.specs.declared.Answer.{Answer}
-use Rattle.codec.specs.declared.Answer.TheVariants.{Written, Refused}
+use Rattle.codec.specs.Answer.{Answer}
+use Rattle.codec.specs.Answer.{Written, Refused}
 use Rattle.codec.specs.Reply.{Reply, answer, after, number_of, written_of}
 use Rattle.collector.specs.Called.{Called}
 

@@ -2,10 +2,10 @@
 -- on a refusal those that were there.
 use Prim.Native.Nat.{ℕ}
 use mathlib.Core.Path.{◌≡◌, refl, sym, subst}
-use Rattle.replication.specs.declared.Part.{Part}
-use Rattle.replication.specs.declared.Part.TheVariants as P
-use Rattle.replication.specs.declared.Coverage.{Coverage}
-use Rattle.replication.specs.declared.Coverage.TheVariants as G
+use Rattle.replication.specs.Part.{Part}
+use Rattle.replication.specs.Part as P
+use Rattle.replication.specs.Coverage.{Coverage}
+use Rattle.replication.specs.Coverage as G
 use Rattle.replication.specs.Queries.{part_number, part_side, part_at_place, part_length}
 use Rattle.collector.specs.Called.{PartCalled, SideCalled}
 use Rattle.replication.specs.Queries.{coverage_number, coverage_contained, coverage_all, coverage_thousandths}

@@ -2,7 +2,7 @@
 -- the result too. A name with ' is what is there after the call, the name without what was there before it.
 use Rattle.std.specs.Prelude.{ℕ, ◌≡◌, List, length}
 use Rattle.codec.specs.Reply.{Reply, answer, after, number_of, written_of}
-use Rattle.replication.specs.declared.Part.{Part}
+use Rattle.replication.specs.Part.{Part}
 use Rattle.replication.specs.Queries.{part_number, part_side, part_at_place, part_length}
 
 -- a call that writes: the reply's number, its length, and its bytes in front of what was there

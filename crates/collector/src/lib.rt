@@ -3,6 +3,7 @@
 #![tactic(auto)]
 
 ghost use Rattle.std.specs.Prelude.{◌≡◌, length};
+ghost use Rattle.codec.specs.Answer.{answer_of};
 ghost use Rattle.codec.specs.Reply.{answer, number_of, written_of};
 ghost use Rattle.layout.specs.Knowledge.{basic, base};
 ghost use Rattle.layout.specs.Parse.{checked_by};
@@ -13,14 +14,13 @@ ghost use Rattle.ticks.specs.Calls.{normalise_reply, merge_reply, project_reply}
 ghost use Rattle.ticks.specs.Compare.{compare_reply, order_value};
 ghost use Rattle.replication.specs.Calls.{new_reply, edit_reply, delete_reply, make_reply, apply_reply};
 ghost use Rattle.replication.specs.Call.{brings};
+ghost use Rattle.replication.specs.Part.{part_of};
 ghost use Rattle.replication.specs.Queries.{winner_part, learned_part, knowledge_part, length_at};
 ghost use Rattle.replication.specs.Queries.{coverage_number, coverage_contained, coverage_all, coverage_thousandths, coverage_answer};
 ghost use Rattle.collector.specs.Called.{Called, PartCalled, SideCalled};
 
-use codec::Answer;
-use layout::Checked;
-use replication::{Coverage, Part};
-use ticks::{Contain, Cover, Lead};
+use codec::Refusal;
+use replication::{Location, Side};
 
 // Checks a knowledge: its sizes r, v, e and g, or the refusal's number, and then no size changes.
 #[unsafe(no_mangle)]
@@ -29,14 +29,14 @@ pub extern "C" fn sync_check(knowledge: &[u8], sizes: &mut [u64; 4]) -> u32
         (result ≡ checked_number a) × (sizes.new ≡ checked_sizes a sizes.old) }
 {
     match check_knowledge::check(knowledge) {
-        Checked::Accepted { r, v, e, g } => {
-            sizes[0] = r as u64;
-            sizes[1] = v as u64;
-            sizes[2] = e as u64;
-            sizes[3] = g as u64;
+        Ok(n) => {
+            sizes[0] = n.r as u64;
+            sizes[1] = n.v as u64;
+            sizes[2] = n.e as u64;
+            sizes[3] = n.g as u64;
             0
         }
-        Checked::Refused(n) => n,
+        Err(fault) => u32::from(fault),
     }
 }
 
@@ -54,15 +54,11 @@ pub extern "C" fn sync_contain(
         (result ≡ contain_number a) × (contained.new ≡ contain_value a contained.old) }
 {
     match lookup::contain(knowledge, item, replica, tick) {
-        Contain::Contained => {
-            *contained = 1;
+        Ok(yes) => {
+            *contained = u32::from(yes);
             0
         }
-        Contain::Lacking => {
-            *contained = 0;
-            0
-        }
-        Contain::Refused(n) => n,
+        Err(e) => u32::from(e),
     }
 }
 
@@ -80,11 +76,11 @@ pub extern "C" fn sync_lead(
         (result ≡ lead_number a) × (lead.new ≡ lead_value a lead.old) }
 {
     match lookup::lead(first, second, item, replica) {
-        Lead::Ahead(x) => {
+        Ok(x) => {
             *lead = x;
             0
         }
-        Lead::Refused(n) => n,
+        Err(e) => u32::from(e),
     }
 }
 
@@ -102,29 +98,25 @@ pub extern "C" fn sync_cover(
         (result ≡ cover_number a) × (covers.new ≡ cover_value a covers.old) }
 {
     match cover::cover(knowledge, other, first, last) {
-        Cover::Covers => {
-            *covers = 1;
+        Ok(yes) => {
+            *covers = u32::from(yes);
             0
         }
-        Cover::Lacks => {
-            *covers = 0;
-            0
-        }
-        Cover::Refused(n) => n,
+        Err(e) => u32::from(e),
     }
 }
 
 // How a call that writes ends for C: the length through the pointer and 0, or the refusal's number, and then nothing changes.
-fn answer_to_c(a: Answer, written: &mut u64) -> u32
-    ensures number { result ≡ number_of a }
-    ensures count { written.new ≡ written_of a written.old }
+fn answer_to_c(a: Result<usize, Refusal>, written: &mut u64) -> u32
+    ensures number { result ≡ number_of (answer_of a) }
+    ensures count { written.new ≡ written_of (answer_of a) written.old }
 {
     match a {
-        Answer::Written(n) => {
+        Ok(n) => {
             *written = n as u64;
             0
         }
-        Answer::Refused(n) => n,
+        Err(refusal) => u32::from(refusal),
     }
 }
 
@@ -257,31 +249,35 @@ pub extern "C" fn sync_apply(store: &[u8], batch: &[u8], out: &mut [u8], written
 
 // How a call that returns a part ends for C: the side (0 nobody's, 1 the store's, 2 the batch's), the place and the length through the
 // pointers, and 0; or the refusal's number, and then nothing changes.
-fn part_to_c(p: Part, side: &mut u32, at: &mut u64, length: &mut u64) -> u32
-    ensures { SideCalled p result
+fn part_to_c(
+    p: Result<Option<Location>, Refusal>,
+    side: &mut u32,
+    at: &mut u64,
+    length: &mut u64,
+) -> u32
+    ensures { SideCalled (part_of p) result
         side.old side.new at.old at.new length.old length.new }
 {
-    match p {
-        Part::Nothing => {
+    let part = match p {
+        Ok(x) => x,
+        Err(e) => return u32::from(e),
+    };
+    match part {
+        None => {
             *side = 0;
             *at = 0;
             *length = 0;
-            0
         }
-        Part::OfStore(x, n) => {
-            *side = 1;
-            *at = x as u64;
-            *length = n as u64;
-            0
+        Some(l) => {
+            *side = match l.side {
+                Side::Store => 1,
+                Side::Batch => 2,
+            };
+            *at = l.at as u64;
+            *length = l.length as u64;
         }
-        Part::OfBatch(x, n) => {
-            *side = 2;
-            *at = x as u64;
-            *length = n as u64;
-            0
-        }
-        Part::Refused(k) => k,
     }
+    0
 }
 
 // Where the winner of an item stands: the side (0 none, 1 the store's, 2 the batch's), the place and the length; or the refusal's
@@ -341,17 +337,13 @@ pub extern "C" fn sync_coverage(
         × (thousandths.new ≡ coverage_thousandths a thousandths.old))) }
 {
     match store_queries::coverage(store, knowledge) {
-        Coverage::Covered {
-            contained: c,
-            all: n,
-            thousandths: t,
-        } => {
-            *contained = c as u64;
-            *all = n as u64;
-            *thousandths = t as u64;
+        Ok(c) => {
+            *contained = c.contained as u64;
+            *all = c.all as u64;
+            *thousandths = c.thousandths as u64;
             0
         }
-        Coverage::Refused(k) => k,
+        Err(e) => u32::from(e),
     }
 }
 

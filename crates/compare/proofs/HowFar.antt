@@ -1,20 +1,19 @@
 -- How far two knowledges are alike. At an item to which two cursors have come, the same ids and the same elements are the same ticks, so
 -- nothing lacks there either way; up to the next bound of both nothing changes (`going_on`), and where no bound is left nothing lacks at
 -- all (`going_done`). So the first lacking place is the first from any item that was come to (`going_stops`).
-use Prim.Native.Nat.{ℕ, suc, ◌+◌, ◌-◌, ◌*◌, ◌≤◌, ◌<◌}
+use Prim.Native.Nat.{ℕ, suc, ◌+◌, ◌*◌, ◌≤◌, ◌<◌}
 use mathlib.Core.Path.{◌≡◌, refl, sym, ap, ap₂, ◌∙◌, subst}
-use mathlib.Core.Bool.{Bool, true, false}
+use mathlib.Core.Bool.{true, false}
 use mathlib.Core.List.{List, ◌∷◌}
+use Rattle.std.specs.Prelude.{Some, None}
 use native.Mathlib.Omega.{arith}
-use lib.Dec.{ltb, eqb}
+use lib.Dec.{ltb}
 use lib.ListN.{length}
-use borrow.Author.Tests.{eqb-true}
 use Rattle.codec.specs.Number.{be_at}
-use Rattle.codec.specs.Words.{words2, words3}
+use Rattle.codec.specs.Words.{words3}
 use Rattle.codec.specs.declared.Item.{Item}
 use Rattle.codec.specs.Ids.{item_of}
 use Rattle.codec.proofs.Numbers.{be_below}
-use Rattle.codec.proofs.Order.{words2_be, words3_be}
 use Rattle.layout.specs.Knowledge.{Rules, Element, Knowledge}
 use Rattle.layout.specs.Decode.{ids_at, elements_at, decode}
 use Rattle.layout.specs.MethodPlaces.{ids_place}
@@ -24,22 +23,22 @@ use Rattle.ticks.proofs.ForRows.{NothingLacks, Still, lacking_on, lacking_past}
 use Rattle.ticks.proofs.LawfulResults.{below_top}
 use Rattle.lookup.specs.declared.Cursor.{Cursor}
 use Rattle.lookup.specs.Method.{There, elements_here, advanced, Open}
+use Rattle.lookup.proofs.Loops.{here_is}
 use Rattle.lookup.proofs.Leaf.{read_ids, ids_room, opens_reading, advanced_passes}
 use Rattle.lookup.proofs.Leaf.{Stands, stands_start, stands_advanced, stands_elements, stands_still}
-use Rattle.compare.specs.declared.Alike.TheVariants as L
 use Rattle.compare.specs.declared.Next.{Next}
 use Rattle.compare.specs.declared.Next.TheVariants as N
-use Rattle.compare.specs.Method.{Reached, SameBound, GoesOn}
+use Rattle.compare.specs.Method.{Reached, GoesOn}
 
 -- ---- the same ids, in the same order
 
 pub record IdsFrom (s t : List ℕ) (r left at : ℕ) : Type 0 where
   pub is : ids_at s left at ≡ ids_at t left at → ids_at s r ids_place ≡ ids_at t r ids_place
-  pub first : at + 16 * left ≤ length s
-  pub second : at + 16 * left ≤ length t
 
-pub ids_all : (s t : List ℕ) (r : ℕ) → ids_place + 16 * r ≤ length s → ids_place + 16 * r ≤ length t → IdsFrom s t r r ids_place
-ids_all s t r h k = record { is = λ e. e; first = h; second = k }
+pub ids_all : (s t : List ℕ) (r left at : ℕ) → left ≡ r → at ≡ ids_place → IdsFrom s t r left at
+ids_all s t r left at e f = record {
+  is = λ g. ap₂ (λ n x. ids_at s n x) (sym e) (sym f) ∙ g ∙ ap₂ (λ n x. ids_at t n x) e f;
+}
 
 module _ (s t : List ℕ) (r left at : ℕ) (f : IdsFrom s t r left at) where
   pub ids_done : left ≤ 0 → ids_at s r ids_place ≡ ids_at t r ids_place
@@ -48,41 +47,26 @@ module _ (s t : List ℕ) (r left at : ℕ) (f : IdsFrom s t r left at) where
       let z : left ≡ 0 = omega arith in
       f.is (subst (λ (n : ℕ). ids_at s n at ≡ ids_at t n at) (sym z) refl)
 
-  pub ids_next : (a b c d : ℕ) → 0 < left → a ≡ be_at s 8 at → b ≡ be_at t 8 at → a ≡ b → c ≡ be_at s 8 (at + 8) → d ≡ be_at t 8 (at + 8)
-      → c ≡ d → IdsFrom s t r (left - 1) (at + 16)
+  pub ids_next : (less next : ℕ) → left ≡ suc less → next ≡ at + 16 → be_at s 16 at ≡ be_at t 16 at → IdsFrom s t r less next
   unfolding ids_at
-  ids_next a b c d h ea eb e ec ed g =
-      let one : be_at s 16 at ≡ be_at t 16 at =
-      words2_be s at ∙ ap₂ words2 (sym ea ∙ e ∙ eb) (sym ec ∙ g ∙ ed) ∙ sym (words2_be t at) in
-      let m : left ≡ suc (left - 1) = omega (arith, h) in
-      record {
-        is = λ q. f.is (subst (λ (n : ℕ). ids_at s n at ≡ ids_at t n at) (sym m) (ap₂ (λ (x : ℕ) (xs : List ℕ). x ∷ xs) one q));
-        first = omega (arith, f.first);
-        second = omega (arith, f.second);
-      }
+  ids_next less next m o one = record {
+    is = λ q.
+        let rest : ids_at s less (at + 16) ≡ ids_at t less (at + 16) = subst (λ (x : ℕ). ids_at s less x ≡ ids_at t less x) o q in
+        f.is (subst (λ (n : ℕ). ids_at s n at ≡ ids_at t n at) (sym m) (ap₂ (λ (x : ℕ) (xs : List ℕ). x ∷ xs) one rest));
+  }
 
 -- ---- the same elements, in the same order
 
 pub record ElementsFrom (s : List ℕ) (a : ℕ) (t : List ℕ) (b left x y : ℕ) : Type 0 where
   pub is : elements_at s left x ≡ elements_at t left y → elements_here s a ≡ elements_here t b
-  pub first : x + 12 * left ≤ length s
-  pub second : y + 12 * left ≤ length t
 
-module _ (s : List ℕ) (a : ℕ) (t : List ℕ) (b n m : ℕ) (p : There s a n) (q : There t b m) (e : m ≡ n) where
-  pub elements_none : n ≡ 0 → elements_here s a ≡ elements_here t b
-  unfolding elements_here elements_at
-  elements_none z =
-      ap (λ (k : ℕ). elements_at s k (a + 8)) (sym p.is ∙ z) ∙ ap (λ (k : ℕ). elements_at t k (b + 8)) (sym (sym q.is ∙ e ∙ z))
-
-  pub elements_all : (n ≡ 0 → ⊥) → ElementsFrom s a t b n (a + 8) (b + 8)
-  unfolding elements_here
-  elements_all h = record {
-    is = λ g.
-        ap (λ (k : ℕ). elements_at s k (a + 8)) (sym p.is) ∙ g
-        ∙ ap (λ (k : ℕ). elements_at t k (b + 8)) (sym (sym q.is ∙ e));
-    first = p.room (omega (arith, h));
-    second = let l = q.room (omega (arith, h, e)) in omega (arith, l, e);
-  }
+pub elements_all : (s : List ℕ) (a : ℕ) (t : List ℕ) (b n m left x y : ℕ) → There s a n → There t b m → m ≡ n → left ≡ n → x ≡ a + 8
+    → y ≡ b + 8 → ElementsFrom s a t b left x y
+elements_all s a t b n m left x y p q e f g h = record {
+  is = λ i.
+      here_is s a n p ∙ ap₂ (λ k z. elements_at s k z) (sym f) (sym g) ∙ i ∙ ap₂ (λ k z. elements_at t k z) (f ∙ sym e) h
+      ∙ sym (here_is t b m q);
+}
 
 module _ (s : List ℕ) (a : ℕ) (t : List ℕ) (b left x y : ℕ) (f : ElementsFrom s a t b left x y) where
   pub elements_done : left ≤ 0 → elements_here s a ≡ elements_here t b
@@ -91,67 +75,34 @@ module _ (s : List ℕ) (a : ℕ) (t : List ℕ) (b left x y : ℕ) (f : Element
       let z : left ≡ 0 = omega arith in
       f.is (subst (λ (n : ℕ). elements_at s n x ≡ elements_at t n y) (sym z) refl)
 
-  pub elements_next : (k l c d : ℕ) → 0 < left → c ≡ be_at s 8 (x + 4) → d ≡ be_at t 8 (y + 4) → c ≡ d → k ≡ be_at s 4 x → l ≡ be_at t 4 y
-      → k ≡ l → ElementsFrom s a t b (left - 1) (x + 12) (y + 12)
+  pub elements_next : (k l c d less next other : ℕ) → left ≡ suc less → next ≡ x + 12 → other ≡ y + 12 → c ≡ be_at s 8 (x + 4)
+      → d ≡ be_at t 8 (y + 4) → c ≡ d → k ≡ be_at s 4 x → l ≡ be_at t 4 y → k ≡ l → ElementsFrom s a t b less next other
   unfolding elements_at
-  elements_next k l c d h ec ed e ek el g =
+  elements_next k l c d less next other m o p ec ed e ek el g =
       let keys : be_at s 4 x ≡ be_at t 4 y = sym ek ∙ g ∙ el in
       let ticks : be_at s 8 (x + 4) ≡ be_at t 8 (y + 4) = sym ec ∙ e ∙ ed in
       let first : ◌≡◌ {A = Element} (record { key = record { 0 = be_at s 4 x }; tick = be_at s 8 (x + 4) })
       (record { key = record { 0 = be_at t 4 y }; tick = be_at t 8 (y + 4) }) =
       ap₂ (λ (i j : ℕ). record { key = record { 0 = i }; tick = j }) keys ticks in
-      let m : left ≡ suc (left - 1) = omega (arith, h) in
       record {
         is = λ q.
+            let rest : elements_at s less (x + 12) ≡ elements_at t less (y + 12) =
+            ap (λ (z : ℕ). elements_at s less z) (sym o) ∙ q ∙ ap (λ (z : ℕ). elements_at t less z) p in
             f.is (subst (λ (n : ℕ). elements_at s n x ≡ elements_at t n y) (sym m)
-            (ap₂ (λ (v : Element) (vs : List Element). v ∷ vs) first q));
-        first = omega (arith, f.first);
-        second = omega (arith, f.second);
+            (ap₂ (λ (v : Element) (vs : List Element). v ∷ vs) first rest));
       }
 
 -- ---- the next bound
 
-module _ (s : List ℕ) (at : ℕ) (t : List ℕ) (bt : ℕ) where
-  pub bound_same : (x y z u v w : ℕ) (b : Bool) → x ≡ be_at s 8 at → y ≡ be_at s 8 (at + 8) → z ≡ be_at s 8 (at + 16) → u ≡ be_at t 8 bt
-      → v ≡ be_at t 8 (bt + 8) → w ≡ be_at t 8 (bt + 16) → b ≡ eqb (words3 x y z) (words3 u v w) → b ≡ true
-      → SameBound s at t bt (N.At (record { high = x; middle = y; low = z }))
-  bound_same x y z u v w b ex ey ez eu ev ew is holds =
-      let first : be_at s 24 at ≡ words3 x y z = words3_be s at ∙ rw (ex, ey, ez) refl in
-      let second : be_at t 24 bt ≡ words3 u v w = words3_be t bt ∙ rw (eu, ev, ew) refl in
-      let same : words3 x y z ≡ words3 u v w = eqb-true (words3 x y z) (words3 u v w) (sym is ∙ holds) in
-      record {
-        done = λ e. absurd (let q : ◌≡◌ {A = ℕ} 0 1 = cc in omega arith);
-        on = λ i e.
-            let of-next : record { high = x; middle = y; low = z } ≡ i = cc in
-            let same-words : words3 x y z ≡ item_of i = ap (λ (j : Item). item_of j) of-next in
-            (first ∙ same-words, second ∙ sym same ∙ same-words);
-      }
-
-  pub bound_other : SameBound s at t bt N.Unlike
-  bound_other = record {
-    done = λ e. absurd (let q : ◌≡◌ {A = ℕ} 0 1 = cc in omega arith);
-    on = λ i e. absurd (let q : ◌≡◌ {A = ℕ} 0 1 = cc in omega arith);
-  }
-
-module _ (s : List ℕ) (c : Cursor) (t : List ℕ) (d : Cursor) where
-  pub goes_nowhere : GoesOn s c t d N.Unlike
-  goes_nowhere = record {
-    done = λ e. absurd (let q : ◌≡◌ {A = ℕ} 0 1 = cc in omega arith);
-    on = λ i e. absurd (let q : ◌≡◌ {A = ℕ} 0 1 = cc in omega arith);
-  }
-
-  pub goes_done : elements_here s c.vector ≡ elements_here t d.vector → c.left ≡ 0 → d.left ≡ 0 → GoesOn s c t d N.Done
-  goes_done e f g = record {
-    done = λ h. (e, (f, g));
-    on = λ i h. absurd (let q : ◌≡◌ {A = ℕ} 0 1 = cc in omega arith);
-  }
-
-  pub goes_bound : (n : Next) → elements_here s c.vector ≡ elements_here t d.vector → (c.left ≡ 0 → ⊥) → (d.left ≡ 0 → ⊥)
-      → SameBound s c.next t d.next n → GoesOn s c t d n
-  goes_bound n e f g b = record {
-    done = λ h. absurd (b.done h);
-    on = λ i h. let w = b.on i h in (e, (omega (arith, f), (omega (arith, g), w)));
-  }
+pub goes_at : (s : List ℕ) (x : Cursor) (t : List ℕ) (y : Cursor) (i : Item) → elements_here s x.vector ≡ elements_here t y.vector
+    → 0 < x.left → 0 < y.left → be_at s 24 x.next ≡ item_of i → be_at t 24 y.next ≡ item_of i → GoesOn s x t y (N.At i)
+goes_at s x t y i e f g p q = record {
+  done = λ d. absurd (let z : ◌≡◌ {A = ℕ} 0 1 = cc in omega arith);
+  on = λ j d.
+      let same : i ≡ j = cc in
+      let words : item_of i ≡ item_of j = ap (λ (k : Item). item_of k) same in
+      (e, (f, (g, (p ∙ words, q ∙ words))));
+}
 
 -- ---- from item to item
 
@@ -162,11 +113,11 @@ known_alike a b i p e f =
     ap₂ (λ (ids : List ℕ) (es : List Element). elim (ltb (place p ids) (length ids)) [ true ↦ tick_at es (place p ids) | false ↦ 0 ]) e f
 
 -- nothing lacks at all, or below an item
-reached_whole : (a b : Knowledge) → lacking a b 0 highest ≡ nowhere → Reached a b L.Throughout
+reached_whole : (a b : Knowledge) → lacking a b 0 highest ≡ nowhere → Reached a b None
 reached_whole a b e = record { whole = λ h. e; from = λ i h. absurd (let q : ◌≡◌ {A = ℕ} 0 1 = cc in omega arith) }
 
 reached_below : (a b : Knowledge) (i : ℕ) (j : Item) → i ≡ item_of j → i ≤ highest → lacking a b 0 highest ≡ lacking a b i highest
-    → Reached a b (L.Below j)
+    → Reached a b (Some j)
 reached_below a b i j e inside below = record {
   whole = λ h. absurd (let q : ◌≡◌ {A = ℕ} 0 1 = cc in omega arith);
   from = λ k h.
@@ -215,7 +166,7 @@ module _ (s : List ℕ) (r : ℕ) (t : List ℕ) (m : ℕ) (x y : Cursor) (i : �
   abbrev b : Knowledge
   b = decode t
 
-  pub going_stops : (j : Item) → i ≡ item_of j → Reached a b (L.Below j) × Reached b a (L.Below j)
+  pub going_stops : (j : Item) → i ≡ item_of j → Reached a b (Some j) × Reached b a (Some j)
   going_stops j e = (reached_below a b i j e g.inside g.one, reached_below b a i j e g.inside g.other)
 
   module _ (e : elements_here s x.vector ≡ elements_here t y.vector) where
@@ -237,7 +188,7 @@ module _ (s : List ℕ) (r : ℕ) (t : List ℕ) (m : ℕ) (x y : Cursor) (i : �
       still_back : Still b a i stop
       still_back = record { first = stands_still g.Q t m y i g.second stop h; second = stands_still g.R s r x i g.first stop f }
 
-  pub going_done : (n : Next) → GoesOn s x t y n → n ≡ N.Done → Reached a b L.Throughout × Reached b a L.Throughout
+  pub going_done : (n : Next) → GoesOn s x t y n → n ≡ N.Done → Reached a b None × Reached b a None
   going_done n h d =
       let w = h.done d in
       let none : 0 < x.left → suc highest ≤ be_at s 24 x.next = λ l. absurd (omega (arith, w.1.0)) in
@@ -277,7 +228,7 @@ module _ (s : List ℕ) (r : ℕ) (t : List ℕ) (m : ℕ) (x y : Cursor) (i : �
 
 -- ---- where the search begins
 
-pub reached_none : (a b : Knowledge) → Reached a b (L.Below (record { high = 0; middle = 0; low = 0 }))
+pub reached_none : (a b : Knowledge) → Reached a b (Some (record { high = 0; middle = 0; low = 0 }))
 reached_none a b = reached_below a b 0 (record { high = 0; middle = 0; low = 0 }) (sym zero-words) (omega arith) refl
 
 -- the maps of two knowledges with the same ids

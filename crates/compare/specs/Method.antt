@@ -1,8 +1,8 @@
 -- The method of comparing, by words: nothing here is to be believed. The laws show that what is written is what is defined.
-use Rattle.std.specs.Prelude.{ℕ, ◌≤◌, ◌<◌, ◌≡◌, List, length}
+use Rattle.std.specs.Prelude.{ℕ, ◌≤◌, ◌<◌, ◌≡◌, List, length, Option, Some, None}
 use Rattle.codec.specs.Number.{be_at}
 use Rattle.codec.specs.Reply.{answer, after}
-use Rattle.codec.specs.declared.Answer.{Answer}
+use Rattle.codec.specs.Answer.{Answer}
 use Rattle.codec.specs.declared.Item.{Item}
 use Rattle.codec.specs.Ids.{item_of}
 use Rattle.layout.specs.Knowledge.{Rules, Knowledge}
@@ -11,22 +11,15 @@ use Rattle.ticks.specs.Operations.{Lack, nowhere, here, lacking}
 use Rattle.ticks.specs.Compare.{compare_reply, order_value}
 use Rattle.lookup.specs.declared.Cursor.{Cursor}
 use Rattle.lookup.specs.Method.{elements_here}
-use Rattle.compare.specs.declared.Alike.{Alike}
-use Rattle.compare.specs.declared.Alike.TheVariants as L
 use Rattle.compare.specs.declared.Next.{Next}
 use Rattle.compare.specs.declared.Next.TheVariants as N
 
 -- How far both are alike
 
 -- nothing lacks below an item, so that the first lacking place is the first from there on; or nothing lacks
-pub record Reached (a b : Knowledge) (e : Alike) : Type 0 where
-  pub whole : e ≡ L.Throughout → lacking a b 0 highest ≡ nowhere
-  pub from : (i : Item) → e ≡ L.Below i → (item_of i ≤ highest) × (lacking a b 0 highest ≡ lacking a b (item_of i) highest)
-
--- the bound at a place of s is the one at a place of t
-pub record SameBound (s : List ℕ) (at : ℕ) (t : List ℕ) (bt : ℕ) (e : Next) : Type 0 where
-  pub done : e ≡ N.Done → ⊥
-  pub on : (i : Item) → e ≡ N.At i → (be_at s 24 at ≡ item_of i) × (be_at t 24 bt ≡ item_of i)
+pub record Reached (a b : Knowledge) (e : Option Item) : Type 0 where
+  pub whole : e ≡ None → lacking a b 0 highest ≡ nowhere
+  pub from : (i : Item) → e ≡ Some i → (item_of i ≤ highest) × (lacking a b 0 highest ≡ lacking a b (item_of i) highest)
 
 -- two cursors that stand at one item: the vectors are the same, and there is no further bound, or one that is the next of both
 pub record GoesOn (s : List ℕ) (c : Cursor) (t : List ℕ) (d : Cursor) (e : Next) : Type 0 where

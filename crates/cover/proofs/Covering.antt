@@ -5,21 +5,26 @@
 use Prim.Native.Nat.{ℕ, zero, suc, ◌+◌, ◌-◌, ◌*◌, ◌≤◌, ◌<◌}
 use mathlib.Core.Path.{◌≡◌, refl, sym, ap, subst, ◌∙◌}
 use mathlib.Core.Bool.{Bool, true, false}
+use mathlib.Core.Logic.{⊎_elim}
 use mathlib.Core.Option.{Option, none, some}
+use Rattle.std.specs.Prelude as Std
+use Rattle.std.specs.Prelude.{Some, None}
+use Rattle.std.specs.Ordering.{is_le, is_ge}
+use Rattle.std.specs.declared.cmp.Ordering.{Ordering}
 use mathlib.Core.List.{List, [], ◌∷◌}
 use native.Mathlib.Omega.{arith}
 use lib.Dec.{ltb, leb}
 use lib.ListN.{length, get_or}
-use borrow.Author.Tests.{lt-ltb, le-ltb, le-leb, lt-leb}
+use borrow.Author.Tests.{lt-ltb, le-ltb, le-leb}
 use Rattle.codec.specs.Number.{be_at}
 use Rattle.layout.specs.declared.VectorIndex.{VectorIndex}
 use Rattle.layout.specs.Knowledge.{Rules, Lawful, Element, Rising, bounds}
 use Rattle.layout.specs.Decode.{ranges_at, decode}
-use Rattle.layout.specs.MethodPlaces.{ids_place, ranges_place}
+use Rattle.layout.specs.MethodPlaces.{ids_place}
 use Rattle.layout.proofs.Places.{counts, id_at_lem}
 use Rattle.ticks.specs.Meaning.{known, vector_at}
 use Rattle.ticks.specs.MethodRows.{lesser, least_with, least_of}
-use Rattle.ticks.specs.Operations.{lacking, is_nowhere, covers}
+use Rattle.ticks.specs.Operations.{is_nowhere, covers}
 use Rattle.ticks.proofs.Lists.{less, same, more, order}
 use Rattle.ticks.proofs.ForRows.{NothingLacks, Still, LeastLacking, id_in, least_none, least_some, lacking_on, lacking_past, lacking_here}
 use Rattle.lookup.specs.declared.Cursor.{Cursor}
@@ -30,7 +35,7 @@ use Rattle.lookup.proofs.Leaf.{Stands, stands_start, stands_advanced, stands_ele
 use Rattle.lacking.specs.Method.{bound_of, LaidOut}
 use Rattle.lacking.proofs.Walking.{laid_all}
 use Rattle.cover.specs.Method.{level_by, none_above, fine_at, turn_of, step_if, clear_by, clear_from, covers_by}
-use Rattle.cover.proofs.Steps.{On, Turned, neither, stops, turned, step_left, step_fewer, clear_not, clear_ends, clear_goes}
+use Rattle.cover.proofs.Steps.{On, Turned, neither, stops, turned, one_goes, step_left, step_fewer, clear_not, clear_ends, clear_goes}
 
 -- No element above, and the least id of one that is
 
@@ -217,37 +222,30 @@ on_least s c stop false on h = omega (arith, on.stays refl h)
 -- The walk
 
 module _ (R Q : Rules) (s : List ℕ) (r : ℕ) (t : List ℕ) (m hi : ℕ) where
-  abbrev turn : Cursor → Cursor → ℕ
+  abbrev turn : Cursor → Cursor → Std.Option Ordering
   turn x y = turn_of (bound_of s x hi) (bound_of t y hi)
 
   -- one of them has its bound there, so the stop is later
-  on_later : (x y : Cursor) (i stop o : ℕ) → Stands R s r x (suc i) → Stands Q t m y (suc i) → o ≤ 2 → On s x stop (leb o 1)
-      → On t y stop (leb 1 o) → i < stop
-  on_later x y i stop o sx sy k f g =
-      elim (order o 1) [
-        | less h ↦ by_first (le-leb o 1 (omega arith))
-        | same h ↦ by_first (le-leb o 1 (omega arith))
-        | more h ↦ let e = g.goes (le-leb 1 o (omega arith)) in omega (arith, sy.ahead e.0, e.1)
-      ]
-    where
-      by_first : leb o 1 ≡ true → i < stop
-      by_first h = let e = f.goes h in omega (arith, sx.ahead e.0, e.1)
+  on_later : (x y : Cursor) (i stop : ℕ) (d : Ordering) → Stands R s r x (suc i) → Stands Q t m y (suc i) → On s x stop (is_le d)
+      → On t y stop (is_ge d) → i < stop
+  on_later x y i stop d sx sy f g =
+      ⊎_elim (λ l. let e = f.goes l in omega (arith, sx.ahead e.0, e.1)) (λ l. let e = g.goes l in omega (arith, sy.ahead e.0, e.1))
+      (one_goes d)
 
-  on_fewer : (x y : Cursor) (stop o : ℕ) → On s x stop (leb o 1) → On t y stop (leb 1 o)
-      → (step_if s r (leb o 1) x).left + (step_if t m (leb 1 o) y).left < x.left + y.left
-  on_fewer x y stop o f g =
-      let a = step_left s r x (leb o 1) (λ e. (f.goes e).0) in
-      let b = step_left t m y (leb 1 o) (λ e. (g.goes e).0) in
-      elim (order o 1) [
-        | less h ↦ let e = le-leb o 1 (omega arith) in omega (arith, b, step_fewer s r x (leb o 1) e (f.goes e).0)
-        | same h ↦ let e = le-leb o 1 (omega arith) in omega (arith, b, step_fewer s r x (leb o 1) e (f.goes e).0)
-        | more h ↦ let e = le-leb 1 o (omega arith) in omega (arith, a, step_fewer t m y (leb 1 o) e (g.goes e).0)
-      ]
+  on_fewer : (x y : Cursor) (stop : ℕ) (d : Ordering) → On s x stop (is_le d) → On t y stop (is_ge d)
+      → (step_if s r (is_le d) x).left + (step_if t m (is_ge d) y).left < x.left + y.left
+  on_fewer x y stop d f g =
+      let a = step_left s r x (is_le d) (λ e. (f.goes e).0) in
+      let b = step_left t m y (is_ge d) (λ e. (g.goes e).0) in
+      ⊎_elim
+      (λ l. omega (arith, b, step_fewer s r x (is_le d) l (f.goes l).0))
+      (λ l. omega (arith, a, step_fewer t m y (is_ge d) l (g.goes l).0))
+      (one_goes d)
 
   -- it is so at an item where it is so from the next stop on
   from_stop : (n : ℕ) (x y : Cursor) (i : ℕ) → i ≤ hi → Stands R s r x (suc i) → Stands Q t m y (suc i)
-      → ((stop : ℕ) → fine_at s r t m x.vector y.vector ≡ true → stop ≤ hi → i < stop → (turn x y ≡ 3 → ⊥)
-      → On s x stop (leb (turn x y) 1) → On t y stop (leb 1 (turn x y))
+      → ((d : Ordering) (stop : ℕ) → fine_at s r t m x.vector y.vector ≡ true → stop ≤ hi → i < stop → turn x y ≡ Some d
+      → On s x stop (is_le d) → On t y stop (is_ge d)
       → clear_by s r t m hi n x y ≡ covers (decode s) (decode t) stop hi)
       → clear_by s r t m hi n x y ≡ covers (decode s) (decode t) i hi
   unfolding covers is_nowhere
@@ -259,29 +257,29 @@ module _ (R Q : Rules) (s : List ℕ) (r : ℕ) (t : List ℕ) (m hi : ℕ) wher
           clear_not s r t m hi x y n (fine_no R Q s r x t m y i sx sy p e)
           ∙ sym (ap is_nowhere (lacking_here (decode s) (decode t) i hi p (here_least R Q s r x t m y i sx sy p e) h))
       go none e (neither k a b) =
-          clear_ends s r t m hi x y (fine_yes R Q s r x t m y i sx sy e) (turn x y) refl n k
+          clear_ends s r t m hi x y (fine_yes R Q s r x t m y i sx sy e) n k
           ∙ sym (ap is_nowhere (lacking_past (decode s) (decode t) i (suc hi) hi (here_nothing_lacks R Q s r x t m y i sx sy e)
           (here_still R Q s r x t m y i sx sy (suc hi) a b) (omega arith)))
-      go none e (stops stop l k a b) =
-          let later = on_later x y i stop (turn x y) sx sy k a b in
-          f stop (fine_yes R Q s r x t m y i sx sy e) l later (λ z. absurd (omega (arith, z, k))) a b
+      go none e (stops d stop k l a b) =
+          let later = on_later x y i stop d sx sy a b in
+          f d stop (fine_yes R Q s r x t m y i sx sy e) l later k a b
           ∙ sym (ap is_nowhere (lacking_on (decode s) (decode t) i stop hi (here_nothing_lacks R Q s r x t m y i sx sy e)
-          (here_still R Q s r x t m y i sx sy stop (on_least s x stop (leb (turn x y) 1) a) (on_least t y stop (leb 1 (turn x y)) b))
+          (here_still R Q s r x t m y i sx sy stop (on_least s x stop (is_le d) a) (on_least t y stop (is_ge d) b))
           (omega (arith, later))))
 
   clear_is : (n : ℕ) (x y : Cursor) (i : ℕ) → x.left + y.left ≤ n → i ≤ hi → Stands R s r x (suc i) → Stands Q t m y (suc i)
       → Up s x.left x.next → Up t y.left y.next
       → clear_by s r t m hi n x y ≡ covers (decode s) (decode t) i hi
   clear_is zero x y i k h sx sy ux uy =
-      from_stop zero x y i h sx sy (λ stop e l later on a b. absurd (omega (arith, on_fewer x y stop (turn x y) a b)))
+      from_stop zero x y i h sx sy (λ d stop e l later on a b. absurd (omega (arith, on_fewer x y stop d a b)))
   clear_is (suc n) x y i k h sx sy ux uy =
       from_stop (suc n) x y i h sx sy
-      (λ stop e l later on a b.
-      clear_goes s r t m hi x y e (turn x y) refl n on
-      ∙ clear_is n (step_if s r (leb (turn x y) 1) x) (step_if t m (leb 1 (turn x y)) y) stop
-      (omega (arith, on_fewer x y stop (turn x y) a b)) l
-      (stands_step R s r x i sx ux stop later (leb (turn x y) 1) a) (stands_step Q t m y i sy uy stop later (leb 1 (turn x y)) b)
-      (up_step R s r x i sx ux stop later (leb (turn x y) 1) a) (up_step Q t m y i sy uy stop later (leb 1 (turn x y)) b))
+      (λ d stop e l later on a b.
+      clear_goes s r t m hi x y e n d on
+      ∙ clear_is n (step_if s r (is_le d) x) (step_if t m (is_ge d) y) stop
+      (omega (arith, on_fewer x y stop d a b)) l
+      (stands_step R s r x i sx ux stop later (is_le d) a) (stands_step Q t m y i sy uy stop later (is_ge d) b)
+      (up_step R s r x i sx ux stop later (is_le d) a) (up_step Q t m y i sy uy stop later (is_ge d) b))
 
 -- Accepted bytes
 

@@ -4,18 +4,21 @@
 -- What the answer means is in Covering.antt.
 use Prim.Native.Nat.{ℕ, zero, suc, ◌+◌, ◌-◌, ◌*◌, ◌≤◌, ◌<◌}
 use mathlib.Core.Path.{◌≡◌, refl, sym, ap, ap₂, subst, ◌∙◌}
-use mathlib.Core.Bool.{Bool, true, false, not}
+use mathlib.Core.Bool.{Bool, true, false}
+use mathlib.Core.Logic.{◌⊎◌, inl, inr, ⊎_elim}
 use mathlib.Core.Option.{Option, none, some}
+use Rattle.std.specs.Prelude as Std
+use Rattle.std.specs.Prelude.{Some, None, cond}
+use Rattle.std.specs.Ordering.{nat_cmp, is_le, is_ge}
+use Rattle.std.specs.declared.cmp.Ordering.{Ordering}
+use Rattle.std.specs.declared.cmp.Ordering.TheVariants.{Less, Equal, Greater}
 use mathlib.Core.List.{List, [], ◌∷◌}
 use native.Mathlib.Omega.{arith}
 use lib.Dec.{eqb, ltb, leb}
 use lib.ListN.{length, get_or}
-use borrow.Author.Tests.{lt-ltb, le-ltb, le-leb, lt-leb, eq-eqb, ne_eqb, ltb-true, ltb-false}
+use borrow.Author.Tests.{lt-ltb, le-ltb, le-leb, lt-leb, eq-eqb, ne_eqb}
 use Rattle.codec.specs.Number.{be_at}
-use Rattle.codec.specs.Words.{words3}
-use Rattle.codec.proofs.Order.{words3_be}
 use Rattle.layout.specs.declared.ReplicaKey.{ReplicaKey}
-use Rattle.layout.specs.declared.VectorIndex.{VectorIndex}
 use Rattle.layout.specs.Knowledge.{Element}
 use Rattle.layout.specs.Decode.{elements_at}
 use Rattle.layout.specs.MethodPlaces.{ids_place}
@@ -27,7 +30,7 @@ use Rattle.lookup.proofs.Loops.{cursor, elements-zero, elements-cons, here_is}
 use Rattle.lookup.proofs.Leaf.{advanced_room}
 use Rattle.lacking.specs.Method.{Keyed, bound_of, laid_out}
 use Rattle.lacking.proofs.Walking.{Bound, ends, comes, bound_by}
-use Rattle.cover.specs.Method.{level_in, level_by, none_above, fine_at, has_bound, order_of, turn_of, step_if, clear_by, clear_from, covers_by}
+use Rattle.cover.specs.Method.{level_in, level_by, none_above, fine_at, turn_of, step_if, clear_by, clear_from, covers_by}
 
 -- What lacks at an item
 
@@ -43,6 +46,9 @@ module _ (keys s : List ℕ) (vector key : ℕ) where
       → t ≡ level_in keys s vector key
   unfolding level_in
   level_is t other h e f = f ∙ ap (tick_of s vector) e ∙ sym (rw (lt-ltb key (length keys) h, level_in))
+
+  pub level_read : (t n : ℕ) → key < length keys → n ≡ get_or keys key 0 → t ≡ tick_of s vector (keyed_as n) → t ≡ level_in keys s vector key
+  level_read t n h e f = level_is t (keyed_as n) h (ap keyed_as e) f
 
 -- levels that are alike for every key tell the same
 none_same : (f g : ℕ → ℕ) → ((key : ℕ) → f key ≡ g key) → (es : List Element) → none_above f es ≡ none_above g es
@@ -83,11 +89,11 @@ module _ (level : ℕ → ℕ) (t : List ℕ) where
   unfolding none_above
   none_empty vector n h e = sym (rw (here_is t vector n h ∙ elements-zero t n (vector + 8) e) refl)
 
-  pub none_begins : (vector n : ℕ) → There t vector n
-      → none_above level (elements_here t vector) ≡ none_above level (elements_at t (n - 0) (vector + 8))
-  none_begins vector n h =
+  pub none_begins : (vector n at : ℕ) → There t vector n → at ≡ vector + 8
+      → none_above level (elements_here t vector) ≡ none_above level (elements_at t (n - 0) at)
+  none_begins vector n at h f =
       let e : n ≡ n - 0 = omega arith in
-      ap (none_above level) (here_is t vector n h ∙ ap (λ m. elements_at t m (vector + 8)) e)
+      ap (none_above level) (here_is t vector n h ∙ ap₂ (λ m x. elements_at t m x) e (sym f))
 
   module _ (whole : Bool) (n i at : ℕ) (inv : whole ≡ none_above level (elements_at t (n - i) at)) where
     pub none_end : n ≤ i → true ≡ whole
@@ -103,11 +109,12 @@ module _ (level : ℕ → ℕ) (t : List ℕ) where
       level_here : l ≡ level (be_at t 4 at)
       level_here = g ∙ ap level e
 
-      pub none_next : tick ≤ l → whole ≡ none_above level (elements_at t (n - (i + 1)) (at + 12))
+      pub none_next : (next : ℕ) → tick ≤ l → next ≡ at + 12 → whole ≡ none_above level (elements_at t (n - (i + 1)) next)
       unfolding none_above
-      none_next h =
+      none_next next h o =
           let k : be_at t 8 (at + 4) ≤ level (be_at t 4 at) = omega (arith, level_here) in
           opened ∙ rw (le-leb (be_at t 8 (at + 4)) (level (be_at t 4 at)) k, none_above) refl
+          ∙ ap (λ x. none_above level (elements_at t (n - (i + 1)) x)) (sym o)
 
       pub none_stop : l < tick → false ≡ whole
       unfolding none_above
@@ -117,128 +124,53 @@ module _ (level : ℕ → ℕ) (t : List ℕ) where
 
 -- The next stop
 
-module _ (s : List ℕ) (c : Cursor) (hi : ℕ) where
-  pub comes_none : c.left ≡ 0 → false ≡ has_bound (bound_of s c hi)
-  unfolding has_bound bound_of
-  comes_none h = let l : c.left ≤ 0 = omega arith in sym (rw (le-ltb 0 c.left l, bound_of, has_bound))
-
-  pub comes_is : (x y z : ℕ) (b : Bool) → (c.left ≡ 0 → ⊥) → x ≡ be_at s 8 c.next → y ≡ be_at s 8 (c.next + 8)
-      → z ≡ be_at s 8 (c.next + 16) → b ≡ ltb hi (words3 x y z) → not b ≡ has_bound (bound_of s c hi)
-  unfolding has_bound bound_of
-  comes_is x y z b h e f g i =
-      let l : 0 < c.left = omega (arith, h) in
-      let is : words3 x y z ≡ be_at s 24 c.next = rw (e, f, g) (sym (words3_be s c.next)) in
-      ap not (i ∙ ap (ltb hi) is) ∙ sym (rw (lt-ltb 0 c.left l, bound_of) (by (ltb hi (be_at s 24 c.next))))
-    where
-      by : (t : Bool) → has_bound (elim t [ true ↦ none | false ↦ some (be_at s 24 c.next) ]) ≡ not t
-      by true = refl
-      by false = refl
-
-  -- a bound is the next range's, which is there
-  pub bound_some : (b : Bool) → b ≡ has_bound (bound_of s c hi) → b ≡ true → bound_of s c hi ≡ some (be_at s 24 c.next)
-  unfolding has_bound bound_of
-  bound_some b e f = go (ltb 0 c.left) refl (ltb hi (be_at s 24 c.next)) refl
-    where
-      t : has_bound (bound_of s c hi) ≡ true
-      t = sym e ∙ f
-
-      go : (u : Bool) → ltb 0 c.left ≡ u → (w : Bool) → ltb hi (be_at s 24 c.next) ≡ w
-          → bound_of s c hi ≡ some (be_at s 24 c.next)
-      go true p true q = clash (has_bound (bound_of s c hi)) t (rw (p, bound_of, q, has_bound) refl)
-      go true p false q = rw (p, bound_of, q) refl
-      go false p w q = clash (has_bound (bound_of s c hi)) t (rw (p, bound_of, has_bound) refl)
-
-  pub bound_left : (b : Bool) → b ≡ has_bound (bound_of s c hi) → b ≡ true → 0 < c.left
-  bound_left b e f =
-      elim (order 0 c.left) [
-        | less h ↦ h
-        | same h ↦ clash b f (e ∙ sym (comes_none (sym h)))
-        | more h ↦ absurd (omega arith)
-      ]
-
-  pub bound_not : (b : Bool) → b ≡ has_bound (bound_of s c hi) → b ≡ false → bound_of s c hi ≡ none
-  unfolding has_bound
-  bound_not b e f = go (bound_of s c hi) refl
-    where
-      go : (o : Option ℕ) → bound_of s c hi ≡ o → bound_of s c hi ≡ none
-      go none p = p
-      go (some a) p = clash (has_bound (bound_of s c hi)) (ap has_bound p) (sym e ∙ f)
-
 module _ (a b : ℕ) where
-  pub order_first : a < b → 0 ≡ order_of a b
-  unfolding order_of
-  order_first h = sym (rw (lt-ltb a b h, order_of))
+  by_tests : (t u : Bool) → ltb a b ≡ t → eqb a b ≡ u → cond t Less (cond u Equal Greater) ≡ nat_cmp a b
+  by_tests t u e f = ap₂ (λ (v w : Bool). cond v Less (cond w Equal Greater)) (sym e) (sym f)
 
-  pub order_second : b < a → 2 ≡ order_of a b
-  unfolding order_of
-  order_second h = let l : b ≤ a = omega arith in sym (rw (le-ltb a b l, order_of, lt-ltb b a h))
+  order_first : a < b → Less ≡ nat_cmp a b
+  order_first h = by_tests true (eqb a b) (lt-ltb a b h) refl
 
-  pub order_both : a ≡ b → 1 ≡ order_of a b
-  unfolding order_of
-  order_both h =
-      let l : b ≤ a = omega arith in
-      let k : a ≤ b = omega arith in
-      sym (rw (le-ltb a b l, order_of, le-ltb b a k))
+  order_second : b < a → Greater ≡ nat_cmp a b
+  order_second h = by_tests false false (le-ltb a b (omega arith)) (ne_eqb a b (λ e. absurd (omega arith)))
 
--- the same by words
-module _ (s : List ℕ) (a : ℕ) (t : List ℕ) (b x y z u v w : ℕ) (ex : x ≡ be_at s 8 a) (ey : y ≡ be_at s 8 (a + 8))
-    (ez : z ≡ be_at s 8 (a + 16)) (eu : u ≡ be_at t 8 b) (ev : v ≡ be_at t 8 (b + 8)) (ew : w ≡ be_at t 8 (b + 16)) (d : Bool)
-    (is : d ≡ ltb (words3 x y z) (words3 u v w)) where
-  first_is_lem : words3 x y z ≡ be_at s 24 a
-  first_is_lem = rw (ex, ey, ez) (sym (words3_be s a))
-
-  second_is_lem : words3 u v w ≡ be_at t 24 b
-  second_is_lem = rw (eu, ev, ew) (sym (words3_be t b))
-
-  pub words_first : d ≡ true → 0 ≡ order_of (be_at s 24 a) (be_at t 24 b)
-  words_first f =
-      let l = ltb-true (words3 x y z) (words3 u v w) (sym is ∙ f) in
-      order_first (be_at s 24 a) (be_at t 24 b) (omega (arith, l, first_is_lem, second_is_lem))
-
-  module _ (n : d ≡ false) (e : Bool) (si : e ≡ ltb (words3 u v w) (words3 x y z)) where
-    pub words_second : e ≡ true → 2 ≡ order_of (be_at s 24 a) (be_at t 24 b)
-    words_second f =
-        let l = ltb-true (words3 u v w) (words3 x y z) (sym si ∙ f) in
-        order_second (be_at s 24 a) (be_at t 24 b) (omega (arith, l, first_is_lem, second_is_lem))
-
-    pub words_both : e ≡ false → 1 ≡ order_of (be_at s 24 a) (be_at t 24 b)
-    words_both f =
-        let l = ltb-false (words3 x y z) (words3 u v w) (sym is ∙ n) in
-        let k = ltb-false (words3 u v w) (words3 x y z) (sym si ∙ f) in
-        order_both (be_at s 24 a) (be_at t 24 b) (omega (arith, l, k, first_is_lem, second_is_lem))
+  order_both : a ≡ b → Equal ≡ nat_cmp a b
+  order_both h = by_tests false true (le-ltb a b (omega arith)) (eq-eqb a b h)
 
 module _ (o p : Option ℕ) where
-  pub turn_neither : o ≡ none → p ≡ none → 3 ≡ turn_of o p
+  pub turn_neither : o ≡ none → p ≡ none → None ≡ turn_of o p
   unfolding turn_of
   turn_neither e f = sym (rw (e, f) refl)
 
-  pub turn_second_only : (b : ℕ) → o ≡ none → p ≡ some b → 2 ≡ turn_of o p
+  pub turn_second_only : (b : ℕ) → o ≡ none → p ≡ some b → Some Greater ≡ turn_of o p
   unfolding turn_of
   turn_second_only b e f = sym (rw (e, f) refl)
 
-  pub turn_first_only : (a : ℕ) → o ≡ some a → p ≡ none → 0 ≡ turn_of o p
+  pub turn_first_only : (a : ℕ) → o ≡ some a → p ≡ none → Some Less ≡ turn_of o p
   unfolding turn_of
   turn_first_only a e f = sym (rw (e, f) refl)
 
-  pub turn_both : (a b n : ℕ) → o ≡ some a → p ≡ some b → n ≡ order_of a b → n ≡ turn_of o p
+  pub turn_both : (a b : ℕ) (d : Ordering) → o ≡ some a → p ≡ some b → d ≡ nat_cmp a b → Some d ≡ turn_of o p
   unfolding turn_of
-  turn_both a b n e f g = g ∙ sym (rw (e, f) refl)
+  turn_both a b d e f g = ap (λ (x : Ordering). Some x) g ∙ sym (rw (e, f) refl)
 
 -- Steps
 
 module _ (s : List ℕ) (r : ℕ) (c : Cursor) where
+  pub step_goes : (n vector : ℕ) → n ≡ be_at s 4 (c.next + 24) → vector ≡ vector_from s r c.index c.vector (record { 0 = n })
+      → cursor (c.left - 1) (c.next + 28) (record { 0 = n }) vector ≡ step_if s r true c
+  unfolding step_if settled past
+  step_goes n vector f g =
+      ap (λ p. cursor (c.left - 1) (c.next + 28) (record { 0 = n }) p) g
+      ∙ ap (λ k. cursor (c.left - 1) (c.next + 28) (record { 0 = k }) (vector_from s r c.index c.vector (record { 0 = k }))) f
+
+  -- where the cursor goes on, and where it stays
+  pub step_on : (go : Bool) (d : Cursor) → go ≡ true → d ≡ step_if s r true c → d ≡ step_if s r go c
+  step_on go d e f = f ∙ ap (λ (b : Bool). step_if s r b c) (sym e)
+
   pub step_stays : (go : Bool) → go ≡ false → c ≡ step_if s r go c
   unfolding step_if
   step_stays go e = sym (rw e refl)
-
-  pub step_goes : (go : Bool) (n vector : ℕ) → go ≡ true → n ≡ be_at s 4 (c.next + 24)
-      → vector ≡ vector_from s r c.index c.vector (record { 0 = n })
-      → cursor (c.left - 1) (c.next + 28) (record { 0 = n }) vector ≡ step_if s r go c
-  unfolding step_if settled past
-  step_goes go n vector e f g =
-      ap (λ p. cursor (c.left - 1) (c.next + 28) (record { 0 = n }) p) g
-      ∙ ap (λ k. cursor (c.left - 1) (c.next + 28) (record { 0 = k }) (vector_from s r c.index c.vector (record { 0 = k }))) f
-      ∙ sym (rw e refl)
 
   pub step_room : (go : Bool) → (go ≡ true → 0 < c.left) → c.next + 28 * c.left ≤ length s
       → (step_if s r go c).next + 28 * (step_if s r go c).left ≤ length s
@@ -267,9 +199,15 @@ on_stays : (s : List ℕ) (c : Cursor) (stop : ℕ) → (0 < c.left → suc stop
 on_stays s c stop h = record { goes = λ f. clash false f refl; stays = λ f. h }
 
 -- what a turn says: neither has a bound up to the last item, or there is a stop, and those go on whose bound it is
-pub data Turned (s : List ℕ) (x : Cursor) (t : List ℕ) (y : Cursor) (hi : ℕ) (o : ℕ) : Type 0 where
-  neither : o ≡ 3 → (0 < x.left → suc hi ≤ be_at s 24 x.next) → (0 < y.left → suc hi ≤ be_at t 24 y.next) → Turned s x t y hi o
-  stops : (stop : ℕ) → stop ≤ hi → o ≤ 2 → On s x stop (leb o 1) → On t y stop (leb 1 o) → Turned s x t y hi o
+pub data Turned (s : List ℕ) (x : Cursor) (t : List ℕ) (y : Cursor) (hi : ℕ) (o : Std.Option Ordering) : Type 0 where
+  neither : o ≡ None → (0 < x.left → suc hi ≤ be_at s 24 x.next) → (0 < y.left → suc hi ≤ be_at t 24 y.next) → Turned s x t y hi o
+  stops : (d : Ordering) (stop : ℕ) → o ≡ Some d → stop ≤ hi → On s x stop (is_le d) → On t y stop (is_ge d) → Turned s x t y hi o
+
+-- the order of two bounds says that one goes on at least
+pub one_goes : (d : Ordering) → (is_le d ≡ true) ⊎ (is_ge d ≡ true)
+one_goes Less = inl refl
+one_goes Equal = inl refl
+one_goes Greater = inr refl
 
 module _ (s : List ℕ) (x : Cursor) (t : List ℕ) (y : Cursor) (hi : ℕ) where
   pub turned : Turned s x t y hi (turn_of (bound_of s x hi) (bound_of t y hi))
@@ -282,27 +220,38 @@ module _ (s : List ℕ) (x : Cursor) (t : List ℕ) (y : Cursor) (hi : ℕ) wher
       q = be_at t 24 y.next
 
       go : Bound s x hi → Bound t y hi → Turned s x t y hi (turn_of (bound_of s x hi) (bound_of t y hi))
-      go (ends f g) (ends h k) = subst (λ o. Turned s x t y hi o) (turn_neither (bound_of s x hi) (bound_of t y hi) f h) (neither refl g k)
+      go (ends f g) (ends h k) = neither (sym (turn_neither (bound_of s x hi) (bound_of t y hi) f h)) g k
       go (ends f g) (comes h k l) =
-          subst (λ o. Turned s x t y hi o) (turn_second_only (bound_of s x hi) (bound_of t y hi) q f h)
-          (stops q l (omega arith) (on_stays s x q (λ n. omega (arith, g n))) (on_goes t y q k refl))
+          stops Greater q (sym (turn_second_only (bound_of s x hi) (bound_of t y hi) q f h))
+          l (on_stays s x q (λ n. omega (arith, g n))) (on_goes t y q k refl)
       go (comes f g l) (ends h k) =
-          subst (λ o. Turned s x t y hi o) (turn_first_only (bound_of s x hi) (bound_of t y hi) p f h)
-          (stops p l (omega arith) (on_goes s x p g refl) (on_stays t y p (λ n. omega (arith, k n))))
+          stops Less p (sym (turn_first_only (bound_of s x hi) (bound_of t y hi) p f h))
+          l (on_goes s x p g refl) (on_stays t y p (λ n. omega (arith, k n)))
       go (comes f g l) (comes h k j) =
-          let both : (o : ℕ) → o ≡ order_of p q → Turned s x t y hi o → Turned s x t y hi (turn_of (bound_of s x hi) (bound_of t y hi)) =
-          λ o e z. subst (λ n. Turned s x t y hi n) (turn_both (bound_of s x hi) (bound_of t y hi) p q o f h e) z in
+          let both : (d : Ordering) → d ≡ nat_cmp p q → turn_of (bound_of s x hi) (bound_of t y hi) ≡ Some d =
+          λ d e. sym (turn_both (bound_of s x hi) (bound_of t y hi) p q d f h e) in
           elim (order p q) [
             | less n ↦
-                both 0 (order_first p q n)
-                (stops p l (omega arith) (on_goes s x p g refl) (on_stays t y p (λ _. n)))
+                stops Less p (both Less (order_first p q n)) l (on_goes s x p g refl) (on_stays t y p (λ _. n))
             | same n ↦
-                both 1 (order_both p q n)
-                (stops p l (omega arith) (on_goes s x p g refl) (on_goes t y p k (sym n)))
+                stops Equal p (both Equal (order_both p q n)) l (on_goes s x p g refl) (on_goes t y p k (sym n))
             | more n ↦
-                both 2 (order_second p q n)
-                (stops q j (omega arith) (on_stays s x q (λ _. n)) (on_goes t y q k refl))
+                stops Greater q (both Greater (order_second p q n)) j (on_stays s x q (λ _. n)) (on_goes t y q k refl)
           ]
+
+  -- those that go on at a stop pass a range there
+  pub record Stops (d : Ordering) : Type 0 where
+    pub first : is_le d ≡ true → 0 < x.left
+    pub second : is_ge d ≡ true → 0 < y.left
+
+  pub stops_at : (d : Ordering) → turn_of (bound_of s x hi) (bound_of t y hi) ≡ Some d → Stops d
+  stops_at d e = go turned
+    where
+      go : Turned s x t y hi (turn_of (bound_of s x hi) (bound_of t y hi)) → Stops d
+      go (neither f g h) = let z : ◌≡◌ {A = ℕ} 0 1 = cc in absurd (omega arith)
+      go (stops k stop f h a b) =
+          let same-turn : k ≡ d = cc in
+          subst (λ (j : Ordering). Stops j) same-turn (record { first = λ l. (a.goes l).0; second = λ l. (b.goes l).0 })
 
 -- The steps of the walk
 
@@ -312,19 +261,16 @@ module _ (s : List ℕ) (r : ℕ) (t : List ℕ) (m hi : ℕ) (x y : Cursor) whe
   clear_not zero e = e
   clear_not (suc n) e = rw (e, clear_by) refl
 
-  module _ (fine : fine_at s r t m x.vector y.vector ≡ true) (o : ℕ) (is : o ≡ turn_of (bound_of s x hi) (bound_of t y hi)) where
-    pub clear_ends : (n : ℕ) → o ≡ 3 → clear_by s r t m hi n x y ≡ true
+  module _ (fine : fine_at s r t m x.vector y.vector ≡ true) where
+    pub clear_ends : (n : ℕ) → turn_of (bound_of s x hi) (bound_of t y hi) ≡ None → clear_by s r t m hi n x y ≡ true
     unfolding clear_by
     clear_ends zero e = fine
-    clear_ends (suc n) e =
-        rw (fine, clear_by, eq-eqb (turn_of (bound_of s x hi) (bound_of t y hi)) 3 (sym is ∙ e)) refl
+    clear_ends (suc n) e = rw (fine, clear_by, e) refl
 
-    pub clear_goes : (n : ℕ) → (o ≡ 3 → ⊥)
-        → clear_by s r t m hi (suc n) x y ≡ clear_by s r t m hi n (step_if s r (leb o 1) x) (step_if t m (leb 1 o) y)
+    pub clear_goes : (n : ℕ) (d : Ordering) → turn_of (bound_of s x hi) (bound_of t y hi) ≡ Some d
+        → clear_by s r t m hi (suc n) x y ≡ clear_by s r t m hi n (step_if s r (is_le d) x) (step_if t m (is_ge d) y)
     unfolding clear_by
-    clear_goes n e =
-        rw (fine, clear_by, ne_eqb (turn_of (bound_of s x hi) (bound_of t y hi)) 3 (λ f. e (is ∙ f))) refl
-        ∙ ap (λ k. clear_by s r t m hi n (step_if s r (leb k 1) x) (step_if t m (leb 1 k) y)) (sym is)
+    clear_goes n d e = rw (fine, clear_by, e) refl
 
 -- The loop
 
@@ -364,60 +310,46 @@ module _ (s : List ℕ) (r : ℕ) (t : List ℕ) (m hi : ℕ) (keys : List ℕ) 
   pub clears_not : b ≡ false → false ≡ whole
   clears_not e = sym (w.is ∙ clear_not s r t m hi x y w.steps (sym fine ∙ e))
 
-  module _ (yes : b ≡ true) (o : ℕ) (is : o ≡ turn_of (bound_of s x hi) (bound_of t y hi)) where
-    pub clears_ends : o ≡ 3 → true ≡ whole
-    clears_ends e = sym (w.is ∙ clear_ends s r t m hi x y (sym fine ∙ yes) o is w.steps e)
+  module _ (yes : b ≡ true) (o : Std.Option Ordering) (is : o ≡ turn_of (bound_of s x hi) (bound_of t y hi)) where
+    pub clears_ends : o ≡ None → true ≡ whole
+    clears_ends e = sym (w.is ∙ clear_ends s r t m hi x y (sym fine ∙ yes) w.steps (sym is ∙ e))
 
-    view : Turned s x t y hi o
-    view = subst (λ n. Turned s x t y hi n) (sym is) (turned s x t y hi)
+    module _ (d : Ordering) (on : o ≡ Some d) where
+      stop : Stops s x t y hi d
+      stop = stops_at s x t y hi d (sym is ∙ on)
 
-    pub first_goes : leb o 1 ≡ true → 0 < x.left
-    first_goes e = go view
-      where
-        go : Turned s x t y hi o → 0 < x.left
-        go (neither f g h) = clash (leb o 1) e (lt-leb o 1 (omega arith))
-        go (stops stop h k f g) = (f.goes e).0
+      pub first_goes : (go : Bool) → go ≡ is_le d → go ≡ true → 0 < x.left
+      first_goes go e f = stop.first (sym e ∙ f)
 
-    pub second_goes : (o ≡ 3 → ⊥) → leb 1 o ≡ true → 0 < y.left
-    second_goes n e = go view
-      where
-        go : Turned s x t y hi o → 0 < y.left
-        go (neither f g h) = absurd (n f)
-        go (stops stop h k f g) = (g.goes e).0
+      pub second_goes : (go : Bool) → go ≡ is_ge d → go ≡ true → 0 < y.left
+      second_goes go e f = stop.second (sym e ∙ f)
 
-    module _ (on : o ≡ 3 → ⊥) (u v : Cursor) (eu : u ≡ step_if s r (leb o 1) x) (ev : v ≡ step_if t m (leb 1 o) y) where
-      pub clears_less : u.left + v.left < x.left + y.left
-      clears_less =
-          let a = step_left s r x (leb o 1) first_goes in
-          let c = step_left t m y (leb 1 o) (second_goes on) in
-          let eu' = ap (λ (d : Cursor). d.left) eu in
-          let ev' = ap (λ (d : Cursor). d.left) ev in
-          elim (order o 1) [
-            | less k ↦
-                let l = le-leb o 1 (omega arith) in
-                omega (arith, c, eu', ev', step_fewer s r x (leb o 1) l (first_goes l))
-            | same k ↦
-                let l = le-leb o 1 (omega arith) in
-                omega (arith, c, eu', ev', step_fewer s r x (leb o 1) l (first_goes l))
-            | more k ↦
-                let l = le-leb 1 o (omega arith) in
-                omega (arith, a, eu', ev', step_fewer t m y (leb 1 o) l (second_goes on l))
-          ]
+      module _ (u v : Cursor) (eu : u ≡ step_if s r (is_le d) x) (ev : v ≡ step_if t m (is_ge d) y) where
+        pub clears_less : u.left + v.left < x.left + y.left
+        clears_less =
+            let a = step_left s r x (is_le d) stop.first in
+            let c = step_left t m y (is_ge d) stop.second in
+            let eu' = ap (λ (c : Cursor). c.left) eu in
+            let ev' = ap (λ (c : Cursor). c.left) ev in
+            ⊎_elim
+            (λ l. omega (arith, c, eu', ev', step_fewer s r x (is_le d) l (stop.first l)))
+            (λ l. omega (arith, a, eu', ev', step_fewer t m y (is_ge d) l (stop.second l)))
+            (one_goes d)
 
-      pub clears_on : Clears s r t m hi keys u v whole
-      clears_on =
-          let n = w.steps in
-          let c : n ≡ suc (n - 1) = omega (arith, clears_less, w.enough) in
-          record {
-            steps = n - 1;
-            enough = omega (arith, clears_less, w.enough);
-            is = w.is ∙ ap (λ k. clear_by s r t m hi k x y) c ∙ clear_goes s r t m hi x y (sym fine ∙ yes) o is (n - 1) on
-                ∙ ap₂ (λ (d g : Cursor). clear_by s r t m hi (n - 1) d g) (sym eu) (sym ev);
-            first = rw eu (step_room s r x (leb o 1) first_goes w.first);
-            second = rw ev (step_room t m y (leb 1 o) (second_goes on) w.second);
-            keyed = w.keyed;
-            exact = w.exact;
-          }
+        pub clears_on : Clears s r t m hi keys u v whole
+        clears_on =
+            let n = w.steps in
+            let c : n ≡ suc (n - 1) = omega (arith, clears_less, w.enough) in
+            record {
+              steps = n - 1;
+              enough = omega (arith, clears_less, w.enough);
+              is = w.is ∙ ap (λ k. clear_by s r t m hi k x y) c ∙ clear_goes s r t m hi x y (sym fine ∙ yes) (n - 1) d (sym is ∙ on)
+                  ∙ ap₂ (λ (d g : Cursor). clear_by s r t m hi (n - 1) d g) (sym eu) (sym ev);
+              first = rw eu (step_room s r x (is_le d) stop.first w.first);
+              second = rw ev (step_room t m y (is_ge d) stop.second w.second);
+              keyed = w.keyed;
+              exact = w.exact;
+            }
 
 -- The whole
 

@@ -1,9 +1,13 @@
 -- The method of cover, by places, for any bytes: nothing here is to be believed. The laws show that for bytes that the check accepts it
 -- tells whether one knowledge covers another. The cursor and the keys are lookup's, bounds are those of the crate lacking.
-use Rattle.std.specs.Prelude.{ℕ, zero, suc, ◌+◌, ◌-◌, ◌*◌, Bool, true, false, List, [], ◌∷◌, eqb, ltb, leb, length, get_or}
+use Rattle.std.specs.Prelude.{ℕ, zero, suc, ◌+◌, ◌-◌, ◌*◌, Bool, true, false, List, [], ◌∷◌, ltb, leb, length, get_or}
+use Rattle.std.specs.Prelude as Std
+use Rattle.std.specs.Prelude.{Some, None}
+use Rattle.std.specs.Ordering.{nat_cmp, is_le, is_ge}
+use Rattle.std.specs.declared.cmp.Ordering.{Ordering}
+use Rattle.std.specs.declared.cmp.Ordering.TheVariants.{Less, Greater}
 use Rattle.codec.specs.Prelude.{Option, none, some}
 use Rattle.codec.specs.Number.{be_at}
-use Rattle.layout.specs.declared.ReplicaKey.{ReplicaKey}
 use Rattle.layout.specs.Knowledge.{Element}
 use Rattle.layout.specs.MethodPlaces.{ids_place}
 use Rattle.lookup.specs.declared.Cursor.{Cursor}
@@ -32,20 +36,12 @@ fine_at s r t m vector other = none_above (level_by s r t m vector) (elements_he
 
 -- The next stop
 
-unfoldable pub has_bound : Option ℕ → Bool
-has_bound none = false
-has_bound (some b) = true
-
--- which of two bounds is the nearer: 0 the first, 2 the second, 1 both
-unfoldable pub order_of : ℕ → ℕ → ℕ
-order_of a b = elim (ltb a b) [ true ↦ 0 | false ↦ elim (ltb b a) [ true ↦ 2 | false ↦ 1 ] ]
-
--- whose bound is the next stop; 3 where neither has one
-unfoldable pub turn_of : Option ℕ → Option ℕ → ℕ
-turn_of none none = 3
-turn_of none (some b) = 2
-turn_of (some a) none = 0
-turn_of (some a) (some b) = order_of a b
+-- whose bound is the next stop: less for the first's, greater for the second's, equal for that of both; none where neither has one
+unfoldable pub turn_of : Option ℕ → Option ℕ → Std.Option Ordering
+turn_of none none = None
+turn_of none (some b) = Some Greater
+turn_of (some a) none = Some Less
+turn_of (some a) (some b) = Some (nat_cmp a b)
 
 -- past the next range, where the cursor is to go
 unfoldable pub step_if : List ℕ → ℕ → Bool → Cursor → Cursor
@@ -60,11 +56,9 @@ clear_by s r t m last zero x y = fine_at s r t m x.vector y.vector
 clear_by s r t m last (suc n) x y =
     elim (fine_at s r t m x.vector y.vector) [
       | true ↦
-          elim (eqb (turn_of (bound_of s x last) (bound_of t y last)) 3) [
-            | true ↦ true
-            | false ↦ clear_by s r t m last n
-                (step_if s r (leb (turn_of (bound_of s x last) (bound_of t y last)) 1) x)
-                (step_if t m (leb 1 (turn_of (bound_of s x last) (bound_of t y last))) y)
+          elim (turn_of (bound_of s x last) (bound_of t y last)) [
+            | None ↦ true
+            | Some o ↦ clear_by s r t m last n (step_if s r (is_le o) x) (step_if t m (is_ge o) y)
           ]
       | false ↦ false
     ]

@@ -16,10 +16,10 @@ use Rattle.codec.specs.Reply.{Reply}
 use Rattle.codec.specs.Total.{read_at, clamp}
 use Rattle.codec.specs.Words.{words2, words3}
 use Rattle.codec.specs.Part.{placed}
-use Rattle.codec.specs.declared.Answer.{Answer}
-use Rattle.codec.specs.declared.Answer.TheVariants.{Refused}
+use Rattle.codec.specs.Answer.{Answer}
+use Rattle.codec.specs.Answer.{Refused}
 use Rattle.codec.proofs.Numbers.{power_positive, be_below}
-use Rattle.codec.proofs.Total.{read_id2, read_id3}
+use Rattle.codec.proofs.Total.{read_id2}
 use Rattle.layout.specs.Knowledge.{Limits, Knowledge, any_id, largest_tick, base}
 use Rattle.layout.specs.Permitted.{within, largest_replicas, largest_records}
 use Rattle.layout.specs.Decode.{decode}
@@ -63,8 +63,13 @@ use Rattle.replication.proofs.Contents.Edit.{NewRec, changed_is}
 use Rattle.replication.proofs.Opening.Store.{store_own, store_walked}
 use Rattle.replication.proofs.Refusals.Edit.{edit_store, edit_17, delete_store, delete_17}
 use Rattle.replication.proofs.Opening.Calls.{store_result, change_last, change_on, edit_left, delete_gone, delete_left}
-use Rattle.records.specs.declared.Found.{Found}
-use Rattle.records.specs.declared.Found.TheVariants as F
+use Rattle.std.specs.Prelude as Std
+use Rattle.std.specs.Prelude.{Result, Ok, Err}
+use Rattle.codec.specs.declared.Refusal.{Refusal}
+use Rattle.codec.specs.declared.Replica.{Replica}
+use Rattle.codec.specs.Refusal.{number}
+use Rattle.codec.specs.Ids.{item_read, replica_of, replica_read}
+use Rattle.codec.proofs.Ids.{item_there}
 use Rattle.codec.specs.declared.Item.{Item}
 use Rattle.records.specs.Method.{read_rec, found_place}
 use Rattle.records.proofs.Fields.{deleted_read, read_whole}
@@ -76,8 +81,8 @@ use Rattle.records_join.specs.MethodJoin.{join_at, size_from, fronted}
 use Rattle.records_join.specs.MethodWritten.{record_of}
 use Rattle.records_join.proofs.Written.{record_table, record_placed, replaced_table}
 use Rattle.store_open.specs.declared.KnowledgePart.{KnowledgePart}
-use Rattle.store_open.specs.declared.OpenedStore.{OpenedStore}
-use Rattle.store_open.specs.declared.OpenedStore.TheVariants as S
+use Rattle.store_open.specs.declared.OpenStore.{OpenStore}
+use Rattle.store_open.proofs.Ids.{replica_at}
 use Rattle.store_open.specs.Method.{store_opened}
 use Rattle.store_open.proofs.Opened.{StoreOpen, store_open, store_closed, store_place, store_room_lem, store_slice}
 use Rattle.lookup.specs.declared.View.{View}
@@ -94,9 +99,8 @@ use Rattle.edit.specs.MethodEditing.{item_of, content_of, version_replica, found
 
 -- ---- ids
 
-pub item_is : (s : List ℕ) (i0 i1 i2 : ℕ) → length s ≡ 24 → i0 ≡ read_at s 8 0 → i1 ≡ read_at s 8 8 → i2 ≡ read_at s 8 16
-    → words3 i0 i1 i2 ≡ be_at s 24 0
-item_is s i0 i1 i2 e a b c = rw (a, b, c) (read_id3 s 0 (omega arith))
+pub item_is : (s : List ℕ) (i : Item) → i ≡ item_read s → length s ≡ 24 → words3 i.high i.middle i.low ≡ be_at s 24 0
+item_is s i e l = ap (λ (x : Item). words3 x.high x.middle x.low) e ∙ item_there s (omega arith)
 
 pub tag_is : (s : List ℕ) (t0 t1 : ℕ) → length s ≡ 16 → t0 ≡ read_at s 8 0 → t1 ≡ read_at s 8 8 → words2 t0 t1 ≡ be_at s 16 0
 tag_is s t0 t1 e a b = rw (a, b) (read_id2 s 0 (omega arith))
@@ -104,23 +108,23 @@ tag_is s t0 t1 e a b = rw (a, b) (read_id2 s 0 (omega arith))
 -- ---- the record of the item
 
 -- what was found is the item's record in the table
-pub found_is : (s : List ℕ) (found : Found) (i at : ℕ) → found_place found ≡ place_of s i (places s at)
+pub found_is : (s : List ℕ) (found : Std.Option ℕ) (i at : ℕ) → found_place found ≡ place_of s i (places s at)
     → found_read s found ≡ find i (table_at s at)
 unfolding found_read
-found_is s (F.At a) i at h =
+found_is s (Std.Some a) i at h =
     let e : place_of s i (places s at) ≡ some a = sym h ∙ found_at_lem a in
     let w = found_place_lem s i at a e in
     ap some (read_whole s a (whole_at s a w.0)) ∙ sym (find_table s i at ∙ (ap (found_at s) e ∙ found_some s a))
-found_is s F.Nothing i at h = sym (none_found s i at (sym h ∙ found_nothing))
+found_is s Std.None i at h = sym (none_found s i at (sym h ∙ found_nothing))
 
-module _ (s : List ℕ) (found : Found) where
-  pub gone_nothing : found ≡ F.Nothing → true ≡ gone (found_read s found)
+module _ (s : List ℕ) (found : Std.Option ℕ) where
+  pub gone_nothing : found ≡ Std.None → true ≡ gone (found_read s found)
   unfolding found_read gone
-  gone_nothing e = sym (ap (λ (f : Found). gone (found_read s f)) e)
+  gone_nothing e = sym (ap (λ (f : Std.Option ℕ). gone (found_read s f)) e)
 
-  pub gone_at : (at : ℕ) → found ≡ F.At at → (b : Bool) → b ≡ (rec_at s at).content.deleted → b ≡ gone (found_read s found)
+  pub gone_at : (at : ℕ) → found ≡ Std.Some at → (b : Bool) → b ≡ (rec_at s at).content.deleted → b ≡ gone (found_read s found)
   unfolding found_read gone read_rec
-  gone_at at e b h = h ∙ (sym (deleted_read s at (read_at s 1 at) refl) ∙ sym (ap (λ (f : Found). gone (found_read s f)) e))
+  gone_at at e b h = h ∙ (sym (deleted_read s at (read_at s 1 at) refl) ∙ sym (ap (λ (f : Std.Option ℕ). gone (found_read s f)) e))
 
   module _ (what : Change) (change : VersionWords) where
     -- the code's record, by its create version
@@ -130,12 +134,12 @@ module _ (s : List ℕ) (found : Found) where
     abbrev pub of_change : Rec
     of_change = changed_rec (content_of what) (item_of what) (version_replica change) change.tick (found_read s found)
 
-    pub record_new : found ≡ F.Nothing → record_of (words_of change) ≡ of_change
+    pub record_new : found ≡ Std.None → record_of (words_of change) ≡ of_change
     unfolding record_of changed_rec found_read
     record_new e =
-        sym (ap (λ (f : Found). changed_rec (content_of what) (item_of what) (version_replica change) change.tick (found_read s f)) e)
+        sym (ap (λ (f : Std.Option ℕ). changed_rec (content_of what) (item_of what) (version_replica change) change.tick (found_read s f)) e)
 
-    pub record_kept : (at : ℕ) → found ≡ F.At at → (create : VersionWords) → version_replica create ≡ read_at s 16 (at + create_replica_place)
+    pub record_kept : (at : ℕ) → found ≡ Std.Some at → (create : VersionWords) → version_replica create ≡ read_at s 16 (at + create_replica_place)
         → create.tick ≡ read_at s 8 (at + create_tick_place) → record_of (words_of create) ≡ of_change
     unfolding record_of changed_rec found_read read_rec
     record_kept at e create p t =
@@ -147,7 +151,7 @@ module _ (s : List ℕ) (found : Found) where
           create_tick = x;
           content = content_of what;
         }) p t
-        ∙ sym (ap (λ (f : Found). changed_rec (content_of what) (item_of what) (version_replica change) change.tick (found_read s f)) e)
+        ∙ sym (ap (λ (f : Std.Option ℕ). changed_rec (content_of what) (item_of what) (version_replica change) change.tick (found_read s f)) e)
 
 -- ---- what is written
 
@@ -226,8 +230,8 @@ change_11 limits s k one who tick l st b out =
 
 -- ---- the changed store
 
-module _ (a b n : ℕ) (s : List ℕ) (bytes : Bytes s) (k : List ℕ) (own : KnowledgePart) (found : Found) (what : Change)
-    (h : Asked (within a b n) s k own found what) where
+module _ (a b n : ℕ) (s : List ℕ) (bytes : Bytes s) (k : List ℕ) (store : OpenStore) (found : Std.Option ℕ) (what : Change)
+    (h : Asked (within a b n) s k store found what) where
   abbrev L : Limits
   L = within a b n
 
@@ -240,8 +244,11 @@ module _ (a b n : ℕ) (s : List ℕ) (bytes : Bytes s) (k : List ℕ) (own : Kn
   abbrev item : ℕ
   item = item_of what
 
-  opened : StoreOpen L s own h.count
-  opened = store_open a b n s bytes own h.count h.valid
+  abbrev own : KnowledgePart
+  own = store.own
+
+  opened : StoreOpen L s own store.count
+  opened = store_open a b n s bytes store h.valid
 
   lawful : LawfulStore L st
   lawful = ((store_exact L s st (within_permitted a b n) bytes).0 opened.value).1
@@ -252,16 +259,20 @@ module _ (a b n : ℕ) (s : List ℕ) (bytes : Bytes s) (k : List ℕ) (own : Kn
   decodes : decode k ≡ st.knowledge
   decodes = ap decode h.part ∙ sym opened.knowledge
 
-  own_is : (p0 p1 : ℕ) → p0 ≡ read_at s 8 1 → p1 ≡ read_at s 8 (1 + 8) → words2 p0 p1 ≡ st.own
-  own_is p0 p1 e0 e1 = rw (e0, e1) (read_id2 s 1 (omega (arith, opened.tests.header))) ∙ sym (store_own L s)
+  -- the own id is there
+  pub own_there : 1 + 16 ≤ length s
+  own_there = omega (arith, opened.tests.header)
+
+  own_is : (p : Replica) → p ≡ replica_read (take (1 + 16 - 1) (drop 1 s)) → replica_of p ≡ st.own
+  own_is p e = replica_at s 1 p e own_there ∙ sym (store_own L s)
 
   -- what raising asks for: the knowledge of a store is in normal form, and the own tick is the same for all items
-  pub change_raises : (change : VersionWords) (p0 p1 tick : ℕ) → change ≡ record { replica = record { high = p0; low = p1 }; tick = tick + 1 }
-      → p0 ≡ read_at s 8 1 → p1 ≡ read_at s 8 (1 + 8) → p0 < 2 ^ 64 → p1 < 2 ^ 64
+  pub change_raises : (change : VersionWords) (p : Replica) (tick : ℕ) → change ≡ record { replica = p; tick = tick + 1 }
+      → p ≡ replica_read (take (1 + 16 - 1) (drop 1 s)) → p.high < 2 ^ 64 → p.low < 2 ^ 64
       → Raises (record { replicas = a; ranges = b; records = n }) k own.view change
-  change_raises change p0 p1 tick e e0 e1 high low =
-      let is : (i : ℕ) → known (decode k) i (words2 p0 p1) ≡ known st.knowledge i st.own =
-      λ i. ap₂ (λ (q : Knowledge) (p : ℕ). known q i p) decodes (own_is p0 p1 e0 e1) in
+  change_raises change p tick e read high low =
+      let is : (i : ℕ) → known (decode k) i (replica_of p) ≡ known st.knowledge i st.own =
+      λ i. ap₂ (λ (q : Knowledge) (x : ℕ). known q i x) decodes (own_is p read) in
       subst (λ (x : VersionWords). Raises (record { replicas = a; ranges = b; records = n }) k own.view x) (sym e)
       (record {
         reads = record { rules = any_id L; limits = refl; opens = change_opens };
@@ -277,7 +288,7 @@ module _ (a b n : ℕ) (s : List ℕ) (bytes : Bytes s) (k : List ℕ) (own : Kn
       ap length h.part ∙ part_length_lem s (knowledge_length s) store_knowledge (omega (arith, opened.tests.inside)) ∙ sym opened.length
 
   walked : table_at s (store_knowledge + own.length) ≡ st.records
-  walked = ap (table_at s) (store_place L s own h.count opened) ∙ store_walked L s opened.tests
+  walked = ap (table_at s) (store_place L s own store.count opened) ∙ store_walked L s opened.tests
 
   found_here : found_read s found ≡ find item st.records
   found_here = found_is s found item (store_knowledge + own.length) h.place ∙ ap (find item) walked
@@ -289,8 +300,8 @@ module _ (a b n : ℕ) (s : List ℕ) (bytes : Bytes s) (k : List ℕ) (own : Kn
     pub change_20 : (out : List ℕ) → largest_tick ≤ t → Ended (change_reply L st content item) out out (Refused 20)
     change_20 out l = ended_refused (change_reply L st content item) out 20 (change_last L st content item (omega (arith, largest_is)))
 
-    module _ (below : t < largest_tick) (p0 p1 : ℕ) (e0 : p0 ≡ read_at s 8 1) (e1 : p1 ≡ read_at s 8 (1 + 8)) (w : RecordWords)
-        (f : record_of w ≡ changed_rec content item (words2 p0 p1) (t + 1) (found_read s found)) where
+    module _ (below : t < largest_tick) (p : Replica) (read : p ≡ replica_read (take (1 + 16 - 1) (drop 1 s))) (w : RecordWords)
+        (f : record_of w ≡ changed_rec content item (replica_of p) (t + 1) (found_read s found)) where
       abbrev new : Rec
       new = changed_rec content item st.own (next_tick st) (find item st.records)
 
@@ -301,7 +312,7 @@ module _ (a b n : ℕ) (s : List ℕ) (bytes : Bytes s) (k : List ℕ) (own : Kn
       record_is : record_of w ≡ new
       record_is =
           f
-          ∙ ap₂ (λ (p x : ℕ). changed_rec content item p x (found_read s found)) (own_is p0 p1 e0 e1) tick_is
+          ∙ ap₂ (λ (q x : ℕ). changed_rec content item q x (found_read s found)) (own_is p read) tick_is
           ∙ ap (changed_rec content item st.own (next_tick st)) found_here
 
       new_is : NewRec content item st.own (next_tick st) (find item st.records) new
@@ -369,23 +380,24 @@ module _ (a b n : ℕ) (s : List ℕ) (bytes : Bytes s) (k : List ℕ) (own : Kn
 abbrev pub change_of : Item → Bool → TagWords → Change
 change_of i deleted t = record { item = i; deleted = deleted; tag = t }
 
-module _ (a b n : ℕ) (s : List ℕ) (o : OpenedStore) (e : o ≡ store_opened (within a b n) s) (item : List ℕ) (out : List ℕ) where
-  pub edit_15 : (tag : List ℕ) → o ≡ S.NotValid → Ended (edit_reply (within a b n) s item (brings tag)) out out (Refused 15)
-  edit_15 tag f =
-      ended_refused (edit_reply (within a b n) s item (brings tag)) out 15
-      (edit_store (within a b n) s item (brings tag) 15 (store_closed a b n s (sym e ∙ f)))
+module _ (a b n : ℕ) (s : List ℕ) (o : Result OpenStore Refusal) (e : o ≡ store_opened (within a b n) s) (item : List ℕ) (out : List ℕ) where
+  pub edit_15 : (tag : List ℕ) (q : Refusal) → o ≡ Err q → Ended (edit_reply (within a b n) s item (brings tag)) out out (Refused (number q))
+  edit_15 tag q f =
+      ended_refused (edit_reply (within a b n) s item (brings tag)) out (number q)
+      (edit_store (within a b n) s item (brings tag) (number q) (store_closed a b n s q (sym e ∙ f)))
 
-  pub delete_15 : o ≡ S.NotValid → Ended (delete_reply (within a b n) s item) out out (Refused 15)
-  delete_15 f =
-      ended_refused (delete_reply (within a b n) s item) out 15 (delete_store (within a b n) s item 15 (store_closed a b n s (sym e ∙ f)))
+  pub delete_15 : (q : Refusal) → o ≡ Err q → Ended (delete_reply (within a b n) s item) out out (Refused (number q))
+  delete_15 q f =
+      ended_refused (delete_reply (within a b n) s item) out (number q)
+      (delete_store (within a b n) s item (number q) (store_closed a b n s q (sym e ∙ f)))
 
-  module _ (bytes : Bytes s) (own : KnowledgePart) (count : ℕ) (f : o ≡ S.Valid own count) where
-    opens : StoreOpen (within a b n) s own count
-    opens = store_open a b n s bytes own count (sym e ∙ f)
+  module _ (bytes : Bytes s) (opened : OpenStore) (f : o ≡ Ok opened) where
+    opens : StoreOpen (within a b n) s opened.own opened.count
+    opens = store_open a b n s bytes opened (sym e ∙ f)
 
     -- where the records begin
-    pub opened_end : store_knowledge + own.length ≤ length s
-    opened_end = store_room_lem (within a b n) s own count opens
+    pub opened_end : store_knowledge + opened.own.length ≤ length s
+    opened_end = store_room_lem (within a b n) s opened.own opened.count opens
 
     pub edit_no_item : (tag : List ℕ) → (length item ≡ 24 → ⊥)
         → Ended (edit_reply (within a b n) s item (brings tag)) out out (Refused 17)
@@ -406,8 +418,8 @@ module _ (a b n : ℕ) (s : List ℕ) (o : OpenedStore) (e : o ≡ store_opened 
         ((delete_17 (within a b n) (within_permitted a b n) s item bytes (store_at (within a b n) s) opens.value).1 g)
 
     module _ (octets : Bytes item) (long : length item ≡ 24) (i : Item) (is : words3 i.high i.middle i.low ≡ be_at item 24 0)
-        (found : Found)
-        (place : found_place found ≡ place_of s (words3 i.high i.middle i.low) (places s (store_knowledge + own.length))) where
+        (found : Std.Option ℕ)
+        (place : found_place found ≡ place_of s (words3 i.high i.middle i.low) (places s (store_knowledge + opened.own.length))) where
       abbrev words : ℕ
       words = words3 i.high i.middle i.low
 
@@ -416,23 +428,22 @@ module _ (a b n : ℕ) (s : List ℕ) (o : OpenedStore) (e : o ≡ store_opened 
 
       -- the item was looked for in a store that was opened
       asked : (deleted : Bool) (t : TagWords) → words2 t.high t.low < 256 ^ 16
-          → Asked (within a b n) s (take (store_knowledge + own.length - store_knowledge) (drop store_knowledge s)) own found (change_of i deleted t)
+          → Asked (within a b n) s (take (store_knowledge + opened.own.length - store_knowledge) (drop store_knowledge s)) opened found (change_of i deleted t)
       asked deleted t small =
           record {
-            count = count;
             valid = sym e ∙ f;
-            part = store_slice (within a b n) s own count opens;
+            part = store_slice (within a b n) s opened.own opened.count opens;
             place = place;
             item = subst (λ (x : ℕ). x < 256 ^ 24) (sym is) (be_below item 24 0 octets);
             tag = small;
           }
 
       pub edit_asked : (tag : List ℕ) → Bytes tag → (t : TagWords) → words2 t.high t.low ≡ be_at tag 16 0
-          → Asked (within a b n) s (take (store_knowledge + own.length - store_knowledge) (drop store_knowledge s)) own found (change_of i false t)
+          → Asked (within a b n) s (take (store_knowledge + opened.own.length - store_knowledge) (drop store_knowledge s)) opened found (change_of i false t)
       edit_asked tag y t tag-words = asked false t (subst (λ (x : ℕ). x < 256 ^ 16) (sym tag-words) (be_below tag 16 0 y))
 
       pub delete_asked : (t : TagWords) → words2 t.high t.low ≡ 0
-          → Asked (within a b n) s (take (store_knowledge + own.length - store_knowledge) (drop store_knowledge s)) own found (change_of i true t)
+          → Asked (within a b n) s (take (store_knowledge + opened.own.length - store_knowledge) (drop store_knowledge s)) opened found (change_of i true t)
       delete_asked t zeros = asked true t (subst (λ (x : ℕ). x < 256 ^ 16) (sym zeros) (power_positive 16))
 
       pub edit_done : (tag : List ℕ) → length tag ≡ 16 → (t : TagWords) → words2 t.high t.low ≡ be_at tag 16 0
@@ -449,9 +460,9 @@ module _ (a b n : ℕ) (s : List ℕ) (o : OpenedStore) (e : o ≡ store_opened 
       -- the record that was found is the item's
       found_item : found_read s found ≡ find (id_of 24 item) (store_at (within a b n) s).records
       found_item =
-          found_is s found words (store_knowledge + own.length) place
+          found_is s found words (store_knowledge + opened.own.length) place
           ∙ ap₂ find words_id
-          (ap (table_at s) (store_place (within a b n) s own count opens) ∙ store_walked (within a b n) s opens.tests)
+          (ap (table_at s) (store_place (within a b n) s opened.own opened.count opens) ∙ store_walked (within a b n) s opens.tests)
 
       module _ (g : Bool) (went : g ≡ gone (found_read s found)) where
         gone_is : g ≡ gone (find (id_of 24 item) (store_at (within a b n) s).records)

@@ -7,7 +7,7 @@ use native.Mathlib.Omega.{arith}
 use lib.ListN.{length}
 use Rattle.codec.specs.Number.{be_at}
 use Rattle.codec.specs.Reply.{gives, answer, after}
-use Rattle.codec.specs.declared.Answer.TheVariants.{Written, Refused}
+use Rattle.codec.specs.Answer.{Written, Refused}
 use Rattle.codec.specs.declared.Replica.{Replica}
 use Rattle.codec.specs.Ids.{replica_of, replica_read}
 use Rattle.codec.specs.Part.{placed}

@@ -1,6 +1,7 @@
 -- An edit or a delete as the code has it: what is written, by its words, what was found of the item, and what the changed store is made of.
 -- There is nothing to believe here: the contracts of the calls cite the replies of `replication`.
 use Rattle.std.specs.Prelude.{ℕ, ◌+◌, ◌^◌, ◌≤◌, ◌<◌, ◌≡◌, List, length}
+use Rattle.std.specs.Prelude as R
 use Rattle.codec.specs.Prelude.{Option, none, some}
 use Rattle.codec.specs.Words.{words2, words3}
 use Rattle.layout.specs.Knowledge as K
@@ -16,12 +17,9 @@ use Rattle.replication.specs.Queries.{places, place_of}
 use Rattle.replication.specs.MethodTable.{table_at}
 use Rattle.lookup.specs.declared.View.{View}
 use Rattle.results.specs.MethodOpened.{Reads}
-use Rattle.records.specs.declared.Found.{Found}
-use Rattle.records.specs.declared.Found.TheVariants as F
 use Rattle.records.specs.Method.{read_rec, found_place}
 use Rattle.records_join.specs.declared.VersionWords.{VersionWords}
-use Rattle.store_open.specs.declared.KnowledgePart.{KnowledgePart}
-use Rattle.store_open.specs.declared.OpenedStore.TheVariants as S
+use Rattle.store_open.specs.declared.OpenStore.{OpenStore}
 use Rattle.store_open.specs.Method.{own_bytes, store_opened}
 use Rattle.edit.specs.declared.Change.{Change}
 
@@ -37,9 +35,9 @@ abbrev pub version_replica : VersionWords → ℕ
 version_replica v = words2 v.replica.high v.replica.low
 
 -- the record at the place that was found, by total reads
-unfoldable pub found_read : List ℕ → Found → Option Rec
-found_read s (F.At at) = some (read_rec s at)
-found_read s F.Nothing = none
+unfoldable pub found_read : List ℕ → R.Option ℕ → Option Rec
+found_read s (R.Some at) = some (read_rec s at)
+found_read s R.None = none
 
 -- what raising the own tick goes by: bytes that were opened under the limits, in normal form; a version whose replica is two words of 64 bits and
 -- has the same tick for all items; and a tick of 1 or more
@@ -58,10 +56,9 @@ pub record Becomes (s k : List ℕ) (who tick : ℕ) (one : List ℕ) (st : Stor
   pub records : join (table_at s (store_knowledge + length k)) (table_at one 0) ≡ st.records
 
 -- a store that was found valid, the bytes k of its knowledge, and what was found of the item of a change, whose ids have room in their fields
-pub record Asked (L : K.Limits) (s k : List ℕ) (own : KnowledgePart) (found : Found) (what : Change) : Type 0 where
-  pub count : ℕ
-  pub valid : store_opened L s ≡ S.Valid own count
+pub record Asked (L : K.Limits) (s k : List ℕ) (opened : OpenStore) (found : R.Option ℕ) (what : Change) : Type 0 where
+  pub valid : store_opened L s ≡ R.Ok opened
   pub part : k ≡ own_bytes s
-  pub place : found_place found ≡ place_of s (item_of what) (places s (store_knowledge + own.length))
+  pub place : found_place found ≡ place_of s (item_of what) (places s (store_knowledge + opened.own.length))
   pub item : item_of what < 256 ^ 24
   pub tag : (content_of what).tag < 256 ^ 16

@@ -8,6 +8,7 @@
 
 ghost use Rattle.std.specs.Prelude.{◌≡◌, [], true, ◌<◌, length};
 ghost use Rattle.codec.specs.Number.{be_at};
+ghost use Rattle.codec.specs.Answer.{answer_of};
 ghost use Rattle.codec.specs.Reply.{answer, after};
 ghost use Rattle.codec.specs.Words.{words2, words3};
 ghost use Rattle.layout.specs.Knowledge.{base};
@@ -25,12 +26,11 @@ ghost use Rattle.codec.specs.MethodEnded.{Ended};
 ghost use Rattle.replication.specs.Calls.{new_reply};
 ghost use Rattle.edit.specs.MethodEditing.{item_of, content_of, version_replica, found_read, Becomes, Raises, Asked};
 
-use codec::{Answer, Item, Replica};
+use codec::{Item, Refusal, Replica};
 use layout::Limits;
 use lookup::View;
-use records::Found;
 use records_join::{RecordWords, TagWords, VersionWords};
-use store_open::{KnowledgePart, OpenedStore};
+use store_open::OpenStore;
 
 // the place of a store's own id
 const OWN: usize = 1;
@@ -48,72 +48,53 @@ struct Change {
     tag: TagWords,
 }
 
-// ---- ids
+// ---- the tag
 
-// The words of an item id of 24 bytes, and of a tag of 16.
-fn item_words(id: &[u8]) -> Item
-    requires { length id.now ≡ 24 }
-    ensures { words3 result.high result.middle result.low ≡ be_at id.now 24 0 }
-{
-    let high = codec::read8(id, 0);
-    let middle = codec::read8(id, 8);
-    let low = codec::read8(id, 16);
-    Item { high, middle, low }
-}
-
+// The words of a tag of 16 bytes.
 fn tag_words(tag: &[u8]) -> TagWords
     requires { length tag.now ≡ 16 }
     ensures { words2 result.high result.low ≡ be_at tag.now 16 0 }
 {
-    let high = codec::read8(tag, 0);
-    let low = codec::read8(tag, 8);
-    TagWords { high, low }
+    TagWords {
+        high: codec::read::<8>(tag, 0),
+        low: codec::read::<8>(tag, 8),
+    }
 }
 
 // ---- the record
 
 // Is the item that was looked for absent, or its record a tombstone.
-fn gone(s: &[u8], found: Found) -> bool
+fn gone(s: &[u8], found: Option<usize>) -> bool
     ensures { result ≡ gone (found_read s.now found) }
 {
     match found {
-        Found::At(at) => records::tombstone(s, at),
-        Found::Nothing => true,
+        Some(at) => records::tombstone(s, at),
+        None => true,
     }
 }
 
 // The record of a change at a version. An item that is there keeps its create version, also a tombstone; one that is absent gets the change's.
-fn changed_record(s: &[u8], found: Found, what: Change, change: VersionWords) -> RecordWords
+fn changed_record(s: &[u8], found: Option<usize>, what: Change, change: VersionWords) -> RecordWords
     ensures result_value { record_of result ≡ changed_rec (content_of what) (item_of what) (version_replica change) change.tick
         (found_read s.now found) }
     ensures change_value { result.change ≡ change }
 {
-    let item = what.item;
-    let deleted = what.deleted;
-    let tag = what.tag;
+    let new = RecordWords {
+        item: what.item,
+        change,
+        create: change,
+        deleted: what.deleted,
+        tag: what.tag,
+    };
     match found {
-        Found::At(at) => {
-            let replica = records::create_replica(s, at);
-            let tick = records::create_tick(s, at);
-            let create = VersionWords { replica, tick };
-            RecordWords {
-                item,
-                change,
-                create,
-                deleted,
-                tag,
-            }
-        }
-        Found::Nothing => {
-            let create = change;
-            RecordWords {
-                item,
-                change,
-                create,
-                deleted,
-                tag,
-            }
-        }
+        Some(at) => RecordWords {
+            create: VersionWords {
+                replica: records::create_replica(s, at),
+                tick: records::create_tick(s, at),
+            },
+            ..new
+        },
+        None => new,
     }
 }
 
@@ -133,25 +114,31 @@ fn one_too_many(k: &[u8], v: View, change: VersionWords, limits: Limits) -> bool
 
 // Writes the knowledge k of a store with the own tick raised. Where the own replica has a tick, it is the same for all items: the knowledge is
 // copied, with the new tick in place of the old one. Else it is written from a table.
-fn raise_own(k: &[u8], v: View, change: VersionWords, limits: Limits, out: &mut [u8]) -> Answer
+fn raise_own(
+    k: &[u8],
+    v: View,
+    change: VersionWords,
+    limits: Limits,
+    out: &mut [u8],
+) -> Result<usize, Refusal>
     requires { Raises limits k.now v change }
     ensures { Ended (result_of limits (raise (version_replica change) change.tick (decode k.now)))
-        out.old out.new result }
+        out.old out.new (answer_of result) }
 {
-    let own = change.replica;
+    let VersionWords { replica, tick } = change;
     let first = Item {
         high: 0,
         middle: 0,
         low: 0,
     };
-    let before = lookup::known_tick(k, v, first, own);
+    let before = lookup::known_tick(k, v, first, replica);
     if before == 0 {
-        return results::raise_opened(k, v, own, change.tick, limits, out);
+        return results::raise_opened(k, v, replica, tick, limits, out);
     }
-    results_copied::copy_raised(k, v, own, change.tick, out)
+    results_copied::copy_raised(k, v, replica, tick, out)
 }
 
-// Of a store with the knowledge k: 11 where that is seen at once, the extent of its records joined with those of `one`, the knowledge with the own
+// Of a store with the knowledge k: TooManyReplicas where that is seen at once, the extent of its records joined with those of `one`, the knowledge with the own
 // tick raised into its room, and then header and records around it.
 fn write_changed(
     store: &[u8],
@@ -161,23 +148,29 @@ fn write_changed(
     one: &[u8],
     limits: Limits,
     out: &mut [u8],
-) -> Answer
+) -> Result<usize, Refusal>
     requires { Raises limits k.now v change }
     ensures { (st : Store) → Becomes store.now k.now (version_replica change) change.tick one.now st
-        → Ended (store_reply (limits_of limits) st) out.old out.new result }
+        → Ended (store_reply (limits_of limits) st) out.old out.new (answer_of result) }
 {
     if one_too_many(k, v, change, limits) {
-        return Answer::Refused(11);
+        return Err(Refusal::TooManyReplicas);
     }
     let at = store_headers::STORE + k.len();
     let mut picks = [0usize; PICKS];
     let e = records_join::join(store, at, one, 0, &mut picks);
     let room = store_write::room_in_store(out.len(), limits.records, e);
-    let from = room.from;
-    let to = room.to;
-    let a = raise_own(k, v, change, limits, &mut out[from..to]);
-    let own = change.replica;
-    store_write::close_store(out, own, a, limits.records, store, one, &picks, e)
+    let raised = raise_own(k, v, change, limits, &mut out[room.from..room.to]);
+    store_write::close_store(
+        out,
+        change.replica,
+        raised,
+        limits.records,
+        store,
+        one,
+        &picks,
+        e,
+    )
 }
 
 // Writes a store of the knowledge k with a record in its place, at whose change version the own tick is raised.
@@ -188,73 +181,75 @@ fn put_changed(
     new: RecordWords,
     limits: Limits,
     out: &mut [u8],
-) -> Answer
+) -> Result<usize, Refusal>
     requires { Raises limits k.now v new.change }
     ensures { (st : Store) → Becomes store.now k.now (record_of new).change_replica (record_of new).change_tick
-        (put_rec (record_of new) []) st → Ended (store_reply (limits_of limits) st) out.old out.new result }
+        (put_rec (record_of new) []) st → Ended (store_reply (limits_of limits) st) out.old out.new (answer_of result) }
 {
     let change = new.change;
     let mut one = [0u8; records_join::RECORD_LENGTH];
-    records_join::write_record(&mut one, 0, new);
+    new.write(&mut one, 0);
     write_changed(store, k, v, change, &one, limits, out)
 }
 
-// An edit or a delete of a store that was opened, whose knowledge is k, once the item was looked for: 20, and then the changed store.
+// An edit or a delete of a store that was opened, whose knowledge is k, once the item was looked for: TicksExhausted, or the changed store.
 fn change_item(
     store: &[u8],
     k: &[u8],
-    own: KnowledgePart,
-    found: Found,
+    opened: OpenStore,
+    found: Option<usize>,
     what: Change,
     out: &mut [u8],
     limits: Limits,
-) -> Answer
-    requires { Asked (limits_of limits) store.now k.now own found what }
+) -> Result<usize, Refusal>
+    requires { Asked (limits_of limits) store.now k.now opened found what }
     ensures { Ended (change_reply (limits_of limits) (store_at (limits_of limits) store.now)
-        (content_of what) (item_of what)) out.old out.new result }
+        (content_of what) (item_of what)) out.old out.new (answer_of result) }
 {
-    let largest = lookup_ranges::largest_from(k, own.view);
+    let largest = lookup_ranges::largest_from(k, opened.own.view);
     if LARGEST_TICK <= largest {
-        return Answer::Refused(20);
+        return Err(Refusal::TicksExhausted);
     }
-    let replica = Replica {
-        high: codec::read8(store, OWN),
-        low: codec::read8(store, OWN + 8),
+    let change = VersionWords {
+        replica: Replica::from_bytes(&store[OWN..OWN + 16]),
+        tick: largest + 1,
     };
-    let tick = largest + 1;
-    let new = changed_record(store, found, what, VersionWords { replica, tick });
-    put_changed(store, k, own.view, new, limits, out)
+    let new = changed_record(store, found, what, change);
+    put_changed(store, k, opened.own.view, new, limits, out)
 }
 
 // ---- the calls
 
 // With limits of the caller's.
-fn edit_within(store: &[u8], item: &[u8], tag: &[u8], out: &mut [u8], limits: Limits) -> Answer
+fn edit_within(
+    store: &[u8],
+    item: &[u8],
+    tag: &[u8],
+    out: &mut [u8],
+    limits: Limits,
+) -> Result<usize, Refusal>
     ensures { Ended (edit_reply (limits_of limits) store.now item.now (brings tag.now))
-        out.old out.new result }
+        out.old out.new (answer_of result) }
 {
-    let opened = store_open::open_store(&store[..], limits);
-    let OpenedStore::Valid { own, count: _ } = opened else {
-        return Answer::Refused(15);
-    };
+    let opened = store_open::open_store(store, limits)?;
     if item.len() != 24 {
-        return Answer::Refused(17);
+        return Err(Refusal::WrongIds);
     }
     if tag.len() != 16 {
-        return Answer::Refused(17);
+        return Err(Refusal::WrongIds);
     }
-    let i = item_words(item);
-    let end = store_headers::STORE + own.length;
-    let found = records::place_of(store, end, i.high, i.middle, i.low);
+    let item = Item::from_bytes(item);
+    let end = store_headers::STORE + opened.own.length;
+    let found = records::place_of(store, end, item);
     let what = Change {
-        item: i,
+        item,
         deleted: false,
         tag: tag_words(tag),
     };
     change_item(
         store,
         &store[store_headers::STORE..end],
-        own,
+        opened,
         found,
         what,
         out,
@@ -263,47 +258,44 @@ fn edit_within(store: &[u8], item: &[u8], tag: &[u8], out: &mut [u8], limits: Li
 }
 
 // Writes the store after an edit: the item is live, with the given tag.
-pub fn edit(store: &[u8], item: &[u8], tag: &[u8], out: &mut [u8]) -> Answer
-    ensures value { result ≡ answer (edit_reply base store.now item.now (brings tag.now))
+pub fn edit(store: &[u8], item: &[u8], tag: &[u8], out: &mut [u8]) -> Result<usize, Refusal>
+    ensures value { answer_of result ≡ answer (edit_reply base store.now item.now (brings tag.now))
         (length out.old) }
     ensures out_after { out.new ≡ after (edit_reply base store.now item.now (brings tag.now))
         out.old }
 {
-    let limits = Limits {
-        replicas: layout::REPLICAS,
-        ranges: layout::RANGES,
-        records: layout::RECORDS,
-    };
-    edit_within(store, item, tag, out, limits)
+    edit_within(store, item, tag, out, layout::LIMITS)
 }
 
 // With limits of the caller's.
-fn delete_within(store: &[u8], item: &[u8], out: &mut [u8], limits: Limits) -> Answer
+fn delete_within(
+    store: &[u8],
+    item: &[u8],
+    out: &mut [u8],
+    limits: Limits,
+) -> Result<usize, Refusal>
     ensures { Ended (delete_reply (limits_of limits) store.now item.now)
-        out.old out.new result }
+        out.old out.new (answer_of result) }
 {
-    let opened = store_open::open_store(&store[..], limits);
-    let OpenedStore::Valid { own, count: _ } = opened else {
-        return Answer::Refused(15);
-    };
+    let opened = store_open::open_store(store, limits)?;
     if item.len() != 24 {
-        return Answer::Refused(17);
+        return Err(Refusal::WrongIds);
     }
-    let i = item_words(item);
-    let end = store_headers::STORE + own.length;
-    let found = records::place_of(store, end, i.high, i.middle, i.low);
+    let item = Item::from_bytes(item);
+    let end = store_headers::STORE + opened.own.length;
+    let found = records::place_of(store, end, item);
     if gone(store, found) {
-        return Answer::Refused(19);
+        return Err(Refusal::NoLiveItem);
     }
     let what = Change {
-        item: i,
+        item,
         deleted: true,
         tag: TagWords { high: 0, low: 0 },
     };
     change_item(
         store,
         &store[store_headers::STORE..end],
-        own,
+        opened,
         found,
         what,
         out,
@@ -312,33 +304,28 @@ fn delete_within(store: &[u8], item: &[u8], out: &mut [u8], limits: Limits) -> A
 }
 
 // Writes the store after a delete: the item is a tombstone.
-pub fn delete(store: &[u8], item: &[u8], out: &mut [u8]) -> Answer
-    ensures value { result ≡ answer (delete_reply base store.now item.now) (length out.old) }
+pub fn delete(store: &[u8], item: &[u8], out: &mut [u8]) -> Result<usize, Refusal>
+    ensures value { answer_of result ≡ answer (delete_reply base store.now item.now) (length out.old) }
     ensures out_after { out.new ≡ after (delete_reply base store.now item.now) out.old }
 {
-    let limits = Limits {
-        replicas: layout::REPLICAS,
-        ranges: layout::RANGES,
-        records: layout::RECORDS,
-    };
-    delete_within(store, item, out, limits)
+    delete_within(store, item, out, layout::LIMITS)
 }
 
 // ---- a new store
 
 // Writes a new store: its own id, the empty knowledge, no records.
-pub fn new(own: &[u8], out: &mut [u8]) -> Answer
-    ensures value { result ≡ answer (new_reply own.now) (length out.old) }
+pub fn new(own: &[u8], out: &mut [u8]) -> Result<usize, Refusal>
+    ensures value { answer_of result ≡ answer (new_reply own.now) (length out.old) }
     ensures out_after { out.new ≡ after (new_reply own.now) out.old }
 {
     if own.len() != 16 {
-        return Answer::Refused(17);
+        return Err(Refusal::WrongIds);
     }
     if out.len() < store_headers::STORE + operations::EMPTY {
-        return Answer::Refused(14);
+        return Err(Refusal::BufferTooShort);
     }
-    let p = codec::replica_of(own);
+    let p = Replica::from_bytes(own);
     store_headers::write_store_header(out, p, operations::EMPTY, 0);
     operations::write_empty(out, store_headers::STORE);
-    Answer::Written(store_headers::STORE + operations::EMPTY)
+    Ok(store_headers::STORE + operations::EMPTY)
 }

@@ -7,11 +7,12 @@ use lib.ListN.{take}
 use contract.Lifetimes.{Lfts}
 use denote.Triple.Clauses.{AtExit}
 use borrow.Fn.Kinds.{Dens, res_t, ended_of}
+use Rattle.layout.specs.Checked.{checked_of}
 use Rattle.layout.specs.Knowledge.{basic}
 use Rattle.layout.specs.Parse.{checked_by}
 use Rattle.inspect.proofs.check_front.Kinds as kinds
 use Rattle.inspect.proofs.check_front.Reads as reads
 
 pub front_told : (κs : Lfts 1) (a : Dens κs kinds.ps) (r : (res_t kinds.r κs).Denot) (s : AtExit (ended_of 1 kinds.ps kinds.r) κs)
-    → reads.Learnt κs a r s → (input : List ℕ) → take 14934 input ≡ take a.1.0 a.0.now → r ≡ checked_by basic input
+    → reads.Learnt κs a r s → (input : List ℕ) → take 14934 input ≡ take a.1.0 a.0.now → checked_of r ≡ checked_by basic input
 front_told κs a r s h input e = h input e

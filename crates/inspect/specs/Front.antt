@@ -2,7 +2,7 @@
 use Rattle.std.specs.Prelude.{ℕ, ◌≡◌, List, take}
 use Rattle.layout.specs.Knowledge.{basic}
 use Rattle.layout.specs.Parse.{checked_by}
-use Rattle.layout.specs.declared.Checked.{Checked}
+use Rattle.layout.specs.Checked.{Checked}
 
 -- the answer is the check's for every input whose first bytes, at most `most` of them, are these
 abbrev pub DecidesAll : ℕ → List ℕ → Checked → Type 0

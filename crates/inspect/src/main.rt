@@ -6,34 +6,22 @@
 #![tactic(auto)]
 
 ghost use Rattle.std.specs.Prelude.{◌≡◌, ◌≤◌, IfOk, length, take};
+ghost use Rattle.layout.specs.Checked.{checked_of};
 ghost use Rattle.inspect.specs.Front.{DecidesAll};
 
-use layout::Checked;
+use codec::Refusal;
+use layout::Counts;
 use std::io;
 use std::io::Read;
 
 const ROOM: usize = 14934;
-
-fn print_sizes(
-    rt: &impl Print,
-    r: usize,
-    v: usize,
-    e: usize,
-    g: usize,
-    length: usize,
-) -> io::Result<()> {
-    println!(rt; "{r} {v} {e} {g} {length}")
-}
-
-fn print_refusal(rt: &impl Print, n: u32) -> io::Result<()> {
-    println!(rt; "refused {n}")
-}
 
 // Reads until the buffer is full or the input ends, and returns how many bytes it put at the start of the buffer.
 fn read_full(input: &mut impl Read, buffer: &mut [u8]) -> io::Result<usize>
     ensures { IfOk result (λ n. n ≤ length buffer.new) }
 {
     let mut done = 0;
+    // a while: a read says how many bytes it gave
     while done < buffer.len() {
         let n = input.read(&mut buffer[done..])?;
         if n == 0 {
@@ -45,17 +33,17 @@ fn read_full(input: &mut impl Read, buffer: &mut [u8]) -> io::Result<usize>
 }
 
 // The check's answer for an input whose first bytes, at most 14,934 of them, are the first n of the buffer.
-fn check_front(buffer: &[u8], n: usize) -> Checked
+fn check_front(buffer: &[u8], n: usize) -> Result<Counts, Refusal>
     requires { (length buffer.now ≡ 14934) × (n ≤ 14934) }
-    ensures { DecidesAll 14934 (take n buffer.now) result }
+    ensures { DecidesAll 14934 (take n buffer.now) (checked_of result) }
 {
     check_knowledge::check(&buffer[..n])
 }
 
-fn report(rt: &impl Print, answer: Checked, length: usize) -> io::Result<()> {
+fn report(rt: &impl Print, answer: Result<Counts, Refusal>, length: usize) -> io::Result<()> {
     match answer {
-        Checked::Accepted { r, v, e, g } => print_sizes(rt, r, v, e, g, length),
-        Checked::Refused(n) => print_refusal(rt, n),
+        Ok(n) => println!(rt; "{} {} {} {} {length}", n.r, n.v, n.e, n.g),
+        Err(e) => println!(rt; "refused {}", u32::from(e)),
     }
 }
 

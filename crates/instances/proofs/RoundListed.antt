@@ -13,8 +13,8 @@ use native.Mathlib.Omega.{arith}
 use lib.Dec.{eqb}
 use lib.ListN.{length, take, drop, get_or, take-append-drop}
 use borrow.Author.Tests.{eq-eqb, le-ltb}
-use Rattle.codec.specs.declared.Answer.{Answer}
-use Rattle.codec.specs.declared.Answer.TheVariants.{Written}
+use Rattle.codec.specs.Answer.{Answer}
+use Rattle.codec.specs.Answer.{Written}
 use Rattle.codec.specs.Number.{Bytes, be_from, be_at, put}
 use Rattle.codec.specs.Parsed.{accepted, own_fault, read_or}
 use Rattle.codec.specs.Reply.{answer, first_fault}

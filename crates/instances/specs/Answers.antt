@@ -2,7 +2,7 @@
 -- wrote or the number of its refusal; which calls were refused; and the bytes of the stores.
 use Rattle.std.specs.Prelude.{ℕ, Bool, List, [], ◌∷◌}
 use Rattle.std.proofs.Math.Option.{Option, none, some}
-use Rattle.codec.specs.declared.Answer.{Answer}
+use Rattle.codec.specs.Answer.{Answer}
 use Rattle.codec.specs.Reply.{Reply, refuses, answer}
 use Rattle.layout.specs.Knowledge.{Limits, Rules}
 use Rattle.replication.specs.Call.{Call, edit, delete, make, apply, Fed}

@@ -3,7 +3,7 @@
 use Rattle.std.specs.Prelude.{ℕ, ◌≡◌, List, [], ◌∷◌, length}
 use Rattle.codec.specs.Number.{put}
 use Rattle.codec.specs.Reply.{gives}
-use Rattle.codec.specs.declared.Answer.TheVariants.{Written}
+use Rattle.codec.specs.Answer.{Written}
 use Rattle.layout.specs.Knowledge.{basic, Knowledge, encode}
 use Rattle.ticks.specs.Compare.{compare_reply, order_value}
 use Rattle.instances.specs.Given.{empty_value, ran, one, two, parts}

@@ -1,8 +1,8 @@
 -- A longer list: twenty-six calls on four new replicas, and what it ends in, written out. The bytes were made from the paper's text and
 -- rest on no definition of this repository.
 use Rattle.std.specs.Prelude.{ℕ, ◌+◌, ◌*◌, ◌^◌, Bool, true, false, List, [], ◌∷◌, drop}
-use Rattle.codec.specs.declared.Answer.{Answer}
-use Rattle.codec.specs.declared.Answer.TheVariants.{Written, Refused}
+use Rattle.codec.specs.Answer.{Answer}
+use Rattle.codec.specs.Answer.{Written, Refused}
 use Rattle.codec.specs.Number.{put}
 use Rattle.layout.specs.Knowledge.{Knowledge, encode}
 use Rattle.ticks.specs.Meaning.{highest}

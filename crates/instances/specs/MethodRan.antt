@@ -2,8 +2,8 @@
 -- and when a store stays.
 use Rattle.std.specs.Prelude.{ℕ, zero, suc, ◌≡◌, Bool, true, false, List, [], ◌∷◌, eqb, get_or}
 use Rattle.std.proofs.Math.Option.{Option, none, some}
-use Rattle.codec.specs.declared.Answer.{Answer}
-use Rattle.codec.specs.declared.Answer.TheVariants.{Refused}
+use Rattle.codec.specs.Answer.{Answer}
+use Rattle.codec.specs.Answer.{Refused}
 use Rattle.codec.specs.Reply.{answer}
 use Rattle.layout.specs.Knowledge.{Rules}
 use Rattle.replication.specs.Call.{Call, edit, delete, make, apply}

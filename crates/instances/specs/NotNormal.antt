@@ -1,14 +1,14 @@
 -- What is accepted though it is no normal form: the answer of the check, the bytes that normalise gives, and what contain
 -- says. The values are `layout`'s own examples; the first one's bytes are written out from the paper's text.
 use Rattle.std.specs.Prelude.{ℕ, List, [], ◌∷◌}
-use Rattle.layout.specs.declared.Checked.TheVariants.{Accepted}
+use Rattle.layout.specs.Checked.{Accepted}
 use Rattle.layout.specs.Knowledge.{basic, Knowledge, encode}
 use Rattle.layout.proofs.NotNormal.{el, ran, knowledge}
 use Rattle.layout.proofs.NotNormal.{tick_zero, unused_replica, unused_vector, equal_vectors, empty_twice}
 use Rattle.layout.proofs.NotNormal.{equal_neighbours, first_above_lem, later_first_lem, replicas_fall, keys_fall}
 use Rattle.ticks.specs.Calls.{contain_answer, normalise_reply}
-use Rattle.ticks.specs.declared.Contain.{Contain}
-use Rattle.ticks.specs.declared.Contain.TheVariants as C
+use Rattle.ticks.specs.Contain.{Contain}
+use Rattle.ticks.specs.Contain as C
 use Rattle.instances.specs.Given.{item_bytes, replica_bytes}
 use Rattle.instances.specs.Table.{Row, checks, gets, contained, bytes_are}
 

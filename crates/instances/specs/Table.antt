@@ -1,16 +1,16 @@
 -- The table of document 01's instances. A row says what is asked and the whole reply.
 use Rattle.std.specs.Prelude.{ℕ, ◌≡◌, List, [], ◌∷◌, ◌++◌, pos, negsuc, length, take, drop}
 use Rattle.codec.specs.Reply.{Reply, gives, refuses}
-use Rattle.layout.specs.declared.Checked.{Checked}
-use Rattle.layout.specs.declared.Checked.TheVariants.{Accepted, Refused}
+use Rattle.layout.specs.Checked.{Checked}
+use Rattle.layout.specs.Checked.{Accepted, Refused}
 use Rattle.layout.specs.Knowledge.{basic, Knowledge, encode, base}
 use Rattle.layout.specs.Parse.{parse, checked_by}
 use Rattle.ticks.specs.Meaning.{highest, known}
 use Rattle.ticks.specs.Calls.{contain_answer, lead_answer, merge_reply, project_reply}
-use Rattle.ticks.specs.declared.Contain.{Contain}
-use Rattle.ticks.specs.declared.Contain.TheVariants as C
-use Rattle.ticks.specs.declared.Lead.{Lead}
-use Rattle.ticks.specs.declared.Lead.TheVariants as D
+use Rattle.ticks.specs.Contain.{Contain}
+use Rattle.ticks.specs.Contain as C
+use Rattle.ticks.specs.Lead.{Lead}
+use Rattle.ticks.specs.Lead as D
 use Rattle.replication.specs.Formats.{Store, encode_store}
 use Rattle.replication.specs.BatchFormat.{Batch, encode_batch}
 use Rattle.replication.specs.Operate.{next_tick}
@@ -19,8 +19,8 @@ use Rattle.replication.specs.Queries.{winner_part, learned_part}
 use Rattle.instances.specs.Spelled.{bytes_k6, bytes_k10, bytes_k11, bytes_deleted, bytes_two_records, bytes_two_vectors}
 use Rattle.instances.specs.Given.{empty_value, smallest, item_bytes, replica_bytes, tagged, ran, one, two, parts}
 use Rattle.instances.specs.Given.{fresh, again, store, batch, p1, q1, p2, q2}
-use Rattle.replication.specs.declared.Part.{Part}
-use Rattle.replication.specs.declared.Part.TheVariants as W
+use Rattle.replication.specs.Part.{Part}
+use Rattle.replication.specs.Part as W
 use Rattle.codec.specs.Parsed.{Parsed, accepted, refused}
 
 pub data Row : Type 0 where

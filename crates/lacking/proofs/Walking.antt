@@ -26,12 +26,9 @@ use Rattle.ticks.proofs.Equality.{clash}
 use Rattle.lookup.specs.declared.Cursor.{Cursor}
 use Rattle.lookup.specs.Method.{key_at, advanced, elements_here, tick_here}
 use Rattle.lookup.proofs.Leaf.{key_most, advanced_room, advanced_fewer, advanced_passes}
-use Rattle.lacking.specs.declared.Least.{Least}
-use Rattle.lacking.specs.declared.Least.TheVariants as M
-use Rattle.lacking.specs.declared.Stop.{Stop}
-use Rattle.lacking.specs.declared.Stop.TheVariants as N
-use Rattle.lacking.specs.declared.Place.{Place}
-use Rattle.lacking.specs.declared.Place.TheVariants as O
+use Rattle.std.specs.Prelude as Std
+use Rattle.std.specs.Prelude.{Some, None}
+use Rattle.lacking.specs.declared.Lack as D
 use Rattle.lacking.specs.Method.{Keyed, stop_at, bound_of, nearer_of, RowOf, RowWritten, Filled, id_from, level_of, least_id, lack_of}
 use Rattle.lacking.specs.Method.{level_at, least_at, walk_by, walk_from, laid_out, LaidOut, lacking_by}
 use Rattle.lacking.proofs.Cells.{level_none, level_is}
@@ -266,19 +263,19 @@ module _ (s : List ℕ) (r : ℕ) (from : Cursor) (t : List ℕ) (m : ℕ) (begi
   walk_whole a e = e ∙ ap₂ (λ (u v : Cursor). walk_by s r t m hi (u.left + v.left) u v lo) ex ey
 
 module _ (s : List ℕ) (r : ℕ) (t : List ℕ) (m hi : ℕ) (keys row : List ℕ) (x y : Cursor) (i : ℕ) (whole : Lack)
-    (w : Walks s r t m hi keys row x y i whole) (least : Least)
+    (w : Walks s r t m hi keys row x y i whole) (least : Std.Option Replica)
     (told : least_id least ≡ least_of (level_of keys row) (id_from t) none (elements_here t y.vector)) where
   found : least_id least ≡ least_at s r t m x.vector y.vector
   found = told ∙ least_is s r t m keys row x.vector w.cells w.size w.keyed w.exact y.vector
 
-  pub walk_here : (j : Item) (p : Replica) → item_of j ≡ i → least ≡ M.Id p
-      → lack_of (O.Here (record { item = j; replica = p })) ≡ whole
+  pub walk_here : (j : Item) (p : Replica) → item_of j ≡ i → least ≡ Some p
+      → lack_of (Some (record { item = j; replica = p })) ≡ whole
   unfolding lack_of least_id
   walk_here j p e f =
       ap (λ j. here j (replica_of p)) e
       ∙ sym (w.is ∙ walk_found s r t m hi x y i (x.left + y.left) (replica_of p) (sym found ∙ ap least_id f))
 
-  module _ (none_here : least ≡ M.Nothing) (p q stop : Stop) (ep : stop_at p ≡ bound_of s x hi) (eq : stop_at q ≡ bound_of t y hi)
+  module _ (none_here : least ≡ None) (p q stop : Std.Option Item) (ep : stop_at p ≡ bound_of s x hi) (eq : stop_at q ≡ bound_of t y hi)
       (near : stop_at stop ≡ nearer_of (stop_at p) (stop_at q)) where
     nothing : least_at s r t m x.vector y.vector ≡ none
     unfolding least_id
@@ -287,11 +284,11 @@ module _ (s : List ℕ) (r : ℕ) (t : List ℕ) (m hi : ℕ) (keys row : List �
     nearest : stop_at stop ≡ nearer_of (bound_of s x hi) (bound_of t y hi)
     nearest = near ∙ ap₂ nearer_of ep eq
 
-    pub walk_past : stop ≡ N.Past → lack_of O.Nowhere ≡ whole
+    pub walk_past : stop ≡ None → lack_of None ≡ whole
     unfolding lack_of stop_at
     walk_past e = sym (w.is ∙ walk_ends s r t m hi x y i nothing (x.left + y.left) (sym nearest ∙ ap stop_at e))
 
-    module _ (n : Item) (at : stop ≡ N.At n) (u v : Cursor) (eu : u ≡ advanced s r x (item_of n))
+    module _ (n : Item) (at : stop ≡ Some n) (u v : Cursor) (eu : u ≡ advanced s r x (item_of n))
         (ev : v ≡ advanced t m y (item_of n)) where
       next : nearer_of (bound_of s x hi) (bound_of t y hi) ≡ some (item_of n)
       unfolding stop_at
@@ -387,16 +384,16 @@ module _ (s : List ℕ) (r : ℕ) (c : Cursor) where
 
 module _ (s : List ℕ) (r : ℕ) (from : Cursor) (t : List ℕ) (m : ℕ) (begin : Cursor) (lo hi : ℕ) (a : Bool)
     (ea : a ≡ laid_out s r from) where
-  pub lacks_first : a ≡ false → lack_of O.Nowhere ≡ lacking_by s r from t m begin lo hi
+  pub lacks_first : a ≡ false → lack_of None ≡ lacking_by s r from t m begin lo hi
   unfolding lack_of lacking_by
   lacks_first f = sym (rw (sym ea ∙ f, lacking_by) refl)
 
   module _ (fa : a ≡ true) (b : Bool) (eb : b ≡ laid_out t m begin) where
-    pub lacks_second : b ≡ false → lack_of O.Nowhere ≡ lacking_by s r from t m begin lo hi
+    pub lacks_second : b ≡ false → lack_of None ≡ lacking_by s r from t m begin lo hi
     unfolding lack_of lacking_by
     lacks_second f = sym (rw (sym ea ∙ fa, lacking_by, sym eb ∙ f) refl)
 
-    pub lacks_whole : (p : Place) → b ≡ true → lack_of p ≡ walk_from s r from t m begin lo hi
+    pub lacks_whole : (p : Std.Option D.Lack) → b ≡ true → lack_of p ≡ walk_from s r from t m begin lo hi
         → lack_of p ≡ lacking_by s r from t m begin lo hi
     unfolding lacking_by
     lacks_whole p f e = e ∙ sym (rw (sym ea ∙ fa, lacking_by, sym eb ∙ f) refl)

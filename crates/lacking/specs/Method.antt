@@ -1,7 +1,11 @@
 -- The method of the rows, by places, for any bytes: nothing here is to be believed. The laws show that for bytes that the
 -- check accepts the first lacking place is the defined one, and that cover answers as defined. The cursor and the keys are lookup's.
 use Rattle.std.specs.Prelude.{ℕ, zero, suc, ◌+◌, ◌*◌, ◌≤◌, ◌<◌, ◌≡◌, Bool, true, false, List, ltb, leb, length, get_or}
+use Rattle.std.specs.Prelude as Std
+use Rattle.std.specs.Prelude.{Some, None}
 use Rattle.codec.specs.Prelude.{Option, none, some}
+use Rattle.codec.specs.declared.Item.{Item}
+use Rattle.codec.specs.declared.Replica.{Replica}
 use Rattle.codec.specs.Number.{be_at}
 use Rattle.codec.specs.Total.{read_at}
 use Rattle.codec.specs.Words.{words2}
@@ -14,12 +18,7 @@ use Rattle.ticks.specs.MethodRows.{least_of}
 use Rattle.ticks.specs.Operations.{Lack, nowhere, here}
 use Rattle.lookup.specs.declared.Cursor.{Cursor}
 use Rattle.lookup.specs.Method.{key_at, advanced, elements_here, tick_here}
-use Rattle.lacking.specs.declared.Least.{Least}
-use Rattle.lacking.specs.declared.Least.TheVariants as M
-use Rattle.lacking.specs.declared.Stop.{Stop}
-use Rattle.lacking.specs.declared.Stop.TheVariants as N
-use Rattle.lacking.specs.declared.Place.{Place}
-use Rattle.lacking.specs.declared.Place.TheVariants as O
+use Rattle.lacking.specs.declared.Lack as D
 
 -- The key of an id
 
@@ -30,9 +29,10 @@ pub record Keyed (s : List ℕ) (r : ℕ) (t : List ℕ) (m : ℕ) (keys : List 
 
 -- The next stop
 
-unfoldable pub stop_at : Stop → Option ℕ
-stop_at N.Past = none
-stop_at (N.At i) = some (item_of i)
+-- an item by its number
+unfoldable pub stop_at : Std.Option Item → Option ℕ
+stop_at None = none
+stop_at (Some i) = some (item_of i)
 
 -- the next bound, where it is not above the last item
 unfoldable pub bound_of : List ℕ → Cursor → ℕ → Option ℕ
@@ -52,11 +52,6 @@ nearer_of (some a) (some b) = elim (ltb b a) [ true ↦ some b | false ↦ some 
 -- the cells of a row are 0
 pub record Zeros (row : List ℕ) : Type 0 where
   pub is : (c : ℕ) → get_or row c 0 ≡ 0
-
--- a row of the same length, all 0
-pub record Blank (row after : List ℕ) : Type 0 where
-  pub is : Zeros after
-  pub size : length after ≡ length row
 
 -- a row has the ticks of elements, each in the cell of its key
 pub record RowOf (es : List Element) (row : List ℕ) : Type 0 where
@@ -82,9 +77,10 @@ id_from t key = words2 (read_at t 8 (ids_place + 16 * key)) (read_at t 8 (ids_pl
 unfoldable pub level_of : List ℕ → List ℕ → ℕ → ℕ
 level_of keys row key = elim (ltb key (length keys)) [ true ↦ get_or row (get_or keys key 0) 0 | false ↦ 0 ]
 
-unfoldable pub least_id : Least → Option ℕ
-least_id M.Nothing = none
-least_id (M.Id p) = some (replica_of p)
+-- a replica by its number
+unfoldable pub least_id : Std.Option Replica → Option ℕ
+least_id None = none
+least_id (Some p) = some (replica_of p)
 
 -- the tick in s, in the vector at a place, for a key of t: the ids of both are compared
 unfoldable pub level_at : List ℕ → ℕ → List ℕ → ℕ → ℕ → ℕ → ℕ
@@ -139,6 +135,6 @@ lacking_by s r from t m begin first last =
       | false ↦ nowhere
     ]
 
-unfoldable pub lack_of : Place → Lack
-lack_of O.Nowhere = nowhere
-lack_of (O.Here l) = here (item_of l.item) (replica_of l.replica)
+unfoldable pub lack_of : Std.Option D.Lack → Lack
+lack_of None = nowhere
+lack_of (Some l) = here (item_of l.item) (replica_of l.replica)

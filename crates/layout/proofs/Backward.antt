@@ -13,10 +13,10 @@ use lib.ListN.{length, drop}
 use lib.Seq.{drop-length}
 use borrow.Author.Tests.{eqb-true}
 use Rattle.codec.specs.Number.{Bytes, put}
-use Rattle.layout.specs.declared.Got.{Got}
-use Rattle.layout.specs.declared.Got.TheVariants.{Num, Fault}
-use Rattle.layout.specs.declared.Checked.{Checked}
-use Rattle.layout.specs.declared.Checked.TheVariants.{Accepted, Refused}
+use Rattle.layout.specs.Got.{Got}
+use Rattle.layout.specs.Got.{Num, Fault}
+use Rattle.layout.specs.Checked.{Checked}
+use Rattle.layout.specs.Checked.{Accepted, Refused}
 use Rattle.layout.specs.Knowledge.{Rules, basic, Range, Knowledge, All, opening, before_vectors, before_ranges, closing, encode, put_fields, put_ids, put_vectors, put_ranges, Lawful}
 use Rattle.layout.specs.Permitted.{most_vectors}
 use Rattle.layout.specs.Answer.{elements}

@@ -13,8 +13,8 @@ use lib.Dec.{leb, ltb, eqb}
 use lib.ListN.{length, drop}
 use borrow.Author.Tests.{leb-true, ltb-true, eqb-true, eqb-false}
 use Rattle.codec.specs.Number.{Bytes, be_at, put}
-use Rattle.layout.specs.declared.Got.{Got}
-use Rattle.layout.specs.declared.Got.TheVariants.{Num, Fault}
+use Rattle.layout.specs.Got.{Got}
+use Rattle.layout.specs.Got.{Num, Fault}
 use Rattle.layout.specs.Knowledge.{Rules, largest_tick, Element, Range, before_elements, put_fields, put_ids, put_elements, put_vectors, put_ranges, All, Distinct, Rising, keys, bounds}
 use Rattle.layout.proofs.Parts.{LawfulId, LawfulElement, LawfulVector, LawfulRange, all_map}
 use Rattle.layout.specs.Answer.{elements}

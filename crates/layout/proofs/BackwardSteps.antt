@@ -10,8 +10,8 @@ use lib.Dec.{leb, eqb}
 use lib.ListN.{length, drop}
 use borrow.Author.Tests.{leb-true, eqb-true}
 use Rattle.codec.specs.Number.{Bytes, be_at, put}
-use Rattle.layout.specs.declared.Got.{Got}
-use Rattle.layout.specs.declared.Got.TheVariants.{Num, Fault}
+use Rattle.layout.specs.Got.{Got}
+use Rattle.layout.specs.Got.{Num, Fault}
 use Rattle.layout.specs.Knowledge.{Field, put_fields}
 use Rattle.layout.specs.Read.{◌▷◌, number, same, fields, limit}
 use Rattle.codec.proofs.Numbers.{be_below, put_back}

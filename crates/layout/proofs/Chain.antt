@@ -13,7 +13,7 @@ use lib.Seq.{drop-drop}
 use borrow.Author.Tests.{le-leb, eq-eqb, ne_eqb}
 use Rattle.codec.specs.Number.{be_at, put}
 use Rattle.codec.proofs.Numbers.{be_drop, put-length, put_be, put-drop}
-use Rattle.layout.specs.declared.Got.TheVariants.{Num}
+use Rattle.layout.specs.Got.{Num}
 use Rattle.layout.specs.Knowledge.{Field, opening, before_vectors, before_elements, before_ranges, closing, put_fields, All}
 use Rattle.layout.specs.Read.{number, same, fields, limit, among}
 

@@ -10,8 +10,8 @@ use mathlib.Core.Logic.{◌↔◌}
 use native.Mathlib.Omega.{arith}
 use lib.ListN.{length}
 use Rattle.codec.specs.Number.{Bytes}
-use Rattle.layout.specs.declared.Checked.{Checked}
-use Rattle.layout.specs.declared.Checked.TheVariants.{Accepted, Refused}
+use Rattle.layout.specs.Checked.{Checked}
+use Rattle.layout.specs.Checked.{Accepted, Refused}
 use lib.Dec.{leb, lit≤}
 use mir.Val.{bool_byte}
 use Rattle.layout.specs.Knowledge.{Rules, largest_tick, Knowledge, encode, Lawful, basic, base}

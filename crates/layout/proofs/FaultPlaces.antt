@@ -7,9 +7,9 @@ use mathlib.Core.List.{List, [], ◌∷◌}
 use native.Mathlib.Omega.{arith}
 use lib.ListN.{length, get_or}
 use Rattle.codec.specs.Number.{put}
-use Rattle.layout.specs.declared.Got.{Got}
-use Rattle.layout.specs.declared.Got.TheVariants.{Num, Fault}
-use Rattle.layout.specs.declared.Checked.TheVariants.{Refused}
+use Rattle.layout.specs.Got.{Got}
+use Rattle.layout.specs.Got.{Num, Fault}
+use Rattle.layout.specs.Checked.{Refused}
 use Rattle.layout.specs.Knowledge.{Rules, Element, Range, opening, before_vectors, before_elements, before_ranges, closing, put_fields, put_ids, put_elements, put_vectors, put_ranges, All, keys}
 use Rattle.layout.specs.Permitted.{Permitted}
 use Rattle.layout.specs.Answer.{elements}

@@ -7,8 +7,8 @@ use mathlib.Core.Path.{◌≡◌, refl}
 use mathlib.Core.List.{List, [], ◌∷◌, ◌++◌}
 use lib.ListN.{take}
 use Rattle.codec.specs.Number.{be_from, be_at, put}
-use Rattle.layout.specs.declared.Checked.{Checked}
-use Rattle.layout.specs.declared.Checked.TheVariants.{Accepted, Refused}
+use Rattle.layout.specs.Checked.{Checked}
+use Rattle.layout.specs.Checked.{Accepted, Refused}
 use Rattle.layout.specs.Knowledge.{basic, opening, before_vectors, before_elements, before_ranges, closing}
 use Rattle.layout.specs.Read.{repeat, number, same, fields, limit, empty, among, judged, replica_id, tick, element, first_vector, vector, index, range}
 use Rattle.layout.specs.Parse.{replica_map, vector_count, vector_list, range_list, ended, checked, checked_by}

@@ -8,9 +8,9 @@ use lib.ListN.{length, get_or}
 use borrow.Author.Tests.{eq-eqb}
 use Rattle.codec.specs.Number.{Bytes, be_at, put}
 use Rattle.codec.proofs.Numbers.{put_bytes}
-use Rattle.layout.specs.declared.Got.TheVariants.{Num}
-use Rattle.layout.specs.declared.Checked.{Checked}
-use Rattle.layout.specs.declared.Checked.TheVariants.{Accepted}
+use Rattle.layout.specs.Got.{Num}
+use Rattle.layout.specs.Checked.{Checked}
+use Rattle.layout.specs.Checked.{Accepted}
 use Rattle.layout.specs.Knowledge.{Rules, Element, Range, Knowledge, Field, opening, before_vectors, before_elements, before_ranges}
 use Rattle.layout.specs.Knowledge.{closing, put_fields, put_ids, put_elements, put_vectors, put_ranges, encode, All, Distinct, Rising}
 use Rattle.layout.specs.Knowledge.{bounds, Lawful}

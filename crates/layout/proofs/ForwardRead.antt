@@ -8,7 +8,7 @@ use native.Mathlib.Omega.{arith}
 use lib.ListN.{length}
 use borrow.Author.Tests.{lt-ltb, le-leb}
 use Rattle.codec.specs.Number.{be_at, put}
-use Rattle.layout.specs.declared.Got.TheVariants.{Num}
+use Rattle.layout.specs.Got.{Num}
 use Rattle.layout.specs.Knowledge.{Rules, largest_tick, Element, Range, before_elements, put_fields, put_ids, put_elements, put_vectors, put_ranges, All, Distinct, Rising, keys, bounds}
 use Rattle.layout.proofs.Parts.{LawfulId, LawfulElement, LawfulVector, LawfulRange}
 use Rattle.layout.specs.Answer.{elements}

@@ -5,7 +5,7 @@ use Prim.Native.Nat.{ℕ}
 use mathlib.Core.Path.{◌≡◌, refl}
 use mathlib.Core.List.{List, [], ◌∷◌}
 use Rattle.codec.specs.Number.{be_from, be_at, put}
-use Rattle.layout.specs.declared.Checked.TheVariants.{Accepted}
+use Rattle.layout.specs.Checked.{Accepted}
 use Rattle.layout.specs.Knowledge.{basic, Element, Range, Knowledge, encode}
 use Rattle.layout.specs.Knowledge.{opening, before_vectors, before_elements, before_ranges, closing, put_fields, put_ids, put_elements, put_vectors, put_ranges}
 use Rattle.layout.specs.Read.{repeat, number, same, fields, limit, empty, among, judged, replica_id, tick, element, first_vector, vector, index, range}

@@ -10,8 +10,8 @@ use lib.Dec.{leb}
 use borrow.Author.Tests.{leb-true, leb-false}
 use lib.ListN.{length, get_or}
 use Rattle.codec.specs.Number.{put}
-use Rattle.layout.specs.declared.Got.TheVariants.{Fault}
-use Rattle.layout.specs.declared.Checked.TheVariants.{Refused}
+use Rattle.layout.specs.Got.{Fault}
+use Rattle.layout.specs.Checked.{Refused}
 use Rattle.layout.specs.Knowledge.{Rules, Element, Range, Field, opening, before_vectors, before_elements, before_ranges, put_fields, All, keys, bounds}
 use Rattle.layout.specs.Permitted.{Permitted}
 use Rattle.layout.specs.Read.{◌▷◌, number, fields, limit}

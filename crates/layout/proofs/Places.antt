@@ -9,7 +9,7 @@ use native.Mathlib.Omega.{arith}
 use lib.ListN.{length, get_or}
 use Rattle.codec.specs.Number.{Bytes, be_at}
 use Rattle.codec.specs.Parsed.{accepted}
-use Rattle.layout.specs.declared.Checked.TheVariants.{Accepted}
+use Rattle.layout.specs.Checked.{Accepted}
 use Rattle.layout.specs.Knowledge.{Rules, Lawful}
 use Rattle.layout.specs.Permitted.{Permitted, most_vectors, most_count}
 use Rattle.layout.specs.Answer.{elements}

@@ -17,10 +17,10 @@ use lib.ListN.{length, take, length-take}
 use lib.Seq.{take_all}
 use Rattle.codec.specs.Number.{be_at}
 use Rattle.codec.proofs.Numbers.{be_take}
-use Rattle.layout.specs.declared.Got.{Got}
-use Rattle.layout.specs.declared.Got.TheVariants.{Num, Fault}
-use Rattle.layout.specs.declared.Checked.{Checked}
-use Rattle.layout.specs.declared.Checked.TheVariants.{Accepted, Refused}
+use Rattle.layout.specs.Got.{Got}
+use Rattle.layout.specs.Got.{Num, Fault}
+use Rattle.layout.specs.Checked.{Checked}
+use Rattle.layout.specs.Checked.{Accepted, Refused}
 use Rattle.layout.specs.Permitted.{longest, most_vectors}
 use Rattle.layout.specs.Knowledge.{Rules, largest_tick, basic, Field, opening, before_vectors, before_elements, before_ranges, closing, base}
 use Rattle.layout.specs.Read.{◌▷◌, repeat, number, same, fields, limit, empty, among, judged, replica_id, tick, element, first_vector, vector, index, range}

@@ -10,7 +10,7 @@ use mathlib.Core.Logic.{◌⊎◌}
 use mathlib.Core.List.{List, [], ◌∷◌, ◌++◌}
 use lib.ListN.{length, get_or, take}
 use Rattle.codec.specs.Number.{put}
-use Rattle.layout.specs.declared.Checked.TheVariants.{Refused}
+use Rattle.layout.specs.Checked.{Refused}
 use Rattle.layout.specs.Knowledge.{Rules, largest_tick, Element, Range, Knowledge, Field, opening, before_vectors, before_elements, before_ranges, closing}
 use Rattle.layout.specs.Knowledge.{put_fields, put_ids, put_elements, put_vectors, put_ranges, encode, All, Distinct, Rising, keys, bounds, Lawful}
 use Rattle.layout.specs.Parse.{checked_by}

@@ -11,9 +11,9 @@ use native.Mathlib.Omega.{arith}
 use lib.Dec.{eqb}
 use lib.ListN.{length, drop}
 use Rattle.codec.specs.Number.{Bytes, put}
-use Rattle.layout.specs.declared.Got.TheVariants.{Num, Fault}
-use Rattle.layout.specs.declared.Checked.{Checked}
-use Rattle.layout.specs.declared.Checked.TheVariants.{Accepted, Refused}
+use Rattle.layout.specs.Got.{Num, Fault}
+use Rattle.layout.specs.Checked.{Checked}
+use Rattle.layout.specs.Checked.{Accepted, Refused}
 use Rattle.layout.specs.Knowledge.{Rules, Element, Range, Knowledge, opening, before_vectors, before_elements, before_ranges, closing}
 use Rattle.layout.specs.Knowledge.{put_fields, put_ids, put_elements, put_vectors, encode, All, keys, Lawful}
 use Rattle.layout.specs.Permitted.{Permitted, most_vectors}

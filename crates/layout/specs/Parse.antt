@@ -2,10 +2,10 @@
 -- "Knowledge, end". `checked` decides and counts; `parse` also gives the value that the accepted bytes stand for.
 use Rattle.std.specs.Prelude.{ℕ, ◌+◌, ◌-◌, true, false, List, eqb, length}
 use Rattle.codec.specs.Parsed.{Parsed, accepted, refused}
-use Rattle.layout.specs.declared.Got.{Got}
-use Rattle.layout.specs.declared.Got.TheVariants.{Num, Fault}
-use Rattle.layout.specs.declared.Checked.{Checked}
-use Rattle.layout.specs.declared.Checked.TheVariants.{Accepted, Refused}
+use Rattle.layout.specs.Got.{Got}
+use Rattle.layout.specs.Got.{Num, Fault}
+use Rattle.layout.specs.Checked.{Checked}
+use Rattle.layout.specs.Checked.{Accepted, Refused}
 use Rattle.layout.specs.Knowledge.{Rules, Knowledge, opening, before_vectors, before_ranges, closing}
 use Rattle.layout.specs.Decode.{decode}
 use Rattle.layout.specs.Read.{◌▷◌, repeat, number, fields, limit, replica_id, first_vector, vector, range}

@@ -3,8 +3,8 @@
 -- table "Where a fault is caught".
 use Rattle.std.specs.Prelude.{ℕ, zero, suc, ◌+◌, Bool, true, false, List, [], ◌∷◌, eqb, ltb, leb, length}
 use Rattle.codec.specs.Number.{be_at}
-use Rattle.layout.specs.declared.Got.{Got}
-use Rattle.layout.specs.declared.Got.TheVariants.{Num, Fault}
+use Rattle.layout.specs.Got.{Got}
+use Rattle.layout.specs.Got.{Num, Fault}
 use Rattle.layout.specs.Knowledge.{largest_tick, Field, before_elements}
 
 infixl 40 ◌▷◌

@@ -38,25 +38,25 @@ pub struct ReplicaKey(pub u32);
 #[derive(Clone, Copy)]
 pub struct VectorIndex(pub u32);
 
-// What reading one part of the bytes comes to.
+// document 01's limits
+pub const LIMITS: Limits = Limits {
+    replicas: REPLICAS,
+    ranges: RANGES,
+    records: RECORDS,
+};
+
+// A number that was read, or a count of what was read, and the place after it.
 #[derive(Clone, Copy)]
-pub enum Got {
-    // a number, and the place after the part
-    Num(usize, usize),
-    // the number of the fault
-    Fault(u32),
+pub struct Read {
+    pub number: usize,
+    pub next: usize,
 }
 
-// The answer of the check of a knowledge.
+// The sizes of a knowledge: its replicas, clock vectors, elements of all vectors and ranges.
 #[derive(Clone, Copy)]
-pub enum Checked {
-    // the replicas, the clock vectors, the elements of all vectors, the ranges
-    Accepted {
-        r: usize,
-        v: usize,
-        e: usize,
-        g: usize,
-    },
-    // the refusal's number
-    Refused(u32),
+pub struct Counts {
+    pub r: usize,
+    pub v: usize,
+    pub e: usize,
+    pub g: usize,
 }

@@ -6,7 +6,7 @@ use mathlib.Core.List.{List, [], ◌∷◌, ◌++◌}
 use mathlib.Core.Option.{some}
 use lib.Dec.{lit<}
 use lib.ListN.{length, take, get_or}
-use Rattle.codec.specs.declared.Answer.TheVariants.{Refused}
+use Rattle.codec.specs.Answer.{Refused}
 use Rattle.codec.proofs.Numbers.{put_bytes}
 use Rattle.layout.proofs.Forward.{encode_bytes}
 use Rattle.replication.specs.Call.{Given}

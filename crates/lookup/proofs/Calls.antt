@@ -17,21 +17,27 @@ use Rattle.codec.specs.declared.Item.{Item}
 use Rattle.codec.specs.declared.Replica.{Replica}
 use Rattle.codec.specs.Ids.{item_of, replica_of, item_read, replica_read}
 use Rattle.codec.proofs.Ids.{item_there, replica_there}
-use Rattle.layout.specs.declared.Checked.{Checked}
-use Rattle.layout.specs.declared.Checked.TheVariants as A
+use Rattle.std.proofs.Common.{Result, Ok, Err, Bool, true, false, nat_lt, leb, leb-true, leb-false}
+use borrow.Author.Tests.{le-ltb}
+use Rattle.codec.specs.declared.Refusal.{Refusal}
+use Rattle.codec.specs.Refusal.{number}
+use Rattle.layout.specs.declared.Counts.{Counts}
+use Rattle.layout.specs.Checked.{Checked, checked_of}
+use Rattle.layout.specs.Checked as A
 use Rattle.layout.specs.Knowledge.{Rules, basic, base}
 use Rattle.layout.specs.Permitted.{Permitted, rules_within}
 use Rattle.layout.specs.Decode.{decode}
 use Rattle.layout.specs.MethodPlaces.{vectors_place, ranges_place}
 use Rattle.layout.specs.Parse.{checked_by}
+use Rattle.layout.proofs.Told.{checked_counts, checked_refusal}
 use Rattle.layout.proofs.Places.{Reading, places}
 use Rattle.layout.proofs.Within.{within_permitted, basic_within, few_replicas}
 use Rattle.ticks.specs.Meaning.{known, contains}
 use Rattle.ticks.specs.MethodLookup.{first_index}
-use Rattle.ticks.specs.declared.Contain.{Contain}
-use Rattle.ticks.specs.declared.Contain.TheVariants as C
-use Rattle.ticks.specs.declared.Lead.{Lead}
-use Rattle.ticks.specs.declared.Lead.TheVariants as D
+use Rattle.ticks.specs.Contain.{Contain, contain_of}
+use Rattle.ticks.specs.Contain as C
+use Rattle.ticks.specs.Lead.{Lead, lead_given}
+use Rattle.ticks.specs.Lead as D
 use Rattle.ticks.specs.Answers.{ProperIds}
 use Rattle.ticks.specs.Calls.{contain_found, contain_answer, lead_answer}
 use Rattle.ticks.proofs.Lists.{less, same, more, order}
@@ -40,9 +46,9 @@ use Rattle.ticks.proofs.ForCode.{Refusing, contain_refuses, contain_wrong, conta
 use Rattle.ticks.proofs.ForCode.{lead_refuses_first, lead_refuses_second, lead_wrong, lead_answers}
 use Rattle.lookup.specs.declared.Cursor.{Cursor}
 use Rattle.lookup.specs.declared.View.{View}
-use Rattle.lookup.specs.declared.Opened.{Opened}
-use Rattle.lookup.specs.declared.Opened.TheVariants as O
-use Rattle.lookup.specs.Method.{start_at, tick_from, in_four, view, open_of, Opens, Open, Known}
+use Rattle.lookup.specs.Opened.{opened_of}
+use Rattle.lookup.specs.Opened as O
+use Rattle.lookup.specs.Method.{start_at, tick_from, in_four, view, open_of, Opens, Open, Known, Ticked}
 use Rattle.lookup.proofs.Loops.{cursor}
 use Rattle.lookup.proofs.Leaf.{opens_reading, leaf_known, known_small}
 
@@ -52,6 +58,7 @@ pub start_is : (r v e g : ℕ) → cursor g (ranges_place r v e) first_index (ve
 unfolding start_at
 start_is r v e g = refl
 
+-- an accepted knowledge is opened with the counts that the check gives, and the check's refusal is handed on
 pub opened_at : (k : Checked) (r v e g : ℕ) (c : Cursor) → k ≡ A.Accepted r v e g
     → c ≡ start_at (in_four r) (in_four v) (in_four e) (in_four g) → O.At (view (in_four r) c) ≡ open_of k
 unfolding open_of
@@ -60,6 +67,32 @@ opened_at k r v e g c is from = ap (λ (d : Cursor). O.At (view (in_four r) d)) 
 pub opened_refused : (c : Checked) (n : ℕ) → c ≡ A.Refused n → O.Refused n ≡ open_of c
 unfolding open_of
 opened_refused c n is = sym (ap open_of is)
+
+-- what was refused was refused by the check
+pub check_refused : (k : Checked) (n : ℕ) → open_of k ≡ O.Refused n → k ≡ A.Refused n
+unfolding open_of
+check_refused (A.Accepted r v e g) n f = absurd (let z : ◌≡◌ {A = ℕ} 0 1 = cc in omega arith)
+check_refused (A.Refused m) n f = cc
+
+-- what the code finds, as an answer
+pub opened_view : (v : View) → opened_of (Ok v) ≡ O.At v
+unfolding opened_of
+opened_view v = refl
+
+pub opened_refusal : (e : Refusal) → opened_of (Err e) ≡ O.Refused (number e)
+unfolding opened_of
+opened_refusal e = refl
+
+-- the same of what the check finds
+pub counts_opened :
+    (k : Checked) (n : Counts) (c : Cursor)
+    → checked_of (Ok n) ≡ k
+    → c ≡ start_at (in_four n.r) (in_four n.v) (in_four n.e) (in_four n.g)
+    → opened_of (Ok (view (in_four n.r) c)) ≡ open_of k
+counts_opened k n c is from = opened_view _ ∙ opened_at k n.r n.v n.e n.g c (sym is ∙ checked_counts n) from
+
+pub fault_opened : (k : Checked) (e : Refusal) → checked_of (Err e) ≡ k → opened_of (Err e) ≡ open_of k
+fault_opened k e is = opened_refusal e ∙ opened_refused k (number e) (sym is ∙ checked_refusal e)
 
 module _ (R : Rules) (permitted : Permitted R.limits) (s : List ℕ) where
   open_cases : (k : Checked) → Bytes s → k ≡ checked_by R s → (w : View) → open_of k ≡ O.At w → Opens R s w.r w.start
@@ -89,24 +122,25 @@ module _ (R : Rules) (permitted : Permitted R.limits) (s : List ℕ) where
   refused_cases (A.Accepted r v e g) h n f = absurd (let z : ◌≡◌ {A = ℕ} 0 1 = cc in omega arith)
   refused_cases (A.Refused m) h n f = sym h ∙ cc
 
-  module _ (o : Opened) (is : o ≡ open_of (checked_by R s)) where
-    pub opens : Bytes s → (v : View) → o ≡ O.At v → Opens R s v.r v.start
-    opens b v e = open_cases (checked_by R s) b refl v (sym is ∙ e)
+  module _ (o : Result View Refusal) (is : opened_of o ≡ open_of (checked_by R s)) where
+    pub opens : Bytes s → (v : View) → o ≡ Ok v → Opens R s v.r v.start
+    unfolding opened_of
+    opens b v e = open_cases (checked_by R s) b refl v (sym is ∙ ap opened_of e)
 
-    pub opens_refused : (n : ℕ) → o ≡ O.Refused n → Refusing R s n
-    opens_refused n e = record { permitted = permitted; refuses = refused_cases (checked_by R s) refl n (sym is ∙ e) }
-
-pub checked_opens : (R : Rules) (s : List ℕ) (k : Checked) (o : Opened) → k ≡ checked_by R s → o ≡ open_of k
-    → o ≡ open_of (checked_by R s)
-checked_opens R s k o e f = f ∙ ap open_of e
+    pub opens_refused : (e : Refusal) → o ≡ Err e → Refusing R s (number e)
+    unfolding opened_of
+    opens_refused e f = record {
+      permitted = permitted;
+      refuses = refused_cases (checked_by R s) refl (number e) (sym is ∙ ap opened_of f);
+    }
 
 -- limits given as numbers
 module _ (replicas ranges : ℕ) (s : List ℕ) where
-  module _ (o : Opened) (is : o ≡ open_of (checked_by (rules_within replicas ranges) s)) where
-    pub opens_within : Bytes s → (v : View) → o ≡ O.At v → Opens (rules_within replicas ranges) s v.r v.start
+  module _ (o : Result View Refusal) (is : opened_of o ≡ open_of (checked_by (rules_within replicas ranges) s)) where
+    pub opens_within : Bytes s → (v : View) → o ≡ Ok v → Opens (rules_within replicas ranges) s v.r v.start
     opens_within = opens (rules_within replicas ranges) (within_permitted replicas ranges base.records) s o is
 
-    pub refuses_within : (n : ℕ) → o ≡ O.Refused n → Refusing (rules_within replicas ranges) s n
+    pub refuses_within : (e : Refusal) → o ≡ Err e → Refusing (rules_within replicas ranges) s (number e)
     refuses_within = opens_refused (rules_within replicas ranges) (within_permitted replicas ranges base.records) s o is
 
   pub opens_open : (r : ℕ) (c : Cursor) → Opens (rules_within replicas ranges) s r c → Open s r c
@@ -136,34 +170,41 @@ pub contain_basic : (s item replica : List ℕ) (t : ℕ) (a : Contain)
     → a ≡ contain_answer (rules_within base.replicas base.ranges) s item replica t → a ≡ contain_answer basic s item replica t
 contain_basic s item replica t a e = e ∙ ap (λ R. contain_answer R s item replica t) basic_within
 
-pub contain_refused : (R : Rules) (s item replica : List ℕ) (t n : ℕ) → Refusing R s n
-    → C.Refused n ≡ contain_answer R s item replica t
-contain_refused R s item replica t n h = sym (contain_refuses R s item replica t n h)
+pub contain_refused : (R : Rules) (s item replica : List ℕ) (t : ℕ) (e : Refusal) → Refusing R s (number e)
+    → contain_of (Err e) ≡ contain_answer R s item replica t
+unfolding contain_of
+contain_refused R s item replica t e h = sym (contain_refuses R s item replica t (number e) h)
 
 module _ (R : Rules) (s : List ℕ) (r : ℕ) (c : Cursor) (o : Opens R s r c) (item replica : List ℕ) (t : ℕ) where
-  contain_17 : (ProperIds item replica → ⊥) → C.Refused 17 ≡ contain_answer R s item replica t
-  contain_17 f = sym (contain_wrong R s item replica t r o.v o.e o.g (opens_reading R s r c o) f)
+  pub contain_17 : (e : Refusal) → Ticked s item replica (Err e) → contain_of (Err e) ≡ contain_answer R s item replica t
+  unfolding contain_of number
+  contain_17 e h =
+      ap (λ (k : Refusal). contain_of (Err k)) h.0
+      ∙ sym (contain_wrong R s item replica t r o.v o.e o.g (opens_reading R s r c o) h.1)
 
-  pub contain_item : (length item ≡ 24 → ⊥) → C.Refused 17 ≡ contain_answer R s item replica t
-  contain_item f = contain_17 (λ p. f p.0)
-
-  pub contain_replica : (length replica ≡ 16 → ⊥) → C.Refused 17 ≡ contain_answer R s item replica t
-  contain_replica f = contain_17 (λ p. f p.1)
-
-  module _ (h : length item ≡ 24) (k : length replica ≡ 16) where
+  module _ (x : ℕ) (is : Ticked s item replica (Ok x)) where
     answers : contain_answer R s item replica t ≡ contain_found (contains (decode s) (be_at item 24 0) (be_at replica 16 0) t)
-    answers = contain_answers R s item replica t r o.v o.e o.g (opens_reading R s r c o) (h, k)
+    answers = contain_answers R s item replica t r o.v o.e o.g (opens_reading R s r c o) is.0
 
-    pub contain-zero : t ≡ 0 → C.Lacking ≡ contain_answer R s item replica t
-    contain-zero z = sym (answers ∙ found-zero (decode s) (be_at item 24 0) (be_at replica 16 0) t z)
+    pub contain-zero : t ≤ 0 → contain_of (Ok (nat_lt 0 t)) ≡ contain_answer R s item replica t
+    unfolding contain_of
+    contain-zero z =
+        ap (λ (b : Bool). contain_of (Ok b)) (le-ltb 0 t z)
+        ∙ sym (answers ∙ found-zero (decode s) (be_at item 24 0) (be_at replica 16 0) t (omega arith))
 
-    module _ (x : ℕ) (is : Known s item replica x) where
-      pub contain_yes : (t ≡ 0 → ⊥) → t ≤ x → C.Contained ≡ contain_answer R s item replica t
-      contain_yes n l =
-          sym (answers ∙ found_yes (decode s) (be_at item 24 0) (be_at replica 16 0) t (omega arith) (omega (arith, is.is)))
-
-      pub contain_no : x < t → C.Lacking ≡ contain_answer R s item replica t
-      contain_no l = sym (answers ∙ found_later (decode s) (be_at item 24 0) (be_at replica 16 0) t (omega (arith, is.is)))
+    pub contain_later : 0 < t → contain_of (Ok (leb t x)) ≡ contain_answer R s item replica t
+    unfolding contain_of
+    contain_later n = go (leb t x) refl
+      where
+        go : (b : Bool) → leb t x ≡ b → contain_of (Ok (leb t x)) ≡ contain_answer R s item replica t
+        go true e =
+            let l : t ≤ x = leb-true t x e in
+            ap (λ (b : Bool). contain_of (Ok b)) e
+            ∙ sym (answers ∙ found_yes (decode s) (be_at item 24 0) (be_at replica 16 0) t (omega arith) (omega (arith, is.1.is)))
+        go false e =
+            let l : x < t = leb-false t x e in
+            ap (λ (b : Bool). contain_of (Ok b)) e
+            ∙ sym (answers ∙ found_later (decode s) (be_at item 24 0) (be_at replica 16 0) t (omega (arith, is.1.is)))
 
 -- Lead
 
@@ -190,32 +231,32 @@ module _ (a b : ℕ) (h : a < 2 ^ 63) (k : b < 2 ^ 63) where
   pub difference_exact : to_z w64 (of_z w64 (to_z w64 a -ℤ to_z w64 b)) ≡ pos a -ℤ pos b
   difference_exact = to_z-of_z difference_fits ∙ signed
 
-pub lead_refused_first : (R : Rules) (s t item replica : List ℕ) (n : ℕ) → Refusing R s n
-    → D.Refused n ≡ lead_answer R s t item replica
-lead_refused_first R s t item replica n h = sym (lead_refuses_first R s t item replica n h)
+pub lead_refused_first : (R : Rules) (s t item replica : List ℕ) (e : Refusal) → Refusing R s (number e)
+    → lead_given (Err e) ≡ lead_answer R s t item replica
+unfolding lead_given
+lead_refused_first R s t item replica e h = sym (lead_refuses_first R s t item replica (number e) h)
 
 module _ (R : Rules) (s : List ℕ) (r : ℕ) (c : Cursor) (o : Opens R s r c) (t item replica : List ℕ) where
   one : Reading R s r o.v o.e o.g
   one = opens_reading R s r c o
 
-  pub lead_refused_second : (n : ℕ) → Refusing R t n → D.Refused n ≡ lead_answer R s t item replica
-  lead_refused_second n h = sym (lead_refuses_second R s t item replica r o.v o.e o.g one n h)
+  pub lead_refused_second : (e : Refusal) → Refusing R t (number e) → lead_given (Err e) ≡ lead_answer R s t item replica
+  unfolding lead_given
+  lead_refused_second e h = sym (lead_refuses_second R s t item replica r o.v o.e o.g one (number e) h)
 
   module _ (m : ℕ) (d : Cursor) (q : Opens R t m d) where
     other : Reading R t m q.v q.e q.g
     other = opens_reading R t m d q
 
-    lead_17 : (ProperIds item replica → ⊥) → D.Refused 17 ≡ lead_answer R s t item replica
-    lead_17 f = sym (lead_wrong R s t item replica r o.v o.e o.g one m q.v q.e q.g other f)
+    pub lead_17 : (u : List ℕ) (e : Refusal) → Ticked u item replica (Err e) → lead_given (Err e) ≡ lead_answer R s t item replica
+    unfolding lead_given number
+    lead_17 u e h =
+        ap (λ (k : Refusal). lead_given (Err k)) h.0
+        ∙ sym (lead_wrong R s t item replica r o.v o.e o.g one m q.v q.e q.g other h.1)
 
-    pub lead_item : (length item ≡ 24 → ⊥) → D.Refused 17 ≡ lead_answer R s t item replica
-    lead_item f = lead_17 (λ p. f p.0)
-
-    pub lead_replica : (length replica ≡ 16 → ⊥) → D.Refused 17 ≡ lead_answer R s t item replica
-    lead_replica f = lead_17 (λ p. f p.1)
-
-    pub lead_ahead : length item ≡ 24 → length replica ≡ 16 → (x y : ℕ) → Known s item replica x → Known t item replica y
-        → (z : ℤ) → z ≡ pos x -ℤ pos y → D.Ahead z ≡ lead_answer R s t item replica
-    lead_ahead h k x y a b z e =
-        ap D.Ahead (e ∙ ap₂ (λ u w. pos u -ℤ pos w) a.is b.is)
-        ∙ sym (lead_answers R s t item replica r o.v o.e o.g one m q.v q.e q.g other (h, k))
+    pub lead_ahead : (x y : ℕ) → Ticked s item replica (Ok x) → Ticked t item replica (Ok y)
+        → (z : ℤ) → z ≡ pos x -ℤ pos y → lead_given (Ok z) ≡ lead_answer R s t item replica
+    unfolding lead_given
+    lead_ahead x y a b z e =
+        ap D.Ahead (e ∙ ap₂ (λ u w. pos u -ℤ pos w) a.1.is b.1.is)
+        ∙ sym (lead_answers R s t item replica r o.v o.e o.g one m q.v q.e q.g other a.0)

@@ -1,2 +1,3 @@
 -- Lookup's own method.
+pub mod Opened
 pub mod Method

@@ -1,23 +1,26 @@
 -- The method of lookup, by places, for any bytes: nothing here is to be believed. The laws show that for bytes that the check
 -- accepts it gives the known tick. What is not all there is not read: the id has no key, stepping over vectors ends, a vector has
 -- no elements, and no range is passed.
-use Rattle.std.specs.Prelude.{ℕ, zero, suc, ◌+◌, ◌-◌, ◌*◌, ◌%◌, ◌^◌, ◌≤◌, ◌<◌, ◌≡◌, true, false, List, eqb, ltb, leb, length}
+use Rattle.std.specs.Prelude.{ℕ, zero, suc, ◌+◌, ◌-◌, ◌*◌, ◌%◌, ◌^◌, ◌≤◌, ◌<◌, ◌≡◌, true, false, List, eqb, ltb, leb, length, Result, Ok, Err}
 use Rattle.codec.specs.Number.{Bytes, be_at}
 use Rattle.layout.specs.declared.ReplicaKey.{ReplicaKey}
 use Rattle.layout.specs.declared.VectorIndex.{VectorIndex}
-use Rattle.layout.specs.declared.Checked.{Checked}
-use Rattle.layout.specs.declared.Checked.TheVariants as A
+use Rattle.layout.specs.Checked.{Checked}
+use Rattle.layout.specs.Checked as A
 use Rattle.layout.specs.Knowledge.{Rules, Element}
 use Rattle.layout.specs.Permitted.{Permitted, largest_replicas}
 use Rattle.layout.specs.Decode.{ids_at, elements_at, decode}
 use Rattle.layout.specs.Parse.{checked_by}
 use Rattle.layout.specs.MethodPlaces.{ids_place, vectors_place, ranges_place, count_at}
 use Rattle.ticks.specs.Meaning.{tick_at, known}
+use Rattle.ticks.specs.Answers.{ProperIds}
+use Rattle.codec.specs.declared.Refusal.{Refusal}
+use Rattle.codec.specs.declared.Refusal.TheVariants.{WrongIds}
 use Rattle.ticks.specs.MethodLookup.{key_of, first_index}
 use Rattle.lookup.specs.declared.Cursor.{Cursor}
 use Rattle.lookup.specs.declared.View.{View}
-use Rattle.lookup.specs.declared.Opened.{Opened}
-use Rattle.lookup.specs.declared.Opened.TheVariants as O
+use Rattle.lookup.specs.Opened.{Opened}
+use Rattle.lookup.specs.Opened as O
 
 -- The key of an id
 
@@ -141,3 +144,8 @@ pub record Open (s : List ℕ) (r : ℕ) (c : Cursor) : Type 0 where
 pub record Known (s item replica : List ℕ) (t : ℕ) : Type 0 where
   pub is : t ≡ known (decode s) (be_at item 24 0) (be_at replica 16 0)
   pub small : t < 2 ^ 63
+
+-- the same as an answer: that tick, or the ids' fault where one has another length
+abbrev pub Ticked : List ℕ → List ℕ → List ℕ → Result ℕ Refusal → Type 0
+Ticked s item replica (Ok t) = ProperIds item replica × Known s item replica t
+Ticked s item replica (Err e) = (e ≡ WrongIds) × (ProperIds item replica → ⊥)

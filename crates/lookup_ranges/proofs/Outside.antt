@@ -1,21 +1,31 @@
--- Does every range lie inside a span, range by range: the whole answer is the answer from here on. The item before a bound is found
--- by its words: the lowest that is not 0 is one less, and those below it are full.
+-- Does every range lie inside a span, range by range: the whole answer is the answer from here on. A range's last item is
+-- the one before the next bound.
 --
 -- For bytes that the check accepts, in normal form, it is that nothing is known outside the span (`inside_ticks`). An item is in the
 -- range that was passed last, so where something is known its range is one of a vector that is not 0, and the item lies between
 -- the range's bound and its end. And each such vector has an element with a tick, which is known for the bound and for the end.
-use Prim.Native.Nat.{ℕ, zero, suc, ◌+◌, ◌-◌, ◌*◌, ◌^◌, ◌≤◌, ◌<◌}
+use Prim.Native.Nat.{ℕ, zero, suc, ◌+◌, ◌-◌, ◌*◌, ◌≤◌, ◌<◌}
 use mathlib.Core.Path.{◌≡◌, refl, sym, ap, ap₂, ◌∙◌, subst}
 use mathlib.Core.Logic.{◌⊎◌, inl, inr, ◌↔◌}
 use mathlib.Core.Bool.{Bool, true, false}
 use mathlib.Core.List.{List, [], ◌∷◌}
 use native.Mathlib.Omega.{arith}
-use lib.Dec.{eqb, ltb, leb}
-use lib.ListN.{length, get_or}
-use borrow.Author.Tests.{le-ltb, le-leb, lt-leb, eq-eqb, ne_eqb, ltb-true, ltb-false, leb-true}
+use lib.Dec.{eqb, leb}
+use Rattle.std.specs.Prelude.{◌&&◌}
+use Rattle.std.specs.List.{list_all, range_with_len}
+use lib.ListN.{length, get_or, take, drop, length-drop}
+use lib.Seq.{length-take-le}
+use borrow.Author.Tests.{le-leb, lt-leb, eq-eqb, ne_eqb, leb-true}
 use Rattle.codec.specs.Number.{be_at}
+use Rattle.std.specs.Ordering.{partial_le}
+use Rattle.std.proofs.lemmas.Grind.{common_steps}
+use Rattle.codec.specs.contracts.ItemPartialOrd.TheImpl.{partial_cmp-value as item-order}
+use Rattle.codec.specs.declared.Item.{Item}
 use Rattle.codec.specs.Words.{words3}
-use Rattle.codec.proofs.Order.{words3_be}
+use Rattle.codec.specs.Ids.{InWords, item_of, item_read}
+use Rattle.codec.proofs.Ids.{item_there}
+use Rattle.codec.proofs.Total.{read_there}
+use Rattle.leaves.proofs.Part.{part_at}
 use Rattle.layout.specs.declared.VectorIndex.{VectorIndex}
 use Rattle.layout.specs.Knowledge.{Rules, Element, Range, Knowledge, All, Rising, bounds, Lawful}
 use Rattle.layout.specs.Decode.{ranges_at, decode}
@@ -30,64 +40,38 @@ use Rattle.ticks.proofs.Vectors.{tick-nil, tick_same}
 use Rattle.ticks.proofs.Unique.{all_get, key_known}
 use Rattle.ticks.proofs.Operations.{normal_test}
 use Rattle.ticks.proofs.ForCode.{index_at-nil, index_at-lt, index_at-ge, vector_indexed, known_place, keys_below_lem}
-use Rattle.ticks.proofs.LawfulResults.{highest_words}
 use Rattle.lookup.specs.declared.Cursor.{Cursor}
 use Rattle.lookup.specs.Method.{start_at, Opens}
 use Rattle.lookup.proofs.Leaf.{read_lawful, read_ranges, opens_reading}
 use Rattle.lookup_ranges.specs.Method.{end_before, lies_in, inside_by, inside_of}
 use Rattle.lookup_ranges.proofs.Ranges.{only}
 
--- The item before a bound
+-- Items
 
-abbrev pub top_word : ℕ
-top_word = 18446744073709551615
+pub item_le : (i j : Item) → InWords i → InWords j → partial_le item-order.it i j ≡ leb (item_of i) (item_of j)
+unfolding words3
+item_le i j a b = grind (arith, common_steps)
 
--- one less in the lowest word; and in the word above it, where the lowest becomes full
-lower : (w u z : ℕ) → (z ≡ 0 → ⊥) → u * w + (z - 1) ≡ u * w + z - 1
-lower w u z n = omega (arith, n)
+-- the item that is read from a part of the bytes
+pub item_part : (s : List ℕ) (at : ℕ) → at + 24 ≤ length s → item_of (item_read (take (at + 24 - at) (drop at s))) ≡ be_at s 24 at
+item_part s at h =
+    let part = take (at + 24 - at) (drop at s) in
+    let d = length-drop at s in
+    let l : 24 ≤ length part = omega (arith, d, length-take-le (at + 24 - at) (drop at s) (omega (arith, d))) in
+    item_there part l ∙ sym (read_there part 24 0 (omega arith)) ∙ part_at s at 24 h
 
-borrows : (u v z : ℕ) → v ≡ suc u → z ≡ 0 → u * 2 ^ 64 + top_word ≡ v * 2 ^ 64 + z - 1
-borrows u v z e f = omega arith
+-- The last item of a range
 
-module _ (l b0 b1 b2 : ℕ) (b : Bool) where
-  pub before_low : (b2 ≡ 0 → ⊥) → b ≡ ltb l (words3 b0 b1 (b2 - 1)) → b ≡ ltb l (words3 b0 b1 b2 - 1)
-  unfolding words3
-  before_low n e = e ∙ ap (ltb l) (lower (2 ^ 64) (b0 * 2 ^ 64 + b1) b2 n)
-
-  module _ (z : b2 ≡ 0) where
-    pub before_middle : (b1 ≡ 0 → ⊥) → b ≡ ltb l (words3 b0 (b1 - 1) top_word) → b ≡ ltb l (words3 b0 b1 b2 - 1)
-    unfolding words3
-    before_middle n e =
-        let u : b0 * 2 ^ 64 + b1 ≡ suc (b0 * 2 ^ 64 + (b1 - 1)) = omega (arith, n) in
-        e ∙ ap (ltb l) (borrows (b0 * 2 ^ 64 + (b1 - 1)) (b0 * 2 ^ 64 + b1) b2 u z)
-
-    module _ (y : b1 ≡ 0) where
-      pub before_high : (b0 ≡ 0 → ⊥) → b ≡ ltb l (words3 (b0 - 1) top_word top_word) → b ≡ ltb l (words3 b0 b1 b2 - 1)
-      unfolding words3
-      before_high n e =
-          let u : b0 * 2 ^ 64 + b1 ≡ suc ((b0 - 1) * 2 ^ 64 + top_word) = omega (arith, n) in
-          e ∙ ap (ltb l) (borrows ((b0 - 1) * 2 ^ 64 + top_word) (b0 * 2 ^ 64 + b1) b2 u z)
-
-      pub before_none : b0 ≡ 0 → false ≡ ltb l (words3 b0 b1 b2 - 1)
-      unfolding words3
-      before_none x =
-          let e : words3 b0 b1 b2 - 1 ≡ 0 = rw (x, y, z) refl in
-          sym (ap (ltb l) e ∙ le-ltb l 0 (omega arith))
-
--- The end of a range
-
-module _ (s : List ℕ) (next left l : ℕ) (b : Bool) where
-  pub end_top : left ≡ 0 → b ≡ ltb l (words3 top_word top_word top_word) → b ≡ ltb l (end_before s left next)
+module _ (s : List ℕ) (next left : ℕ) where
+  pub last_top : left ≡ 0 → (t : ℕ) → t ≡ highest → t ≡ end_before s left next
   unfolding end_before
-  end_top z e = e ∙ ap (ltb l) (highest_words ∙ ap (λ n. end_before s n next) (sym z))
+  last_top z t e = e ∙ ap (λ n. end_before s n next) (sym z)
 
-  pub end_before_lem : (x y z : ℕ) → x ≡ be_at s 8 next → y ≡ be_at s 8 (next + 8) → z ≡ be_at s 8 (next + 16) → (left ≡ 0 → ⊥)
-      → b ≡ ltb l (words3 x y z - 1) → b ≡ ltb l (end_before s left next)
+  pub last_before : (left ≡ 0 → ⊥) → (t bound : ℕ) → t ≡ bound - 1 → bound ≡ be_at s 24 next → t ≡ end_before s left next
   unfolding end_before
-  end_before_lem x y z ex ey ez n e =
+  last_before n t bound e w =
       let m : suc (left - 1) ≡ left = omega (arith, n) in
-      let w : words3 x y z ≡ be_at s 24 next = rw (ex, ey, ez) (sym (words3_be s next)) in
-      e ∙ ap (λ k. ltb l (k - 1)) w ∙ ap (λ k. ltb l (end_before s k next)) m
+      e ∙ ap (λ k. k - 1) w ∙ ap (λ k. end_before s k next) m
 
 -- One range
 
@@ -96,44 +80,21 @@ module _ (s : List ℕ) (first last left next n : ℕ) (is : n ≡ be_at s 4 (ne
   unfolding lies_in
   lies_nothing z = sym (rw (eq-eqb (be_at s 4 (next + 24)) 0 (sym is ∙ z), lies_in))
 
-  module _ (some : n ≡ 0 → ⊥) (x y z : ℕ) (ex : x ≡ be_at s 8 next) (ey : y ≡ be_at s 8 (next + 8)) (ez : z ≡ be_at s 8 (next + 16))
-      (b : Bool) (below : b ≡ ltb (words3 x y z) first) where
+  module _ (some : n ≡ 0 → ⊥) (b : Bool) (from : b ≡ leb first (be_at s 24 next)) where
     not_nothing : eqb (be_at s 4 (next + 24)) 0 ≡ false
     not_nothing = ne_eqb (be_at s 4 (next + 24)) 0 (λ e. some (is ∙ e))
 
-    bound_is : words3 x y z ≡ be_at s 24 next
-    bound_is = rw (ex, ey, ez) (sym (words3_be s next))
-
-    pub lies_below : b ≡ true → false ≡ lies_in s first last left next
+    pub lies_below : b ≡ false → b ≡ lies_in s first last left next
     unfolding lies_in
-    lies_below t =
-        let h : be_at s 24 next < first = omega (arith, bound_is, ltb-true (words3 x y z) first (sym below ∙ t)) in
-        sym (rw (not_nothing, lies_in, lt-leb first (be_at s 24 next) h) refl)
+    lies_below t = t ∙ sym (rw (not_nothing, lies_in, sym from ∙ t) refl)
 
-    module _ (not_below : b ≡ false) (d : Bool) (past : d ≡ ltb last (end_before s left (next + 28))) where
-      from_first_lem : lies_in s first last left next ≡ leb (end_before s left (next + 28)) last
-      unfolding lies_in
-      from_first_lem =
-          let h : first ≤ be_at s 24 next = omega (arith, bound_is, ltb-false (words3 x y z) first (sym below ∙ not_below)) in
-          rw (not_nothing, lies_in, le-leb first (be_at s 24 next) h) refl
-
-      pub lies_past : d ≡ true → false ≡ lies_in s first last left next
-      lies_past t =
-          let end = end_before s left (next + 28) in
-          sym (from_first_lem ∙ lt-leb end last (ltb-true last end (sym past ∙ t)))
-
-      pub lies_inside : d ≡ false → true ≡ lies_in s first last left next
-      lies_inside t =
-          let end = end_before s left (next + 28) in
-          sym (from_first_lem ∙ le-leb end last (ltb-false last end (sym past ∙ t)))
+    pub lies_end : b ≡ true → (d : Bool) → d ≡ leb (end_before s left (next + 28)) last → d ≡ lies_in s first last left next
+    unfolding lies_in
+    lies_end t d e = e ∙ sym (rw (not_nothing, lies_in, sym from ∙ t) refl)
 
 -- Range by range
 
 module _ (s : List ℕ) (c : Cursor) (first last : ℕ) where
-  pub inside_short : length s < c.next + 28 * c.left → true ≡ inside_of s c first last
-  unfolding inside_of
-  inside_short h = sym (rw (lt-leb (c.next + 28 * c.left) (length s) h, inside_of))
-
   pub inside_there : (b : Bool) → c.next + 28 * c.left ≤ length s → b ≡ inside_by s first last c.left c.next
       → b ≡ inside_of s c first last
   unfolding inside_of
@@ -144,25 +105,30 @@ inside_step : (s : List ℕ) (first last n next : ℕ)
 unfolding inside_by only
 inside_step s first last n next = refl
 
-module _ (s : List ℕ) (first last : ℕ) (whole : Bool) (left next : ℕ) (inv : whole ≡ inside_by s first last left next) where
-  module _ (b : Bool) (is : b ≡ lies_in s first last (left - 1) next) (h : 0 < left) where
-    step : whole ≡ only b (inside_by s first last (left - 1) (next + 28))
-    step =
-        let z : left ≡ suc (left - 1) = omega arith in
-        inv ∙ ap (λ m. inside_by s first last m next) z ∙ inside_step s first last (left - 1) next
-        ∙ ap (λ t. only t (inside_by s first last (left - 1) (next + 28))) (sym is)
+-- the test by number is that of one range after the other
+and_only : (a b : Bool) → a && b ≡ only a b
+unfolding only
+and_only true b = refl
+and_only false b = refl
 
-    pub inside_next : b ≡ true → whole ≡ inside_by s first last (left - 1) (next + 28)
-    unfolding only
-    inside_next t = step ∙ ap (λ t. only t (inside_by s first last (left - 1) (next + 28))) t
+inside_from : (s : List ℕ) (first last count start n i : ℕ) → i + n ≡ count
+    → list_all (λ j. lies_in s first last (count - 1 - j) (start + 28 * j)) (range_with_len i n)
+    ≡ inside_by s first last n (start + 28 * i)
+unfolding inside_by
+inside_from s first last count start zero i h = refl
+inside_from s first last count start (suc n) i h =
+    let x : count - 1 - i ≡ n = omega arith in
+    let y : start + 28 * (i + 1) ≡ start + 28 * i + 28 = omega arith in
+    let at = start + 28 * i in
+    ap₂ (λ m b. lies_in s first last m at && b) x
+    (inside_from s first last count start n (i + 1) (omega arith) ∙ ap (inside_by s first last n) y)
+    ∙ and_only (lies_in s first last n at) (inside_by s first last n (at + 28)) ∙ sym (inside_step s first last n at)
 
-    pub inside_stop : b ≡ false → false ≡ whole
-    unfolding only
-    inside_stop t = sym (step ∙ ap (λ t. only t (inside_by s first last (left - 1) (next + 28))) t)
-
-  pub inside_end : left ≤ 0 → true ≡ whole
-  unfolding inside_by
-  inside_end h = let z : left ≡ 0 = omega arith in sym (inv ∙ ap (λ m. inside_by s first last m next) z)
+pub inside_all : (s : List ℕ) (first last count start : ℕ)
+    → list_all (λ j. lies_in s first last (count - 1 - j) (start + 28 * j)) (range_with_len 0 count) ≡ inside_by s first last count start
+inside_all s first last count start =
+    let z : start + 28 * 0 ≡ start = omega arith in
+    inside_from s first last count start count 0 (omega arith) ∙ ap (inside_by s first last count) z
 
 -- The ranges as values
 

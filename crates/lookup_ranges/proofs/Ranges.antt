@@ -9,12 +9,12 @@ use mathlib.Core.List.{List, ◌∷◌}
 use native.Mathlib.Omega.{arith}
 use lib.Dec.{eqb}
 use lib.ListN.{length}
-use borrow.Author.Tests.{le-leb, lt-leb, eq-eqb, ne_eqb}
+use borrow.Author.Tests.{le-leb, eq-eqb, ne_eqb}
 use Rattle.codec.specs.Number.{be_at}
 use Rattle.codec.specs.Words.{words3}
 use Rattle.layout.specs.declared.ReplicaKey.{ReplicaKey}
 use Rattle.layout.specs.declared.VectorIndex.{VectorIndex}
-use Rattle.layout.specs.Knowledge.{Rules, All}
+use Rattle.layout.specs.Knowledge.{Rules, Element, All}
 use Rattle.layout.specs.Decode.{elements_at, ranges_at, decode}
 use Rattle.layout.specs.MethodPlaces.{vectors_place, ranges_place, vector_place}
 use Rattle.layout.proofs.Places.{Reading, places}
@@ -28,132 +28,109 @@ use Rattle.lookup.specs.Method.{key_at, vector_from, start_at, advanced, There, 
 use Rattle.lookup.proofs.Loops.{elements-cons, elements-zero, here_is}
 use Rattle.lookup.proofs.Leaf.{read_lawful, read_ranges, read_key, first_place, next_place, vector_elements, vector_ticks}
 use Rattle.lookup.proofs.Leaf.{indices_below_lem, opens_reading, leaf_known}
-use Rattle.lookup_ranges.specs.Method.{index_there, top_by, top_of, top_key_by, top_key_of, alike_by, alike_of, alike_in}
+use Rattle.lookup_ranges.specs.Method.{index_there, past, top_by, top_of, top_key_by, top_key_of, alike_by, alike_of, alike_in}
 
 -- The largest tick
 
-module _ (s : List ℕ) (vector n before : ℕ) (t : There s vector n) where
-  pub top_nothing : n ≡ 0 → before ≡ top_tick before (elements_here s vector)
-  unfolding top_tick
-  top_nothing e = sym (ap (top_tick before) (here_is s vector n t ∙ elements-zero s n (vector + 8) e))
+-- those of n elements from number i on
+abbrev pub elements_from : List ℕ → ℕ → ℕ → ℕ → List Element
+elements_from s n start i = elements_at s (n - i) (start + 12 * i)
 
-  pub top_begins : top_tick before (elements_here s vector) ≡ top_tick before (elements_at s (n - 0) (vector + 8))
-  top_begins =
-      let e : n ≡ n - 0 = omega arith in
-      ap (top_tick before) (here_is s vector n t ∙ ap (λ m. elements_at s m (vector + 8)) e)
+pub top_begins : (s : List ℕ) (vector n before : ℕ) → There s vector n
+    → top_tick before (elements_here s vector) ≡ top_tick before (elements_from s n (vector + 8) 0)
+top_begins s vector n before t =
+    ap (top_tick before) (here_is s vector n t ∙ ap₂ (λ m at. elements_at s m at) (omega arith) (omega arith))
 
-module _ (s : List ℕ) (whole n i at top : ℕ) (inv : whole ≡ top_tick top (elements_at s (n - i) at)) where
-  pub top_next : (x y : ℕ) → x ≡ be_at s 8 (at + 4) → y ≡ max top x → i < n
-      → whole ≡ top_tick y (elements_at s (n - (i + 1)) (at + 12))
+module _ (s : List ℕ) (whole n start i top : ℕ) (inv : whole ≡ top_tick top (elements_from s n start i)) where
+  pub top_next : (x y : ℕ) → x ≡ be_at s 8 (start + 12 * i + 4) → y ≡ max top x → i < n
+      → whole ≡ top_tick y (elements_from s n start (i + 1))
   unfolding top_tick
   top_next x y e f h =
+      let at = start + 12 * i in
       let m : n - i - 1 ≡ n - (i + 1) = omega arith in
-      inv ∙ ap (top_tick top) (elements-cons s (n - i) at (omega arith) ∙ ap (λ z. element_at s at ∷ elements_at s z (at + 12)) m)
-      ∙ ap (λ z. top_tick z (elements_at s (n - (i + 1)) (at + 12))) (sym (f ∙ ap (max top) e))
+      let k : start + 12 * i + 12 ≡ start + 12 * (i + 1) = omega arith in
+      inv ∙ ap (top_tick top) (elements-cons s (n - i) at (omega arith) ∙ ap₂ (λ z p. element_at s at ∷ elements_at s z p) m k)
+      ∙ ap (λ z. top_tick z (elements_from s n start (i + 1))) (sym (f ∙ ap (max top) e))
 
   pub top_end : n ≤ i → top ≡ whole
   unfolding top_tick
-  top_end h = sym (inv ∙ ap (top_tick top) (elements-zero s (n - i) at (omega arith)))
+  top_end h = sym (inv ∙ ap (top_tick top) (elements-zero s (n - i) (start + 12 * i) (omega arith)))
 
 module _ (s : List ℕ) (r : ℕ) (c : Cursor) where
-  pub tops_short : length s < c.next + 28 * c.left → 0 ≡ top_of s r c
-  unfolding top_of
-  tops_short h = sym (rw (lt-leb (c.next + 28 * c.left) (length s) h, top_of))
-
   pub tops_there : (t : ℕ) → c.next + 28 * c.left ≤ length s → t ≡ top_by s r c.left c.next c.index c.vector 0
       → t ≡ top_of s r c
   unfolding top_of
   tops_there t h e = e ∙ sym (rw (le-leb (c.next + 28 * c.left) (length s) h, top_of))
 
   module _ (key : ReplicaKey) where
-    pub keys_short : length s < c.next + 28 * c.left → 0 ≡ top_key_of s r key c
-    unfolding top_key_of
-    keys_short h = sym (rw (lt-leb (c.next + 28 * c.left) (length s) h, top_key_of))
-
     pub keys_there : (t : ℕ) → c.next + 28 * c.left ≤ length s
         → t ≡ top_key_by s r key c.left c.next c.index c.vector 0 → t ≡ top_key_of s r key c
     unfolding top_key_of
     keys_there t h e = e ∙ sym (rw (le-leb (c.next + 28 * c.left) (length s) h, top_key_of))
 
   module _ (key : ReplicaKey) (own : ℕ) where
-    pub alike_short : length s < c.next + 28 * c.left → true ≡ alike_of s r key own c
-    unfolding alike_of
-    alike_short h = sym (rw (lt-leb (c.next + 28 * c.left) (length s) h, alike_of))
-
     pub alike_there : (b : Bool) → c.next + 28 * c.left ≤ length s
         → b ≡ alike_by s r key own c.left c.next c.index c.vector → b ≡ alike_of s r key own c
     unfolding alike_of
     alike_there b h e = e ∙ sym (rw (le-leb (c.next + 28 * c.left) (length s) h, alike_of))
 
-module _ (s : List ℕ) (r whole left next : ℕ) (index : VectorIndex) (vector top : ℕ) (inv : whole ≡ top_by s r left next index vector top) where
-  pub tops_next : (n at t : ℕ) → n ≡ be_at s 4 (next + 24) → at ≡ vector_from s r index vector (record { 0 = n })
-      → t ≡ top_tick top (elements_here s at) → 0 < left → whole ≡ top_by s r (left - 1) (next + 28) (record { 0 = n }) at t
-  unfolding top_by index_there
-  tops_next n at t e f g h =
-      let z : left ≡ suc (left - 1) = omega arith in
-      inv ∙ ap (λ m. top_by s r m next index vector top) z ∙ rw (g, f, e) refl
+pub past_is : (s : List ℕ) (r n at : ℕ) (c : Cursor) → n ≡ be_at s 4 (c.next + 24)
+    → at ≡ vector_from s r c.index c.vector (record { 0 = n })
+    → record { left = c.left - 1; next = c.next + 28; index = record { 0 = n }; vector = at } ≡ past s r c
+unfolding index_there
+past_is s r n at c e f = rw (f, e) refl
 
-  pub tops_end : left ≤ 0 → top ≡ whole
+module _ (s : List ℕ) (r whole : ℕ) (c : Cursor) (top : ℕ) (inv : whole ≡ top_by s r c.left c.next c.index c.vector top) where
+  pub tops_next : (d : Cursor) (t : ℕ) → d ≡ past s r c → t ≡ top_tick top (elements_here s d.vector) → 0 < c.left
+      → whole ≡ top_by s r d.left d.next d.index d.vector t
   unfolding top_by
-  tops_end h = let z : left ≡ 0 = omega arith in sym (inv ∙ ap (λ m. top_by s r m next index vector top) z)
+  tops_next d t e f h =
+      let z : c.left ≡ suc (c.left - 1) = omega arith in
+      inv ∙ ap (λ m. top_by s r m c.next c.index c.vector top) z ∙ rw (f, e) refl
+
+  pub tops_end : c.left ≤ 0 → top ≡ whole
+  unfolding top_by
+  tops_end h = let z : c.left ≡ 0 = omega arith in sym (inv ∙ ap (λ m. top_by s r m c.next c.index c.vector top) z)
 
 -- one key's
 
-module _ (s : List ℕ) (r : ℕ) (key : ReplicaKey) (whole left next : ℕ) (index : VectorIndex) (vector top : ℕ)
-    (inv : whole ≡ top_key_by s r key left next index vector top) where
-  pub keys_next : (n at x t : ℕ) → n ≡ be_at s 4 (next + 24) → at ≡ vector_from s r index vector (record { 0 = n })
-      → x ≡ tick_of s at key → t ≡ max top x → 0 < left
-      → whole ≡ top_key_by s r key (left - 1) (next + 28) (record { 0 = n }) at t
-  unfolding top_key_by index_there
-  keys_next n at x t e f d g h =
-      let z : left ≡ suc (left - 1) = omega arith in
-      inv ∙ ap (λ m. top_key_by s r key m next index vector top) z ∙ rw (g, d, f, e) refl
-
-  pub keys_end : left ≤ 0 → top ≡ whole
+module _ (s : List ℕ) (r : ℕ) (key : ReplicaKey) (whole : ℕ) (c : Cursor) (top : ℕ)
+    (inv : whole ≡ top_key_by s r key c.left c.next c.index c.vector top) where
+  pub keys_next : (d : Cursor) (x t : ℕ) → d ≡ past s r c → x ≡ tick_of s d.vector key → t ≡ max top x → 0 < c.left
+      → whole ≡ top_key_by s r key d.left d.next d.index d.vector t
   unfolding top_key_by
-  keys_end h = let z : left ≡ 0 = omega arith in sym (inv ∙ ap (λ m. top_key_by s r key m next index vector top) z)
+  keys_next d x t e f g h =
+      let z : c.left ≡ suc (c.left - 1) = omega arith in
+      inv ∙ ap (λ m. top_key_by s r key m c.next c.index c.vector top) z ∙ rw (g, f, e) refl
+
+  pub keys_end : c.left ≤ 0 → top ≡ whole
+  unfolding top_key_by
+  keys_end h = let z : c.left ≡ 0 = omega arith in sym (inv ∙ ap (λ m. top_key_by s r key m c.next c.index c.vector top) z)
 
 -- the second, only where the first holds
 unfoldable pub only : Bool → Bool → Bool
 only b z = elim b [ true ↦ z | false ↦ false ]
 
-module _ (s : List ℕ) (r : ℕ) (key : ReplicaKey) (own : ℕ) (whole : Bool) (left next : ℕ) (index : VectorIndex) (vector : ℕ)
-    (inv : whole ≡ alike_by s r key own left next index vector) (n at t : ℕ) (e : n ≡ be_at s 4 (next + 24))
-    (f : at ≡ vector_from s r index vector (record { 0 = n })) (g : t ≡ tick_of s at key) (h : 0 < left) where
-  there : at ≡ vector_from s r index vector (index_there s next)
-  unfolding index_there
-  there = f ∙ ap (λ m. vector_from s r index vector (record { 0 = m })) e
+module _ (s : List ℕ) (r : ℕ) (key : ReplicaKey) (own : ℕ) (whole : Bool) (c : Cursor)
+    (inv : whole ≡ alike_by s r key own c.left c.next c.index c.vector) where
+  module _ (d : Cursor) (t : ℕ) (e : d ≡ past s r c) (g : t ≡ tick_of s d.vector key) (h : 0 < c.left) where
+    step : whole ≡ only (eqb t own) (alike_by s r key own d.left d.next d.index d.vector)
+    unfolding alike_by only
+    step =
+        let z : c.left ≡ suc (c.left - 1) = omega arith in
+        inv ∙ ap (λ m. alike_by s r key own m c.next c.index c.vector) z ∙ rw (g, e) refl
 
-  opened : (m : ℕ) → alike_by s r key own (suc m) next index vector
-      ≡ only (eqb (tick_of s (vector_from s r index vector (index_there s next)) key) own)
-      (alike_by s r key own m (next + 28) (index_there s next) (vector_from s r index vector (index_there s next)))
-  unfolding alike_by only
-  opened m = refl
+    pub alike_next : t ≡ own → whole ≡ alike_by s r key own d.left d.next d.index d.vector
+    unfolding only
+    alike_next k = step ∙ rw (eq-eqb t own k, only) refl
 
-  step : whole ≡ only (eqb t own) (alike_by s r key own (left - 1) (next + 28) (record { 0 = n }) at)
-  unfolding index_there
-  step =
-      let z : left ≡ suc (left - 1) = omega arith in
-      let same-tick : tick_of s (vector_from s r index vector (index_there s next)) key ≡ t = sym (g ∙ ap (λ a. tick_of s a key) there) in
-      let same_index : index_there s next ≡ record { 0 = n } = ap (λ m. record { 0 = m }) (sym e) in
-      inv ∙ ap (λ m. alike_by s r key own m next index vector) z ∙ opened (left - 1)
-      ∙ ap₂ only (ap (λ x. eqb x own) same-tick)
-      (ap₂ (λ (y : VectorIndex) (a : ℕ). alike_by s r key own (left - 1) (next + 28) y a) same_index (sym there))
+    pub alike_stop : (t ≡ own → ⊥) → false ≡ whole
+    unfolding only
+    alike_stop k = sym (step ∙ rw (ne_eqb t own k, only) refl)
 
-  pub alike_next : t ≡ own → whole ≡ alike_by s r key own (left - 1) (next + 28) (record { 0 = n }) at
-  unfolding only
-  alike_next k = step ∙ rw (eq-eqb t own k, only) refl
-
-  pub alike_stop : (t ≡ own → ⊥) → false ≡ whole
-  unfolding only
-  alike_stop k = sym (step ∙ rw (ne_eqb t own k, only) refl)
-
-pub alike_end : (s : List ℕ) (r : ℕ) (key : ReplicaKey) (own : ℕ) (whole : Bool) (left next : ℕ) (index : VectorIndex) (vector : ℕ)
-    → whole ≡ alike_by s r key own left next index vector → left ≤ 0 → true ≡ whole
-unfolding alike_by
-alike_end s r key own whole left next index vector inv h =
-    let z : left ≡ 0 = omega arith in
-    sym (inv ∙ ap (λ m. alike_by s r key own m next index vector) z)
+  pub alike_end : c.left ≤ 0 → true ≡ whole
+  unfolding alike_by
+  alike_end h = let z : c.left ≡ 0 = omega arith in sym (inv ∙ ap (λ m. alike_by s r key own m c.next c.index c.vector) z)
 
 pub alike_is : (s : List ℕ) (r p : ℕ) (c d : Cursor) (key : ReplicaKey) (own : ℕ) (b : Bool) → key ≡ key_at s r p
     → d ≡ advanced s r c (words3 0 0 0) → own ≡ tick_of s d.vector key → b ≡ alike_of s r key own c → b ≡ alike_in s r c p

@@ -14,6 +14,15 @@ use Rattle.lookup.specs.Method.{key_at, vector_from, advanced, elements_here, ti
 unfoldable pub index_there : List ℕ → ℕ → VectorIndex
 index_there s next = record { 0 = be_at s 4 (next + 24) }
 
+-- the cursor past the next range, at that range's vector
+abbrev pub past : List ℕ → ℕ → Cursor → Cursor
+past s r c = record {
+  left = c.left - 1;
+  next = c.next + 28;
+  index = index_there s c.next;
+  vector = vector_from s r c.index c.vector (index_there s c.next);
+}
+
 -- the largest tick of n ranges from a place on, and of what was met before; the vector of an index stands at a place
 unfoldable pub top_by : List ℕ → ℕ → ℕ → ℕ → VectorIndex → ℕ → ℕ → ℕ
 top_by s r zero next index vector top = top

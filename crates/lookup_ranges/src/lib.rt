@@ -5,41 +5,46 @@
 // before any range, the answers are the defined ones.
 #![tactic(auto)]
 
-ghost use Rattle.std.specs.Prelude.{◌≡◌, ◌+◌, ◌-◌, ◌*◌, ◌^◌, ◌≤◌, ◌<◌, ltb, length, get_or};
-ghost use Rattle.codec.specs.Number.{be_at};
-ghost use Rattle.codec.specs.Ids.{item_of, replica_of};
+ghost use Rattle.std.specs.Prelude.{◌≡◌, ◌+◌, ◌-◌, ◌*◌, ◌≤◌, length};
+ghost use Rattle.codec.specs.Ids.{InWords, item_of, replica_of};
 ghost use Rattle.ticks.specs.MethodRows.{top_tick};
 ghost use Rattle.lookup.specs.Method.{elements_here};
-ghost use Rattle.lookup_ranges.specs.Method.{top_of, top_key_of, alike_of, alike_in, end_before, lies_in, inside_of};
+ghost use Rattle.lookup_ranges.specs.Method.{past, top_of, top_key_of, alike_of, alike_in, end_before, lies_in, inside_of};
 
 use codec::{Item, Replica, Span};
 use layout::{ReplicaKey, VectorIndex};
-use lookup::View;
+use lookup::{Cursor, View};
 
-// a word that is full: the top item id is three of them
-const TOP: u64 = 18446744073709551615;
+// the lowest item id and the top one
+const LOWEST: Item = Item {
+    high: 0,
+    middle: 0,
+    low: 0,
+};
 
-// ---- numbers that are there
+const TOP: Item = Item {
+    high: u64::MAX,
+    middle: u64::MAX,
+    low: u64::MAX,
+};
 
-fn one(s: &[u8], at: usize) -> u64
-    requires { at < length s.now }
-    ensures { (result ≡ get_or s.now at 0) × (result < 256) }
+// ---- from range to range
+
+// The cursor past the next range, at that range's vector.
+#[inline(always)]
+fn past(s: &[u8], r: u32, c: Cursor) -> Cursor
+    requires { (1 ≤ c.left) × (c.next + 28 * c.left ≤ length s.now) }
+    ensures { result ≡ past s.now r c }
 {
-    s[at] as u64
-}
-
-fn four(s: &[u8], at: usize) -> u64
-    requires { at + 4 ≤ length s.now }
-    ensures { (result ≡ be_at s.now 4 at) × (result < 2 ^ 32) }
-{
-    one(s, at) * 16777216 + one(s, at + 1) * 65536 + one(s, at + 2) * 256 + one(s, at + 3)
-}
-
-fn eight(s: &[u8], at: usize) -> u64
-    requires { at + 8 ≤ length s.now }
-    ensures { (result ≡ be_at s.now 8 at) × (result < 2 ^ 64) }
-{
-    four(s, at) * 4294967296 + four(s, at + 4)
+    let at = c.next + 24;
+    let index = VectorIndex(leaves::first::<4>(&s[at..at + 4]) as u32);
+    let vector = lookup::vector_place(s, r, c.index, c.vector, index);
+    Cursor {
+        left: c.left - 1,
+        next: c.next + 28,
+        index,
+        vector,
+    }
 }
 
 // ---- the largest tick
@@ -49,74 +54,44 @@ fn top_of(s: &[u8], vector: usize, before: u64) -> u64
     ensures { result ≡ top_tick before (elements_here s.now vector) }
 {
     let n = lookup::elements_at(s, vector);
-    if n == 0 {
-        return before;
-    }
     let mut top = before;
-    let mut i: usize = 0;
-    let mut at = vector + 8;
-    while i < n {
-        top = codec::max(top, eight(s, at + 4));
-        at += 12;
-        i += 1;
+    for i in 0..n {
+        let at = vector + 8 + 12 * i + 4;
+        top = codec::max(top, leaves::first::<8>(&s[at..at + 8]));
     }
     top
 }
 
 // The largest tick of the ranges of an opened knowledge.
+#[tactic(auto, unfolding(crate::specs::Method::top_of))]
 pub fn largest_from(s: &[u8], v: View) -> u64
     ensures { result ≡ top_of s.now v.r v.start }
 {
-    let r = v.r;
-    let c = v.start;
-    let mut left = c.left;
-    let mut next = c.next;
-    let mut index = c.index;
-    let mut vector = c.vector;
-    if s.len() < next {
-        return 0;
-    }
-    if s.len() - next < 28 * (left as usize) {
+    let mut c = v.start;
+    if codec::beyond(s.len(), c.next, 28 * (c.left as usize)) {
         return 0;
     }
     let mut top: u64 = 0;
-    while 0 < left {
-        let n = four(s, next + 24) as u32;
-        let to = VectorIndex(n);
-        vector = lookup::vector_place(s, r, index, vector, to);
-        top = top_of(s, vector, top);
-        index = to;
-        next += 28;
-        left -= 1;
+    for _ in 0..v.start.left {
+        c = past(s, v.r, c);
+        top = top_of(s, c.vector, top);
     }
     top
 }
 
 // The largest tick of a key in the ranges of an opened knowledge.
+#[tactic(auto, unfolding(crate::specs::Method::top_key_of))]
 pub fn top_key(s: &[u8], v: View, key: ReplicaKey) -> u64
     ensures { result ≡ top_key_of s.now v.r key v.start }
 {
-    let r = v.r;
-    let c = v.start;
-    let mut left = c.left;
-    let mut next = c.next;
-    let mut index = c.index;
-    let mut vector = c.vector;
-    if s.len() < next {
-        return 0;
-    }
-    if s.len() - next < 28 * (left as usize) {
+    let mut c = v.start;
+    if codec::beyond(s.len(), c.next, 28 * (c.left as usize)) {
         return 0;
     }
     let mut top: u64 = 0;
-    while 0 < left {
-        let n = four(s, next + 24) as u32;
-        let to = VectorIndex(n);
-        vector = lookup::vector_place(s, r, index, vector, to);
-        top = codec::max(top, lookup::tick_at(s, vector, key));
-        index = to;
-        next += 28;
-        left -= 1;
+    for _ in 0..v.start.left {
+        c = past(s, v.r, c);
+        top = codec::max(top, lookup::tick_at(s, c.vector, key));
     }
     top
 }
@@ -124,31 +99,19 @@ pub fn top_key(s: &[u8], v: View, key: ReplicaKey) -> u64
 // ---- a tick alike in all ranges
 
 // Is the tick of a key the given one in every range of an opened knowledge.
+#[tactic(auto, unfolding(crate::specs::Method::alike_of))]
 fn alike(s: &[u8], v: View, key: ReplicaKey, own: u64) -> bool
     ensures { result ≡ alike_of s.now v.r key own v.start }
 {
-    let r = v.r;
-    let c = v.start;
-    let mut left = c.left;
-    let mut next = c.next;
-    let mut index = c.index;
-    let mut vector = c.vector;
-    if s.len() < next {
+    let mut c = v.start;
+    if codec::beyond(s.len(), c.next, 28 * (c.left as usize)) {
         return true;
     }
-    if s.len() - next < 28 * (left as usize) {
-        return true;
-    }
-    while 0 < left {
-        let n = four(s, next + 24) as u32;
-        let to = VectorIndex(n);
-        vector = lookup::vector_place(s, r, index, vector, to);
-        if lookup::tick_at(s, vector, key) != own {
+    for _ in 0..v.start.left {
+        c = past(s, v.r, c);
+        if lookup::tick_at(s, c.vector, key) != own {
             return false;
         }
-        index = to;
-        next += 28;
-        left -= 1;
     }
     true
 }
@@ -158,46 +121,51 @@ pub fn own_alike(s: &[u8], v: View, p: Replica) -> bool
     ensures { result ≡ alike_in s.now v.r v.start (replica_of p) }
 {
     let key = lookup::key_of(s, v.r, p);
-    let zero = Item {
-        high: 0,
-        middle: 0,
-        low: 0,
-    };
-    let first = lookup::advance(s, v.r, v.start, zero);
+    let first = lookup::advance(s, v.r, v.start, LOWEST);
     let own = lookup::tick_at(s, first.vector, key);
     alike(s, v, key, own)
 }
 
 // ---- inside a span
 
-// Is the item before a bound above an item.
-fn before_above(b: Item, l: Item) -> bool
-    ensures { result ≡ ltb (item_of l) (item_of b - 1) }
+// The item before a bound; the bound 0 itself.
+fn item_before(b: Item) -> Item
+    requires { InWords b }
+    ensures value { item_of result ≡ item_of b - 1 }
+    ensures in_words { InWords result }
 {
     if b.low != 0 {
-        return codec::less3(l.high, l.middle, l.low, b.high, b.middle, b.low - 1);
+        return Item {
+            low: b.low - 1,
+            ..b
+        };
     }
     if b.middle != 0 {
-        return codec::less3(l.high, l.middle, l.low, b.high, b.middle - 1, TOP);
+        return Item {
+            middle: b.middle - 1,
+            low: u64::MAX,
+            ..b
+        };
     }
     if b.high != 0 {
-        return codec::less3(l.high, l.middle, l.low, b.high - 1, TOP, TOP);
+        return Item {
+            high: b.high - 1,
+            ..TOP
+        };
     }
-    false
+    b
 }
 
-// Is the last item of a range above an item, from the place and the number of the ranges after it.
-fn ends_above(s: &[u8], next: usize, left: u32, l: Item) -> bool
+// The last item of a range, from the place and the number of the ranges after it.
+fn last_item(s: &[u8], next: usize, left: u32) -> Item
     requires { next + 28 * left ≤ length s.now }
-    ensures { result ≡ ltb (item_of l) (end_before s.now left next) }
+    ensures value { item_of result ≡ end_before s.now left next }
+    ensures in_words { InWords result }
 {
     if left == 0 {
-        return codec::less3(l.high, l.middle, l.low, TOP, TOP, TOP);
+        return TOP;
     }
-    let high = eight(s, next);
-    let middle = eight(s, next + 8);
-    let low = eight(s, next + 16);
-    before_above(Item { high, middle, low }, l)
+    item_before(Item::from_bytes(&s[next..next + 24]))
 }
 
 // Is the range at a place, with `left` more after it, one of vector 0, or inside the span.
@@ -205,43 +173,23 @@ fn lies_in(s: &[u8], next: usize, left: u32, span: Span) -> bool
     requires { next + 28 + 28 * left ≤ length s.now }
     ensures { result ≡ lies_in s.now (item_of span.first) (item_of span.last) left next }
 {
-    if four(s, next + 24) == 0 {
+    let at = next + 24;
+    if leaves::first::<4>(&s[at..at + 4]) == 0 {
         return true;
     }
-    let high = eight(s, next);
-    let middle = eight(s, next + 8);
-    let low = eight(s, next + 16);
-    let first = span.first;
-    if codec::less3(high, middle, low, first.high, first.middle, first.low) {
-        return false;
-    }
-    if ends_above(s, next + 28, left, span.last) {
-        return false;
-    }
-    true
+    span.first <= Item::from_bytes(&s[next..next + 24])
+        && last_item(s, next + 28, left) <= span.last
 }
 
 // Does every range of an opened knowledge, but for those of vector 0, lie inside the span from the first item to the last: its
 // bound not below the first, its end not above the last. In normal form that is whether nothing is known outside.
+#[tactic(auto, unfolding(crate::specs::Method::inside_of))]
 pub fn inside(s: &[u8], v: View, span: Span) -> bool
     ensures { result ≡ inside_of s.now v.start (item_of span.first) (item_of span.last) }
 {
     let c = v.start;
-    let mut left = c.left;
-    let mut next = c.next;
-    if s.len() < next {
+    if codec::beyond(s.len(), c.next, 28 * (c.left as usize)) {
         return true;
     }
-    if s.len() - next < 28 * (left as usize) {
-        return true;
-    }
-    while 0 < left {
-        left -= 1;
-        if lies_in(s, next, left, span) {
-            next += 28;
-        } else {
-            return false;
-        }
-    }
-    true
+    (0..c.left).all(|i| lies_in(s, c.next + 28 * (i as usize), c.left - 1 - i, span))
 }

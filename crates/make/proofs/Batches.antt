@@ -11,9 +11,13 @@ use lib.ListN.{length, take, drop, length-take}
 use Rattle.codec.specs.Reply.{gives, refuses}
 use Rattle.codec.specs.Part.{placed}
 use Rattle.codec.specs.Ids.{item_of}
-use Rattle.codec.specs.MethodEnded.{Ended, end_of}
-use Rattle.codec.specs.declared.Answer.{Answer}
-use Rattle.codec.specs.declared.Answer.TheVariants.{Written, Refused}
+use Rattle.codec.specs.MethodEnded.{Ended, End, end_of}
+use Rattle.codec.specs.Answer.{answer_of}
+use Rattle.codec.specs.Refusal.{number}
+use Rattle.codec.specs.declared.Refusal.{Refusal}
+use Rattle.std.specs.Prelude.{Result, Ok, Err}
+use Rattle.codec.specs.Answer.{Answer}
+use Rattle.codec.specs.Answer.{Written, Refused}
 use Rattle.codec.proofs.Ended.{ended_refused, ended_cases}
 use Rattle.codec.proofs.Replies.{fault_gives}
 use Rattle.codec.proofs.Total.{clamp_within}
@@ -59,6 +63,16 @@ front d bs h =
     take-front : (xs ys : List ℕ) → take (length xs) (xs ++ ys) ≡ xs
     take-front [] ys = refl
     take-front (x ∷ xs) ys = ap (λ (r : List ℕ). x ∷ r) (take-front xs ys)
+
+-- what a call left, by its result
+module _ (u : List ℕ) (q : Result ℕ Refusal) (x : End) (left : end_of u (answer_of q) ≡ x) where
+  pub left_written : (n : ℕ) → q ≡ Ok n → end_of u (Written n) ≡ x
+  unfolding answer_of
+  left_written n e = sym (ap (λ (r : Result ℕ Refusal). end_of u (answer_of r)) e) ∙ left
+
+  pub left_refused : (e : Refusal) → q ≡ Err e → end_of u (Refused (number e)) ≡ x
+  unfolding answer_of
+  left_refused e f = sym (ap (λ (r : Result ℕ Refusal). end_of u (answer_of r)) f) ∙ left
 
 module _ (s mine k : List ℕ) (w : Task) (p : Parts s mine k w) where
   abbrev L : K.Limits
@@ -108,51 +122,56 @@ module _ (s mine k : List ℕ) (w : Task) (p : Parts s mine k w) where
         longest_within w.limits.replicas w.limits.ranges w.limits.records,
       )
 
-  module _ (d u : List ℕ) (a : Answer) (ends : end_of u a ≡ by_table_end w.limits k w.given d) (n : ℕ) where
-    e : Ended (needed_reply k w) d u a
-    e = needed_ends d u a ends
+  -- it was written into scratch
+  module _ (d u : List ℕ) (n : ℕ) (ends : end_of u (Written n) ≡ by_table_end w.limits k w.given d) where
+    written : Ended (needed_reply k w) d u (Written n)
+    written = needed_ends d u (Written n) ends
 
-    pub needed_inside : a ≡ Written n → n ≤ length d
-    needed_inside f =
-        ended_cases d u a (n ≤ length d) (needed_reply k w) e
-        (λ m h g v. let z : ◌≡◌ {A = ℕ} 0 1 = cc (f, g) in absurd (omega arith))
-        (λ bs h l g v. let z : ◌≡◌ {A = ℕ} 0 1 = cc (f, g) in absurd (omega arith))
-        (λ bs h l g v. let z : n ≡ length bs = cc (f, g) in omega arith)
+    pub needed_inside : n ≤ length d
+    needed_inside =
+        ended_cases d u (Written n) (n ≤ length d) (needed_reply k w) written
+        (λ m h g v. let z : ◌≡◌ {A = ℕ} 0 1 = cc in absurd (omega arith))
+        (λ bs h l g v. let z : ◌≡◌ {A = ℕ} 0 1 = cc in absurd (omega arith))
+        (λ bs h l g v. let z : n ≡ length bs = cc in omega arith)
 
-    pub needed_counted : a ≡ Written n → n ≡ length (take n u)
-    needed_counted f =
-        ended_cases d u a (n ≡ length (take n u)) (needed_reply k w) e
-        (λ m h g v. let z : ◌≡◌ {A = ℕ} 0 1 = cc (f, g) in absurd (omega arith))
-        (λ bs h l g v. let z : ◌≡◌ {A = ℕ} 0 1 = cc (f, g) in absurd (omega arith))
-        (λ bs h l g v. let z : n ≡ length bs = cc (f, g) in omega (arith, length-take n u, ap length v, placed-length d 0 bs))
+    pub needed_counted : n ≡ length (take n u)
+    needed_counted =
+        ended_cases d u (Written n) (n ≡ length (take n u)) (needed_reply k w) written
+        (λ m h g v. let z : ◌≡◌ {A = ℕ} 0 1 = cc in absurd (omega arith))
+        (λ bs h l g v. let z : ◌≡◌ {A = ℕ} 0 1 = cc in absurd (omega arith))
+        (λ bs h l g v. let z : n ≡ length bs = cc in omega (arith, length-take n u, ap length v, placed-length d 0 bs))
 
-    pub needed_given : a ≡ Written n → needed_reply k w ≡ gives (take n u)
-    needed_given f =
-        ended_cases d u a (needed_reply k w ≡ gives (take n u)) (needed_reply k w) e
-        (λ m h g v. let z : ◌≡◌ {A = ℕ} 0 1 = cc (f, g) in absurd (omega arith))
-        (λ bs h l g v. let z : ◌≡◌ {A = ℕ} 0 1 = cc (f, g) in absurd (omega arith))
-        (λ bs h l g v. let z : n ≡ length bs = cc (f, g) in
+    pub needed_given : needed_reply k w ≡ gives (take n u)
+    needed_given =
+        ended_cases d u (Written n) (needed_reply k w ≡ gives (take n u)) (needed_reply k w) written
+        (λ m h g v. let z : ◌≡◌ {A = ℕ} 0 1 = cc in absurd (omega arith))
+        (λ bs h l g v. let z : ◌≡◌ {A = ℕ} 0 1 = cc in absurd (omega arith))
+        (λ bs h l g v. let z : n ≡ length bs = cc in
         h ∙ ap gives (sym (ap (λ (i : ℕ). take i u) z ∙ ap (take (length bs)) v ∙ front d bs l)))
 
-    -- 11 or 12; 14 is none of them
+  -- it was refused: with 11 or 12, or 14 for scratch that is too short
+  module _ (d u : List ℕ) (n : ℕ) (ends : end_of u (Refused n) ≡ by_table_end w.limits k w.given d) where
+    stopped : Ended (needed_reply k w) d u (Refused n)
+    stopped = needed_ends d u (Refused n) ends
+
     refused : (out : List ℕ) → needed_reply k w ≡ refuses n → Ended (made_reply s k w) out out (Refused n)
     refused out h =
         ended_refused (made_reply s k w) out n
         (batch_needed_result L batch n (subst (λ (x : Knowledge). result_of w.limits x ≡ refuses n) (sym made_needed) h))
 
-    pub needed_refused : (out : List ℕ) → a ≡ Refused n → (n ≡ 14 → ⊥) → Ended (made_reply s k w) out out (Refused n)
-    needed_refused out f other =
-        ended_cases d u a (Ended (made_reply s k w) out out (Refused n)) (needed_reply k w) e
-        (λ m h g v. let z : m ≡ n = cc (f, g) in refused out (h ∙ ap refuses z))
-        (λ bs h l g v. let z : n ≡ 14 = cc (f, g) in absurd (other z))
-        (λ bs h l g v. let z : ◌≡◌ {A = ℕ} 0 1 = cc (f, g) in absurd (omega arith))
+    pub needed_refused : (out : List ℕ) → (n ≡ 14 → ⊥) → Ended (made_reply s k w) out out (Refused n)
+    needed_refused out other =
+        ended_cases d u (Refused n) (Ended (made_reply s k w) out out (Refused n)) (needed_reply k w) stopped
+        (λ m h g v. let z : m ≡ n = cc in refused out (h ∙ ap refuses z))
+        (λ bs h l g v. let z : n ≡ 14 = cc in absurd (other z))
+        (λ bs h l g v. let z : ◌≡◌ {A = ℕ} 0 1 = cc in absurd (omega arith))
 
-    pub needed_refused_long : (out : List ℕ) → a ≡ Refused n → longest_knowledge ≤ length d → Ended (made_reply s k w) out out (Refused n)
-    needed_refused_long out f room =
-        ended_cases d u a (Ended (made_reply s k w) out out (Refused n)) (needed_reply k w) e
-        (λ m h g v. let z : m ≡ n = cc (f, g) in refused out (h ∙ ap refuses z))
+    pub needed_refused_long : (out : List ℕ) → longest_knowledge ≤ length d → Ended (made_reply s k w) out out (Refused n)
+    needed_refused_long out room =
+        ended_cases d u (Refused n) (Ended (made_reply s k w) out out (Refused n)) (needed_reply k w) stopped
+        (λ m h g v. let z : m ≡ n = cc in refused out (h ∙ ap refuses z))
         (λ bs h l g v. absurd (omega (arith, needed_short bs h)))
-        (λ bs h l g v. let z : ◌≡◌ {A = ℕ} 0 1 = cc (f, g) in absurd (omega arith))
+        (λ bs h l g v. let z : ◌≡◌ {A = ℕ} 0 1 = cc in absurd (omega arith))
 
   -- ---- learned, and the records at the places that were selected
 

@@ -12,7 +12,7 @@ use Rattle.codec.specs.Reply.{Reply, gives}
 use Rattle.codec.specs.Words.{words3}
 use Rattle.codec.specs.Ids.{item_of}
 use Rattle.codec.specs.MethodEnded.{Ended, End, end_of}
-use Rattle.codec.specs.declared.Answer.{Answer}
+use Rattle.codec.specs.Answer.{Answer}
 use Rattle.codec.specs.declared.Span.{Span}
 use Rattle.layout.specs.Knowledge.{Knowledge, any_id}
 use Rattle.layout.specs.Decode.{decode}

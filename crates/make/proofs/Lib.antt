@@ -2,3 +2,4 @@
 pub mod Learned
 pub mod Batches
 pub mod Steps
+pub mod Short

@@ -4,6 +4,7 @@ use Prim.Native.Nat.{ℕ, ◌+◌, ◌-◌}
 use mathlib.Core.Path.{◌≡◌, refl, sym, ap, ap₂, ◌∙◌, subst}
 use mathlib.Core.Bool.{true, false}
 use mathlib.Core.List.{List}
+use Rattle.std.specs.Prelude.{Result, Ok, Err}
 use native.Mathlib.Omega.{arith}
 use lib.ListN.{length, take, drop}
 use Rattle.codec.specs.Number.{Bytes}
@@ -11,9 +12,11 @@ use Rattle.codec.specs.Parsed.{accepted}
 use Rattle.codec.specs.Reply.{Reply}
 use Rattle.codec.specs.Ids.{item_of, InWords, item_read}
 use Rattle.codec.specs.MethodEnded.{Ended}
-use Rattle.codec.specs.declared.Answer.{Answer}
-use Rattle.codec.specs.declared.Answer.TheVariants as A
+use Rattle.codec.specs.Answer.{Answer}
+use Rattle.codec.specs.Answer as A
 use Rattle.codec.specs.declared.Item.{Item}
+use Rattle.codec.specs.declared.Refusal.{Refusal}
+use Rattle.codec.specs.Refusal.{number}
 use Rattle.codec.proofs.Ended.{ended_refused}
 use Rattle.codec.proofs.Ids.{item_there}
 use Rattle.layout.specs.Knowledge as K
@@ -32,8 +35,7 @@ use Rattle.ticks.proofs.ForCalls.{span_right}
 use Rattle.ticks.proofs.ForCode.{refusing}
 use Rattle.lookup.specs.declared.Cursor.{Cursor}
 use Rattle.lookup.specs.declared.View.{View}
-use Rattle.lookup.specs.declared.Opened.{Opened}
-use Rattle.lookup.specs.declared.Opened.TheVariants as O
+use Rattle.lookup.specs.Opened.{opened_of}
 use Rattle.lookup.specs.Method.{open_of, Opens}
 use Rattle.lookup.proofs.Calls.{opens, opens_refused}
 use Rattle.lookup.proofs.Leaf.{opens_reading}
@@ -53,8 +55,7 @@ use Rattle.replication.proofs.Refusals.Tests.{means_span}
 use Rattle.records_select.proofs.SelectedTables.{selected_needed, selected_fewer}
 use Rattle.results.specs.MethodOpened.{limits_of}
 use Rattle.store_open.specs.declared.KnowledgePart.{KnowledgePart}
-use Rattle.store_open.specs.declared.OpenedStore.{OpenedStore}
-use Rattle.store_open.specs.declared.OpenedStore.TheVariants as S
+use Rattle.store_open.specs.declared.OpenStore.{OpenStore}
 use Rattle.store_open.specs.Method.{own_bytes, store_opened}
 use Rattle.store_open.proofs.Opened.{StoreOpen, store_open, store_closed}
 use Rattle.make.specs.declared.Task.{Task}
@@ -139,7 +140,7 @@ module _ (limits : Limits) (s : List ℕ) (own : KnowledgePart) (k : List ℕ) (
 
 -- ---- the checks of store and knowledge
 
-module _ (limits : Limits) (s k first last : List ℕ) (o : OpenedStore) (e : o ≡ store_opened (limits_of limits) s) (out : List ℕ) where
+module _ (limits : Limits) (s k first last : List ℕ) (o : Result OpenStore Refusal) (e : o ≡ store_opened (limits_of limits) s) (out : List ℕ) where
   abbrev M : K.Limits
   M = limits_of limits
 
@@ -155,20 +156,23 @@ module _ (limits : Limits) (s k first last : List ℕ) (o : OpenedStore) (e : o 
   abbrev n : ℕ
   n = limits.records
 
-  pub make_not_store : o ≡ S.NotValid → Ended (make_reply R s k first last) out out (A.Refused 15)
-  make_not_store f = ended_refused (make_reply R s k first last) out 15 (make_store R s k first last 15 (store_closed a b n s (sym e ∙ f)))
+  pub make_not_store : (x : Refusal) → o ≡ Err x → Ended (make_reply R s k first last) out out (A.Refused (number x))
+  make_not_store x f =
+      ended_refused (make_reply R s k first last) out (number x)
+      (make_store R s k first last (number x) (store_closed a b n s x (sym e ∙ f)))
 
-  module _ (y : Bytes s) (own : KnowledgePart) (m : ℕ) (f : o ≡ S.Valid own m) (q : Opened) (g : q ≡ open_of (checked_by (rules_within a b) k)) where
-    opened : StoreOpen M s own m
-    opened = store_open a b n s y own m (sym e ∙ f)
+  module _ (y : Bytes s) (x : OpenStore) (f : o ≡ Ok x) (q : Result View Refusal)
+      (g : opened_of q ≡ open_of (checked_by (rules_within a b) k)) where
+    opened : StoreOpen M s x.own x.count
+    opened = store_open a b n s y x (sym e ∙ f)
 
-    pub make_not_read : (j : ℕ) → q ≡ O.Refused j → Ended (make_reply R s k first last) out out (A.Refused j)
+    pub make_not_read : (j : Refusal) → q ≡ Err j → Ended (make_reply R s k first last) out out (A.Refused (number j))
     make_not_read j h =
-        ended_refused (make_reply R s k first last) out j
-        ((make_own R s k first last (store_at M s) j j opened.value
-        (refusing R k j (opens_refused R (within_permitted a b n) k q g j h))).1 refl)
+        ended_refused (make_reply R s k first last) out (number j)
+        ((make_own R s k first last (store_at M s) (number j) (number j) opened.value
+        (refusing R k (number j) (opens_refused R (within_permitted a b n) k q g j h))).1 refl)
 
-    pub make_inputs : Bytes k → (v : View) → q ≡ O.At v → Inputs M s own k v
+    pub make_inputs : Bytes k → (v : View) → q ≡ Ok v → Inputs M s x.own k v
     make_inputs z v h = record {
       bytes = y;
       value = opened.value;

@@ -7,6 +7,7 @@
 #![tactic(auto)]
 
 ghost use Rattle.std.specs.Prelude.{◌≡◌, length};
+ghost use Rattle.codec.specs.Answer.{answer_of};
 ghost use Rattle.codec.specs.Reply.{gives, answer, after};
 ghost use Rattle.codec.specs.MethodEnded.{Ended, end_of};
 ghost use Rattle.layout.specs.Knowledge.{any_id, basic};
@@ -15,17 +16,24 @@ ghost use Rattle.records_join.specs.MethodJoin.{size_from, fronted};
 ghost use Rattle.results.specs.MethodOpened.{limits_of};
 ghost use Rattle.make.specs.Method.{Inputs, Parts, all_ids, learned_end, chosen_places, needed_reply, made_reply};
 
-use codec::{Answer, Span};
+use codec::{Item, Refusal, Span};
 use layout::Limits;
-use lookup::{Opened, View};
+use lookup::View;
 use records_join::Extent;
-use store_open::{KnowledgePart, OpenedStore};
+use store_open::{KnowledgePart, STORE_KNOWLEDGE};
 
-// the place of a store's knowledge
-const STORE_KNOWLEDGE: usize = 25;
+// the lowest and the highest item
+const LOWEST: Item = Item {
+    high: 0,
+    middle: 0,
+    low: 0,
+};
 
-// a word of the highest id
-const TOP: u64 = 18446744073709551615;
+const HIGHEST: Item = Item {
+    high: u64::MAX,
+    middle: u64::MAX,
+    low: u64::MAX,
+};
 
 const REPLICAS: usize = layout::LARGEST_REPLICAS as usize;
 
@@ -60,17 +68,12 @@ struct Task {
 fn is_all(span: Span) -> bool
     ensures { result ≡ all_ids span }
 {
-    let f = span.first;
-    let l = span.last;
-    if codec::same3(f.high, f.middle, f.low, 0, 0, 0) {
-        return codec::same3(l.high, l.middle, l.low, TOP, TOP, TOP);
-    }
-    false
+    span.first == LOWEST && span.last == HIGHEST
 }
 
 // Writes learned: mine, the store's own knowledge, as it stands where the span is all ids, and else projected.
-fn write_learned(mine: &[u8], w: Task, out: &mut [u8]) -> Answer
-    ensures { end_of out.new result ≡ learned_end mine.now w out.old }
+fn write_learned(mine: &[u8], w: Task, out: &mut [u8]) -> Result<usize, Refusal>
+    ensures { end_of out.new (answer_of result) ≡ learned_end mine.now w out.old }
 {
     if is_all(w.span) {
         return results_copied::copy_whole(mine, out);
@@ -97,59 +100,78 @@ fn make_learned(
     store: &[u8],
     mine: &[u8],
     knowledge: &[u8],
-) -> Answer
+) -> Result<usize, Refusal>
     requires { (Parts store.now mine.now knowledge.now w) × (needed_reply knowledge.now w ≡ gives needed.now) }
-    ensures { Ended (made_reply store.now knowledge.now w) out.old out.new result }
+    ensures { Ended (made_reply store.now knowledge.now w) out.old out.new (answer_of result) }
 {
     let mut picks = [0usize; layout::LARGEST_RECORDS as usize];
     let e = select_records(store, knowledge, w, &mut picks);
     let room = store_write::room_in_batch(out.len(), needed.len(), e);
-    let from = room.from;
-    let to = room.to;
-    let first = w.span.first;
-    let last = w.span.last;
-    let a = write_learned(mine, w, &mut out[from..to]);
-    store_write::close_batch(out, first, last, a, needed, store, &picks, e)
+    let learned = write_learned(mine, w, &mut out[room.from..room.to]);
+    store_write::close_batch(
+        out,
+        w.span.first,
+        w.span.last,
+        learned,
+        needed,
+        store,
+        &picks,
+        e,
+    )
 }
 
 // ---- needed
 
 // In scratch for the longest knowledge, where its normal form has room.
-fn make_long(out: &mut [u8], w: Task, store: &[u8], mine: &[u8], knowledge: &[u8]) -> Answer
+fn make_long(
+    out: &mut [u8],
+    w: Task,
+    store: &[u8],
+    mine: &[u8],
+    knowledge: &[u8],
+) -> Result<usize, Refusal>
     requires { Parts store.now mine.now knowledge.now w }
-    ensures { Ended (made_reply store.now knowledge.now w) out.old out.new result }
+    ensures { Ended (made_reply store.now knowledge.now w) out.old out.new (answer_of result) }
 {
     let mut long = [0u8; LONGEST];
-    match results::normalise_by_table(knowledge, w.given, w.limits, &mut long) {
-        Answer::Written(n) => make_learned(out, w, &long[..n], store, mine, knowledge),
-        Answer::Refused(n) => Answer::Refused(n),
-    }
+    let n = results::normalise_by_table(knowledge, w.given, w.limits, &mut long)?;
+    make_learned(out, w, &long[..n], store, mine, knowledge)
 }
 
 // In short scratch where the given knowledge is short and its normal form has room there.
-fn make_normalised(out: &mut [u8], w: Task, store: &[u8], mine: &[u8], knowledge: &[u8]) -> Answer
+fn make_normalised(
+    out: &mut [u8],
+    w: Task,
+    store: &[u8],
+    mine: &[u8],
+    knowledge: &[u8],
+) -> Result<usize, Refusal>
     requires { Parts store.now mine.now knowledge.now w }
-    ensures { Ended (made_reply store.now knowledge.now w) out.old out.new result }
+    ensures { Ended (made_reply store.now knowledge.now w) out.old out.new (answer_of result) }
 {
     if SHORT_KNOWLEDGE < knowledge.len() {
         return make_long(out, w, store, mine, knowledge);
     }
     let mut short = [0u8; SHORT];
     match results::normalise_by_table(knowledge, w.given, w.limits, &mut short) {
-        Answer::Written(n) => make_learned(out, w, &short[..n], store, mine, knowledge),
-        Answer::Refused(n) => {
-            if n == 14 {
-                return make_long(out, w, store, mine, knowledge);
-            }
-            Answer::Refused(n)
-        }
+        Ok(n) => make_learned(out, w, &short[..n], store, mine, knowledge),
+        Err(e) => match e {
+            Refusal::BufferTooShort => make_long(out, w, store, mine, knowledge),
+            _ => Err(e),
+        },
     }
 }
 
 // The given knowledge as it stands where it is in normal form.
-fn make_needed(out: &mut [u8], w: Task, store: &[u8], mine: &[u8], knowledge: &[u8]) -> Answer
+fn make_needed(
+    out: &mut [u8],
+    w: Task,
+    store: &[u8],
+    mine: &[u8],
+    knowledge: &[u8],
+) -> Result<usize, Refusal>
     requires { Parts store.now mine.now knowledge.now w }
-    ensures { Ended (made_reply store.now knowledge.now w) out.old out.new result }
+    ensures { Ended (made_reply store.now knowledge.now w) out.old out.new (answer_of result) }
 {
     if normal_form::normal_opened(knowledge, w.given) {
         return make_learned(out, w, knowledge, store, mine, knowledge);
@@ -159,7 +181,7 @@ fn make_needed(out: &mut [u8], w: Task, store: &[u8], mine: &[u8], knowledge: &[
 
 // ---- the call
 
-// Where the store and the knowledge are accepted: 17 for the span, or what is made.
+// Where the store and the knowledge are accepted: WrongIds for the span, or what is made.
 fn make_open(
     store: &[u8],
     own: KnowledgePart,
@@ -169,24 +191,22 @@ fn make_open(
     last: &[u8],
     out: &mut [u8],
     limits: Limits,
-) -> Answer
+) -> Result<usize, Refusal>
     requires { Inputs (limits_of limits) store.now own knowledge.now given }
     ensures { Ended (make_reply (any_id (limits_of limits)) store.now knowledge.now first.now last.now)
-        out.old out.new result }
+        out.old out.new (answer_of result) }
 {
     if lookup::wrong_span(first, last) {
-        return Answer::Refused(17);
+        return Err(Refusal::WrongIds);
     }
-    let f = codec::item_of(first);
-    let l = codec::item_of(last);
+    let first = Item::from_bytes(first);
+    let last = Item::from_bytes(last);
     let table = STORE_KNOWLEDGE + own.length;
-    let mine = own.view;
-    let span = Span { first: f, last: l };
     let w = Task {
         table,
-        own: mine,
+        own: own.view,
         given,
-        span,
+        span: Span { first, last },
         limits,
     };
     make_needed(out, w, store, &store[STORE_KNOWLEDGE..table], knowledge)
@@ -200,31 +220,30 @@ fn make_within(
     last: &[u8],
     out: &mut [u8],
     limits: Limits,
-) -> Answer
+) -> Result<usize, Refusal>
     ensures { Ended (make_reply (any_id (limits_of limits))
-        store.now knowledge.now first.now last.now) out.old out.new result }
+        store.now knowledge.now first.now last.now) out.old out.new (answer_of result) }
 {
-    let OpenedStore::Valid { own, count: _ } = store_open::open_store(&store[..], limits) else {
-        return Answer::Refused(15);
-    };
-    match lookup::open_within(&knowledge[..], limits) {
-        Opened::At(given) => make_open(store, own, knowledge, given, first, last, out, limits),
-        Opened::Refused(n) => Answer::Refused(n),
-    }
+    let opened = store_open::open_store(store, limits)?;
+    let given = lookup::open_within(knowledge, limits)?;
+    make_open(
+        store, opened.own, knowledge, given, first, last, out, limits,
+    )
 }
 
 // Makes the batch of a store's records in a span, from the first id to the last, that a given knowledge lacks. The store is checked before the
 // knowledge, and the knowledge before the span.
-pub fn make(store: &[u8], knowledge: &[u8], first: &[u8], last: &[u8], out: &mut [u8]) -> Answer
-    ensures value { result ≡ answer (make_reply basic store.now knowledge.now first.now last.now)
+pub fn make(
+    store: &[u8],
+    knowledge: &[u8],
+    first: &[u8],
+    last: &[u8],
+    out: &mut [u8],
+) -> Result<usize, Refusal>
+    ensures value { answer_of result ≡ answer (make_reply basic store.now knowledge.now first.now last.now)
         (length out.old) }
     ensures out_after { out.new ≡ after (make_reply basic store.now knowledge.now first.now last.now)
         out.old }
 {
-    let limits = Limits {
-        replicas: layout::REPLICAS,
-        ranges: layout::RANGES,
-        records: layout::RECORDS,
-    };
-    make_within(store, knowledge, first, last, out, limits)
+    make_within(store, knowledge, first, last, out, layout::LIMITS)
 }

@@ -124,7 +124,7 @@ module _ (s : List ℕ) (r v e g : ℕ) (some : 1 ≤ v) (ranges : 1 ≤ g) (mar
           not_empty = o.not_empty;
           used = λ key h.
               let l : key < r = omega (arith, ids-length s r ids_place) in
-              mark_used no_marks vs key (get_or-replicate largest_replicas key 0 0 (omega arith))
+              mark_used no_marks vs key (get_or-replicate largest_replicas key false false (omega arith))
               (keys_marked_lem (marked_by no_marks vs) r 0 f.0 key (omega arith) (omega arith));
           distinct = record { apart = λ y z h l. apart_each (numbered vs) (length vs) 0 f.1 y z h (omega arith) (omega arith) };
           first = first_bound_lem s g (ranges_place r v e) ranges ∙ eqb-true (be_at s 24 (ranges_place r v e)) 0 c.0;
@@ -141,7 +141,7 @@ module _ (s : List ℕ) (r v e g : ℕ) (some : 1 ≤ v) (ranges : 1 ≤ g) (mar
         (both_yes (keys_marked (marked_by no_marks vs) r 0) (apart (numbered vs) (length vs) 0)
         (marked_keys (marked_by no_marks vs) r 0
         (λ y h l.
-        used_mark no_marks vs y (omega (arith, length-replicate {A = ℕ} largest_replicas 0))
+        used_mark no_marks vs y (omega (arith, length-replicate {A = Bool} largest_replicas false))
         (c.used y (omega (arith, ids-length s r ids_place)))))
         (each_apart (numbered vs) (length vs) 0 (λ y z h l m. c.distinct.apart y z h (omega arith))))
 

@@ -1,43 +1,59 @@
 -- What the functions with no loop return, one law for each way that they go. For accepted bytes the sizes fit their numbers (`sizes`).
-use Rattle.std.proofs.Common.{◌≡◌, ℕ, zero, suc, ◌+◌, ◌-◌, ◌*◌, ◌/◌, ◌%◌, ◌^◌, ◌<◌, ◌≤◌, Bool, true, false, eqb, ltb, leb, List, length, sym, refl, ap, ◌∙◌, ap₂, arith, le-leb, leb-true}
-use borrow.Author.Tests.{lt-leb}
+use Rattle.std.proofs.Common.{◌≡◌, ℕ, zero, suc, ◌+◌, ◌-◌, ◌<◌, ◌≤◌, Bool, true, false, eqb, ltb, leb, List, length, sym, refl, ap, subst, ◌∙◌, ap₂, arith, leb-true}
 use Rattle.codec.specs.Number.{Bytes, be_at}
-use Rattle.codec.specs.Words.{words2, words3}
+use Rattle.codec.specs.Words.{words3}
+use Rattle.codec.specs.declared.Item.{Item}
+use Rattle.codec.specs.declared.Replica.{Replica}
+use Rattle.codec.specs.Ids.{InWords, item_of, replica_of, item_read, replica_read}
 use Rattle.codec.specs.Total.{clamp}
-use Rattle.codec.proofs.Order.{words2_be, words3_be}
-use Rattle.layout.specs.declared.Checked.{Checked}
-use Rattle.layout.specs.declared.Checked.TheVariants.{Accepted}
+use Rattle.codec.proofs.Ids.{item_there, replica_there}
+use Rattle.codec.proofs.Total.{read_there}
+use Rattle.leaves.proofs.Part.{part_there}
+use lib.ListN.{take, drop, length-drop}
+use lib.Seq.{length-take-le}
+use Rattle.layout.specs.Checked.{Checked}
+use Rattle.layout.specs.Checked.{Accepted}
 use Rattle.layout.specs.Knowledge.{Element, Rules, basic, base}
 use Rattle.layout.specs.Permitted.{most_count, largest_replicas, largest_ranges, rules_within}
 use Rattle.layout.specs.Decode.{ranges_at}
-use Rattle.layout.specs.MethodPlaces.{ids_place, vectors_place, ranges_place, whole_length}
+use Rattle.layout.specs.MethodPlaces.{whole_length}
 use Rattle.layout.specs.Parse.{checked}
 use Rattle.layout.proofs.Places.{Reading, places}
 use Rattle.layout.proofs.Within.{within_permitted}
 use Rattle.ticks.specs.Written.{eq_vector}
-use Rattle.normal_form.specs.MethodNormal.{ids_rise, marked_by, keys_marked, vectors_here, numbered, standing}
-use Rattle.normal_form.specs.MethodNormal.{VectorsTaken, Hashed, unlike, apart, no_marks, vectors_normal}
+use Rattle.normal_form.specs.MethodNormal.{marked_by, keys_marked, vectors_here, numbered, standing}
+use Rattle.normal_form.specs.MethodNormal.{VectorsTaken, unlike, apart, no_marks, vectors_normal}
 use Rattle.normal_form.specs.MethodNormal.{used_in_order, ranges_normal, normal_there, roomy, RoomFor, normal_in}
 use Rattle.normal_form.proofs.Tests.{both}
 
 -- Ids
 
-pub rises_is : (s : List ℕ) (at a b c d : ℕ) (r : Bool) → a ≡ be_at s 8 at → b ≡ be_at s 8 (at + 8) → c ≡ be_at s 8 (at + 16)
-    → d ≡ be_at s 8 (at + 16 + 8) → r ≡ ltb (words2 a b) (words2 c d) → r ≡ ltb (be_at s 16 at) (be_at s 16 (at + 16))
-rises_is s at a b c d r e f g h t =
-    t ∙ ap₂ ltb (ap₂ words2 e f ∙ sym (words2_be s at)) (ap₂ words2 g h ∙ sym (words2_be s (at + 16)))
+-- ids that are read from parts of the bytes
+module _ (s : List ℕ) (lo hi : ℕ) (k : hi ≤ length s) where
+  abbrev id_part : List ℕ
+  id_part = take (hi - lo) (drop lo s)
 
--- Words
+  part-length : lo ≤ hi → hi - lo ≤ length id_part
+  part-length h =
+      let d = length-drop lo s in
+      omega (arith, d, length-take-le (hi - lo) (drop lo s) (omega (arith, d)))
 
--- a word of 64 bits, its lowest half multiplied and its highest half added, is a word
-pub spread_fits : (w : ℕ) → w < 2 ^ 64 → w % 4294967296 * 2654435761 + w / 4294967296 < 2 ^ 64
-spread_fits w h =
-    let low : w % 4294967296 < 4294967296 = omega arith in
-    let high : w / 4294967296 < 4294967296 = omega arith in
-    sum (w % 4294967296) (w / 4294967296) low high
-  where
-    sum : (x y : ℕ) → x < 4294967296 → y < 4294967296 → x * 2654435761 + y < 2 ^ 64
-    sum x y a b = omega arith
+  replica_part : lo + 16 ≤ hi → replica_of (replica_read id_part) ≡ be_at s 16 lo
+  replica_part h =
+      let l = part-length (omega arith) in
+      replica_there id_part (omega arith) ∙ sym (read_there id_part 16 0 (omega arith)) ∙ part_there s lo hi 16 h k
+
+  item_part : lo + 24 ≤ hi → item_of (item_read id_part) ≡ be_at s 24 lo
+  item_part h =
+      let l = part-length (omega arith) in
+      item_there id_part (omega arith) ∙ sym (read_there id_part 24 0 (omega arith)) ∙ part_there s lo hi 24 h k
+
+pub rises_is : (s : List ℕ) (at : ℕ) → at + 32 ≤ length s → (p q : Replica) (b : Bool)
+    → p ≡ replica_read (take (at + 16 - at) (drop at s)) → q ≡ replica_read (take (at + 32 - (at + 16)) (drop (at + 16) s))
+    → b ≡ ltb (replica_of p) (replica_of q) → b ≡ ltb (be_at s 16 at) (be_at s 16 (at + 16))
+rises_is s at h p q b e f t =
+    t ∙ ap₂ ltb (ap replica_of e ∙ replica_part s at (at + 16) (omega arith) (omega arith))
+    (ap replica_of f ∙ replica_part s (at + 16) (at + 32) h (omega arith))
 
 -- The vectors after vector 0
 
@@ -63,14 +79,14 @@ unfolding vectors_here
 here-length s zero at = refl
 here-length s (suc n) at = ap suc (here-length s n _)
 
-module _ (s : List ℕ) (r n at : ℕ) (marks hashes places : List ℕ) (b : Bool)
+pub taken_of : (s : List ℕ) (r m n at : ℕ) (old new : List Bool) (hashes places : List ℕ) (b : Bool)
+    → VectorsTaken s r m at old new hashes places b → m ≡ n → VectorsTaken s r n at old new hashes places b
+taken_of s r m n at old new hashes places b t e = subst (λ i. VectorsTaken s r i at old new hashes places b) e t
+
+module _ (s : List ℕ) (r n at : ℕ) (marks : List Bool) (hashes places : List ℕ) (b : Bool)
     (t : VectorsTaken s r n at no_marks marks hashes places b) where
   abbrev vs : List (List Element)
   vs = vectors_here s n at
-
-  pub shell_wrong : b ≡ false → false ≡ vectors_normal r vs
-  unfolding vectors_normal
-  shell_wrong e = sym (rw (sym t.is ∙ e, vectors_normal))
 
   module _ (c : Bool) (e : b ≡ true) (k : c ≡ keys_marked marks r 0) where
     pub shell_unused : c ≡ false → false ≡ vectors_normal r vs
@@ -88,20 +104,17 @@ module _ (s : List ℕ) (r n at : ℕ) (marks hashes places : List ℕ) (b : Boo
         ∙ ap (λ j. apart (numbered vs) j 0) (sym (here-length s n at)) in
         q ∙ sym (rw (sym t.is ∙ e, vectors_normal, m))
 
-  pub shell_hashed : b ≡ true → n ≤ length hashes → n ≤ length places → Hashed s hashes places n
-  shell_hashed e l m = record { is = (t.listed e).hash; hash_room = l; place_room = m }
-
 -- The ranges
 
-module _ (s : List ℕ) (v g at a b c : ℕ) (t : Bool) (e : a ≡ be_at s 8 at) (f : b ≡ be_at s 8 (at + 8)) (h : c ≡ be_at s 8 (at + 16))
-    (is : t ≡ eqb (words3 a b c) (words3 0 0 0)) where
+pub lowest_words : InWords (record { high = 0; middle = 0; low = 0 })
+lowest_words = record { high = omega arith; middle = omega arith; low = omega arith }
+
+module _ (s : List ℕ) (v g at : ℕ) (room : at + 24 ≤ length s) (i : Item) (t : Bool)
+    (read : i ≡ item_read (take (at + 24 - at) (drop at s)))
+    (is : t ≡ eqb (item_of i) (item_of (record { high = 0; middle = 0; low = 0 }))) where
   bound-zero : t ≡ eqb (be_at s 24 at) 0
   unfolding words3
-  bound-zero = is ∙ ap (λ x. eqb x (words3 0 0 0)) (words e f h ∙ sym (words3_be s at))
-    where
-      words : a ≡ be_at s 8 at → b ≡ be_at s 8 (at + 8) → c ≡ be_at s 8 (at + 16)
-          → words3 a b c ≡ words3 (be_at s 8 at) (be_at s 8 (at + 8)) (be_at s 8 (at + 16))
-      words x y z = ap₂ (λ p q. words3 p q c) x y ∙ ap (words3 (be_at s 8 at) (be_at s 8 (at + 8))) z
+  bound-zero = is ∙ ap (λ x. eqb x 0) (ap item_of read ∙ item_part s at (at + 24) room (omega arith))
 
   pub bound_above : t ≡ false → false ≡ ranges_normal s v g at
   unfolding ranges_normal
@@ -114,32 +127,6 @@ module _ (s : List ℕ) (v g at a b c : ℕ) (t : Bool) (e : a ≡ be_at s 8 at)
 -- The whole
 
 module _ (s : List ℕ) (r v e g : ℕ) where
-  pub room_replicas : largest_replicas < r → false ≡ roomy s r v e g
-  unfolding roomy
-  room_replicas h = sym (rw (lt-leb r largest_replicas h, roomy))
-
-  module _ (h : r ≤ largest_replicas) where
-    pub room_no_vector : v < 1 → false ≡ roomy s r v e g
-    unfolding roomy
-    room_no_vector k = sym (rw (le-leb r largest_replicas h, roomy, lt-leb 1 v k))
-
-    module _ (k : 1 ≤ v) where
-      pub room_vectors : largest_ranges < v - 1 → false ≡ roomy s r v e g
-      unfolding roomy
-      room_vectors l = sym (rw (le-leb r largest_replicas h, roomy, le-leb 1 v k, lt-leb (v - 1) largest_ranges l))
-
-      module _ (l : v - 1 ≤ largest_ranges) where
-        pub room_no_range : g < 1 → false ≡ roomy s r v e g
-        unfolding roomy
-        room_no_range m =
-            sym (rw (le-leb r largest_replicas h, roomy, le-leb 1 v k, le-leb (v - 1) largest_ranges l, lt-leb 1 g m))
-
-        pub room-length : (n : ℕ) → n ≡ whole_length r v e g → 1 ≤ g → leb n (length s) ≡ roomy s r v e g
-        unfolding roomy
-        room-length n q m =
-            ap (λ j. leb j (length s)) q
-            ∙ sym (rw (le-leb r largest_replicas h, roomy, le-leb 1 v k, le-leb (v - 1) largest_ranges l, le-leb 1 g m))
-
   pub room_for : (b : Bool) → b ≡ roomy s r v e g → b ≡ true → RoomFor s r v e g
   unfolding roomy
   room_for b q t =
@@ -162,25 +149,6 @@ module _ (s : List ℕ) (r v e g : ℕ) where
   pub in_there : (b c : Bool) → b ≡ roomy s r v e g → b ≡ true → c ≡ normal_there s r v e g → c ≡ normal_in s r v e g
   unfolding normal_in
   in_there b c q t d = d ∙ sym (rw (sym q ∙ t, normal_in))
-
-  module _ (b : Bool) (q : b ≡ ids_rise s (r - 1) ids_place) where
-    pub there_ids : b ≡ false → false ≡ normal_there s r v e g
-    unfolding normal_there
-    there_ids t = sym (rw (sym q ∙ t, normal_there))
-
-    module _ (c : Bool) (at : ℕ) (t : b ≡ true) (p : c ≡ ranges_normal s v g at) (i : at ≡ ranges_place r v e) where
-      ranges_are : c ≡ ranges_normal s v g (ranges_place r v e)
-      ranges_are = p ∙ ap (ranges_normal s v g) i
-
-      pub there_ranges : c ≡ false → false ≡ normal_there s r v e g
-      unfolding normal_there
-      there_ranges u = sym (rw (sym q ∙ t, normal_there, sym ranges_are ∙ u))
-
-      pub there_vectors : (d : Bool) (n first : ℕ) → c ≡ true → n ≡ v - 1 → first ≡ vectors_place r + 8
-          → d ≡ vectors_normal r (vectors_here s n first) → d ≡ normal_there s r v e g
-      unfolding normal_there
-      there_vectors d n first u j k w =
-          w ∙ ap₂ (λ m a. vectors_normal r (vectors_here s m a)) j k ∙ sym (rw (sym q ∙ t, normal_there, sym ranges_are ∙ u))
 
 -- The bytes
 

@@ -19,10 +19,6 @@ use Rattle.normal_form.proofs.ByPlaces.{within_roomy, normal_by_places}
 -- What it returns
 
 module _ (s : List ℕ) (r : ℕ) (c : Cursor) where
-  pub opened_short : length s < vectors_place r → false ≡ normal_opened s r c
-  unfolding normal_opened
-  opened_short h = sym (rw (lt-leb (vectors_place r) (length s) h, normal_opened))
-
   module _ (v : ℕ) (h : vectors_place r ≤ length s) (is : v ≡ count_before s r) where
     pub opened_before : c.next < no_elements r v → false ≡ normal_opened s r c
     unfolding normal_opened

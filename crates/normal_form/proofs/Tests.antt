@@ -111,67 +111,66 @@ module _ (r : ℕ) where
 
 -- Marks
 
-pub marked-length : (marks : List ℕ) (es : List Element) → length (marked marks es) ≡ length marks
+pub marked-length : (marks : List Bool) (es : List Element) → length (marked marks es) ≡ length marks
 unfolding marked
 marked-length marks [] = refl
-marked-length marks (x ∷ xs) = marked-length (set marks x.key.0 1) xs ∙ length-set marks x.key.0 1
+marked-length marks (x ∷ xs) = marked-length (set marks x.key.0 true) xs ∙ length-set marks x.key.0 true
 
 -- a key that is not used keeps what it had
-marked_other : (marks : List ℕ) (es : List Element) (y : ℕ) → (Among y (keys es) → ⊥)
-    → get_or (marked marks es) y 0 ≡ get_or marks y 0
+marked_other : (marks : List Bool) (es : List Element) (y : ℕ) → (Among y (keys es) → ⊥)
+    → get_or (marked marks es) y false ≡ get_or marks y false
 unfolding marked keys
 marked_other marks [] y n = refl
 marked_other marks (x ∷ xs) y n =
-    marked_other (set marks x.key.0 1) xs y (λ m. n (inr m))
-    ∙ get_or-set_other marks x.key.0 y 1 0 (λ e. n (inl e))
+    marked_other (set marks x.key.0 true) xs y (λ m. n (inr m))
+    ∙ get_or-set_other marks x.key.0 y true false (λ e. n (inl e))
 
 no_key : (es : List Element) (y : ℕ) → place y (keys es) ≡ length es → Among y (keys es) → ⊥
 no_key es y e m = omega (arith, among_place y (keys es) m, keys_length es)
 
-unused_mark : (marks : List ℕ) (vs : List (List Element)) (y : ℕ) → Unused y vs → get_or (marked_by marks vs) y 0 ≡ get_or marks y 0
+unused_mark : (marks : List Bool) (vs : List (List Element)) (y : ℕ) → Unused y vs → get_or (marked_by marks vs) y false ≡ get_or marks y false
 unfolding marked_by
 unused_mark marks [] y u = refl
 unused_mark marks (es ∷ vs) y u =
     unused_mark (marked marks es) vs y u.1 ∙ marked_other marks es y (no_key es y u.0)
 
 -- a mark stays, and a key that is used gets one
-mark_stays : (marks : List ℕ) (k y : ℕ) → y < length marks → 1 ≤ get_or marks y 0 → 1 ≤ get_or (set marks k 1) y 0
+mark_stays : (marks : List Bool) (k y : ℕ) → y < length marks → get_or marks y false ≡ true → get_or (set marks k true) y false ≡ true
 mark_stays marks k y h m =
     elim (exact? eqb eqb_exact y k) [
-      | inl e ↦ omega (arith, ap (λ (z : ℕ). get_or (set marks k 1) z 0) e, get_or-set_same marks k 1 0 (omega arith))
-      | inr n ↦ omega (arith, get_or-set_other marks k y 1 0 n)
+      | inl e ↦
+          ap (λ (z : ℕ). get_or (set marks k true) z false) e
+          ∙ get_or-set_same marks k true false (omega arith)
+      | inr n ↦ get_or-set_other marks k y true false n ∙ m
     ]
 
-marked_stays : (marks : List ℕ) (es : List Element) (y : ℕ) → y < length marks → 1 ≤ get_or marks y 0
-    → 1 ≤ get_or (marked marks es) y 0
+marked_stays : (marks : List Bool) (es : List Element) (y : ℕ) → y < length marks → get_or marks y false ≡ true
+    → get_or (marked marks es) y false ≡ true
 unfolding marked
 marked_stays marks [] y h m = m
 marked_stays marks (x ∷ xs) y h m =
-    marked_stays (set marks x.key.0 1) xs y (omega (arith, length-set marks x.key.0 1))
+    marked_stays (set marks x.key.0 true) xs y (omega (arith, length-set marks x.key.0 true))
     (mark_stays marks x.key.0 y h m)
 
-marked_new : (marks : List ℕ) (es : List Element) (y : ℕ) → y < length marks → Among y (keys es) → 1 ≤ get_or (marked marks es) y 0
+marked_new : (marks : List Bool) (es : List Element) (y : ℕ) → y < length marks → Among y (keys es) → get_or (marked marks es) y false ≡ true
 unfolding marked keys
 marked_new marks [] y h m = absurd m
 marked_new marks (x ∷ xs) y h (inl e) =
-    marked_stays (set marks x.key.0 1) xs y (omega (arith, length-set marks x.key.0 1))
-    (omega (
-      arith,
-      ap (λ (z : ℕ). get_or (set marks x.key.0 1) z 0) e,
-      get_or-set_same marks x.key.0 1 0 (omega (arith, e)),
-    ))
+    marked_stays (set marks x.key.0 true) xs y (omega (arith, length-set marks x.key.0 true))
+    (ap (λ (z : ℕ). get_or (set marks x.key.0 true) z false) e
+    ∙ get_or-set_same marks x.key.0 true false (omega (arith, e)))
 marked_new marks (x ∷ xs) y h (inr m) =
-    marked_new (set marks x.key.0 1) xs y (omega (arith, length-set marks x.key.0 1)) m
+    marked_new (set marks x.key.0 true) xs y (omega (arith, length-set marks x.key.0 true)) m
 
-all_stays : (marks : List ℕ) (vs : List (List Element)) (y : ℕ) → y < length marks → 1 ≤ get_or marks y 0
-    → 1 ≤ get_or (marked_by marks vs) y 0
+all_stays : (marks : List Bool) (vs : List (List Element)) (y : ℕ) → y < length marks → get_or marks y false ≡ true
+    → get_or (marked_by marks vs) y false ≡ true
 unfolding marked_by
 all_stays marks [] y h m = m
 all_stays marks (es ∷ vs) y h m =
     all_stays (marked marks es) vs y (omega (arith, marked-length marks es)) (marked_stays marks es y h m)
 
-used_marked : (marks : List ℕ) (vs : List (List Element)) (y n : ℕ) → y < length marks → n < length vs
-    → Among y (keys (get_or vs n [])) → 1 ≤ get_or (marked_by marks vs) y 0
+used_marked : (marks : List Bool) (vs : List (List Element)) (y n : ℕ) → y < length marks → n < length vs
+    → Among y (keys (get_or vs n [])) → get_or (marked_by marks vs) y false ≡ true
 unfolding marked_by
 used_marked marks [] y n h l m = absurd (omega arith)
 used_marked marks (es ∷ vs) y zero h l m =
@@ -179,32 +178,32 @@ used_marked marks (es ∷ vs) y zero h l m =
 used_marked marks (es ∷ vs) y (suc n) h l m =
     used_marked (marked marks es) vs y n (omega (arith, marked-length marks es)) (omega arith) m
 
-pub used_mark : (marks : List ℕ) (vs : List (List Element)) (y : ℕ) → y < length marks → (Unused y vs → ⊥)
-    → 1 ≤ get_or (marked_by marks vs) y 0
+pub used_mark : (marks : List Bool) (vs : List (List Element)) (y : ℕ) → y < length marks → (Unused y vs → ⊥)
+    → get_or (marked_by marks vs) y false ≡ true
 used_mark marks vs y h u = let w = used_get y vs u in used_marked marks vs y w.0 h w.1.0 w.1.1
 
 -- where there was no mark, a key with one is used
-pub mark_used : (marks : List ℕ) (vs : List (List Element)) (y : ℕ) → get_or marks y 0 ≡ 0 → 1 ≤ get_or (marked_by marks vs) y 0
+pub mark_used : (marks : List Bool) (vs : List (List Element)) (y : ℕ) → get_or marks y false ≡ false → get_or (marked_by marks vs) y false ≡ true
     → Unused y vs → ⊥
-mark_used marks vs y z m u = omega (arith, unused_mark marks vs y u)
+mark_used marks vs y z m u = clash (get_or (marked_by marks vs) y false) m (unused_mark marks vs y u ∙ z)
 
-pub keys_marked_lem : (marks : List ℕ) (n k : ℕ) → keys_marked marks n k ≡ true → (y : ℕ) → k ≤ y → y < k + n → 1 ≤ get_or marks y 0
+pub keys_marked_lem : (marks : List Bool) (n k : ℕ) → keys_marked marks n k ≡ true → (y : ℕ) → k ≤ y → y < k + n → get_or marks y false ≡ true
 unfolding keys_marked
 keys_marked_lem marks zero k e y h l = absurd (omega arith)
 keys_marked_lem marks (suc n) k e y h l =
-    let p = both (leb 1 (get_or marks k 0)) (keys_marked marks n (suc k)) e in
+    let p = both (get_or marks k false) (keys_marked marks n (suc k)) e in
     elim (order k y) [
       | less j ↦ keys_marked_lem marks n (suc k) p.1 y (omega arith) (omega arith)
-      | same j ↦ omega (arith, leb-true 1 (get_or marks k 0) p.0, ap (λ (z : ℕ). get_or marks z 0) j)
+      | same j ↦ sym (ap (λ (z : ℕ). get_or marks z false) j) ∙ p.0
       | more j ↦ absurd (omega arith)
     ]
 
-pub marked_keys : (marks : List ℕ) (n k : ℕ) → ((y : ℕ) → k ≤ y → y < k + n → 1 ≤ get_or marks y 0) → keys_marked marks n k ≡ true
+pub marked_keys : (marks : List Bool) (n k : ℕ) → ((y : ℕ) → k ≤ y → y < k + n → get_or marks y false ≡ true) → keys_marked marks n k ≡ true
 unfolding keys_marked
 marked_keys marks zero k f = refl
 marked_keys marks (suc n) k f =
-    both_yes (leb 1 (get_or marks k 0)) (keys_marked marks n (suc k))
-    (le-leb 1 (get_or marks k 0) (f k (omega arith) (omega arith)))
+    both_yes (get_or marks k false) (keys_marked marks n (suc k))
+    (f k (omega arith) (omega arith))
     (marked_keys marks n (suc k) (λ y h l. f y (omega arith) (omega arith)))
 
 -- Distinct vectors

@@ -1,7 +1,7 @@
 -- The method of the test of normal form, by places, for any bytes and sizes: nothing here is to be believed. The law
 -- `normal_by_places` shows that for bytes that the check accepts it is the test itself. A vector that is not all there counts as
 -- empty, and so fails.
-use Rattle.std.specs.Prelude.{ℕ, zero, suc, max, ◌+◌, ◌-◌, ◌*◌, ◌/◌, ◌%◌, ◌^◌, ◌≤◌, ◌<◌, ◌≡◌, Bool, true, false, List, [], ◌∷◌, eqb, ltb, leb, length, get_or, set, replicate}
+use Rattle.std.specs.Prelude.{ℕ, zero, suc, max, ◌+◌, ◌-◌, ◌*◌, ◌/◌, ◌%◌, ◌^◌, ◌≤◌, ◌<◌, ◌≡◌, Bool, true, false, List, [], ◌∷◌, eqb, ltb, leb, length, get_or, set, replicate, Option, Some, None}
 use Rattle.codec.specs.Number.{be_at}
 use Rattle.layout.specs.Knowledge.{Element, Range}
 use Rattle.layout.specs.Permitted.{largest_replicas, largest_ranges}
@@ -10,8 +10,6 @@ use Rattle.layout.specs.MethodPlaces.{ids_place, vectors_place, ranges_place, wh
 use Rattle.ticks.specs.Written.{eq_vector}
 use Rattle.lookup.specs.declared.Cursor.{Cursor}
 use Rattle.lookup.specs.Method.{elements_there, in_four}
-use Rattle.normal_form.specs.declared.Taken.{Taken}
-use Rattle.normal_form.specs.declared.Taken.TheVariants.{Word, Wrong}
 
 -- The replica ids
 
@@ -35,18 +33,18 @@ in_order r lo (x ∷ xs) =
     ]
 
 -- the marks of keys, with those of a vector, and with those of several
-unfoldable pub marked : List ℕ → List Element → List ℕ
+unfoldable pub marked : List Bool → List Element → List Bool
 marked marks [] = marks
-marked marks (x ∷ xs) = marked (set marks x.key.0 1) xs
+marked marks (x ∷ xs) = marked (set marks x.key.0 true) xs
 
-unfoldable pub marked_by : List ℕ → List (List Element) → List ℕ
+unfoldable pub marked_by : List Bool → List (List Element) → List Bool
 marked_by marks [] = marks
 marked_by marks (es ∷ vs) = marked_by (marked marks es) vs
 
 -- have the n keys from k on a mark
-unfoldable pub keys_marked : List ℕ → ℕ → ℕ → Bool
+unfoldable pub keys_marked : List Bool → ℕ → ℕ → Bool
 keys_marked marks zero k = true
-keys_marked marks (suc n) k = elim (leb 1 (get_or marks k 0)) [ true ↦ keys_marked marks n (suc k) | false ↦ false ]
+keys_marked marks (suc n) k = elim (get_or marks k false) [ true ↦ keys_marked marks n (suc k) | false ↦ false ]
 
 -- a word of 64 bits into which the elements of a vector are mixed, one after the other, and the hash of 32 bits into which it is
 -- folded. Any function of the elements would do: vectors with unlike hashes are unlike
@@ -63,12 +61,12 @@ folded w = (w % 4294967296 + w / 4294967296 * 2654435761) % 4294967296
 unfoldable pub hash_of : List Element → ℕ
 hash_of es = folded (word_from 0 es)
 
-unfoldable pub taken_if : Bool → ℕ → Taken
-taken_if true w = Word w
-taken_if false w = Wrong
+unfoldable pub taken_if : Bool → ℕ → Option ℕ
+taken_if true w = Some w
+taken_if false w = None
 
 -- what taking in elements came to: the word where they are in order, and then their keys have a mark beside the old ones
-pub record TakenIn (r : ℕ) (es : List Element) (old new : List ℕ) (t : Taken) : Type 0 where
+pub record TakenIn (r : ℕ) (es : List Element) (old new : List Bool) (t : Option ℕ) : Type 0 where
   pub is : t ≡ taken_if (in_order r 0 es) (word_from 0 es)
   pub marks : in_order r 0 es ≡ true → new ≡ marked old es
 
@@ -105,7 +103,7 @@ pub record Listed (s : List ℕ) (vs : List (List Element)) (n : ℕ) (hashes pl
   pub hash : (j : ℕ) → j < n → get_or hashes j 0 ≡ hash_of (standing s places j)
 
 -- what taking in n vectors from a place on came to
-pub record VectorsTaken (s : List ℕ) (r n start : ℕ) (old new hashes places : List ℕ) (b : Bool) : Type 0 where
+pub record VectorsTaken (s : List ℕ) (r n start : ℕ) (old new : List Bool) (hashes places : List ℕ) (b : Bool) : Type 0 where
   pub is : b ≡ each_in_order r (vectors_here s n start)
   pub marks : b ≡ true → new ≡ marked_by old (vectors_here s n start)
   pub listed : b ≡ true → Listed s (vectors_here s n start) n hashes places
@@ -126,8 +124,8 @@ unfoldable pub apart : (ℕ → List Element) → ℕ → ℕ → Bool
 apart f zero k = true
 apart f (suc n) k = elim (unlike f k k 0) [ true ↦ apart f n (suc k) | false ↦ false ]
 
-abbrev pub no_marks : List ℕ
-no_marks = replicate largest_replicas 0
+abbrev pub no_marks : List Bool
+no_marks = replicate largest_replicas false
 
 -- the vectors after vector 0: in order, all of the r keys used, distinct
 unfoldable pub vectors_normal : ℕ → List (List Element) → Bool

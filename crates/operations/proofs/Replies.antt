@@ -5,11 +5,12 @@ use mathlib.Core.Path.{◌≡◌, refl, sym, ap, ◌∙◌, subst}
 use mathlib.Core.Bool.{false}
 use mathlib.Core.List.{List}
 use lib.ListN.{length}
-use Rattle.codec.specs.Reply.{Reply, answer, after}
+use Rattle.codec.specs.Reply.{Reply, answer, after, refuses}
 use Rattle.codec.specs.MethodEnded.{Ended, end_of}
 use Rattle.codec.specs.Ids.{InWords, item_of, item_read}
-use Rattle.codec.specs.declared.Answer.{Answer}
+use Rattle.codec.specs.Answer.{Answer, Refused}
 use Rattle.codec.specs.declared.Item.{Item}
+use Rattle.codec.proofs.Ended.{ended_refused}
 use Rattle.layout.specs.Knowledge.{Rules, Knowledge, basic, base}
 use Rattle.layout.specs.Permitted.{rules_within}
 use Rattle.layout.specs.Decode.{decode}
@@ -72,3 +73,8 @@ pub ended_basic : (call : Rules → Reply) (out u : List ℕ) (a : Answer) → E
 ended_basic call out u a h =
     let e : call (rules_within base.replicas base.ranges) ≡ call basic = ap call basic_within in
     (h.answers ∙ ap (λ r. answer r (length out)) e, h.leaves ∙ ap (λ r. after r out) e)
+
+-- a call that is refused under them leaves the refusal and the buffer as it was
+pub refused_basic : (call : Rules → Reply) (out : List ℕ) (n : ℕ) → call (rules_within base.replicas base.ranges) ≡ refuses n
+    → (Refused n ≡ answer (call basic) (length out)) × (out ≡ after (call basic) out)
+refused_basic call out n e = ended_basic call out out (Refused n) (ended_refused (call (rules_within base.replicas base.ranges)) out n e)

@@ -2,18 +2,14 @@
 #![tactic(auto)]
 
 ghost use Rattle.std.specs.Prelude.{◌≡◌, length};
+ghost use Rattle.codec.specs.Answer.{answer_of};
 ghost use Rattle.codec.specs.Part.{placed};
 ghost use Rattle.codec.specs.Reply.{answer, after};
-ghost use Rattle.codec.specs.MethodEnded.{Ended};
 ghost use Rattle.layout.specs.Knowledge.{basic, encode};
-ghost use Rattle.layout.specs.Permitted.{rules_within};
 ghost use Rattle.ticks.specs.Meaning.{empty_knowledge};
 ghost use Rattle.ticks.specs.Calls.{normalise_reply, merge_reply, project_reply};
-ghost use Rattle.lookup.specs.Method.{Opens};
 
-use codec::{Answer, Span};
-use layout::Limits;
-use lookup::{Opened, View};
+use codec::{Item, Refusal, Span};
 
 // ---- the empty knowledge
 
@@ -47,145 +43,48 @@ pub fn write_empty(out: &mut [u8], at: usize)
 
 // ---- normalise
 
-// With limits of the caller's.
-fn normalise_within(knowledge: &[u8], out: &mut [u8], replicas: u32, ranges: u32) -> Answer
-    ensures { Ended (normalise_reply (rules_within replicas ranges) knowledge.now) out.old out.new result }
-{
-    let limits = Limits {
-        replicas,
-        ranges,
-        records: layout::RECORDS,
-    };
-    match lookup::open_within(knowledge, limits) {
-        Opened::At(v) => results::normalise_opened(knowledge, v, limits, out),
-        Opened::Refused(n) => Answer::Refused(n),
-    }
-}
-
 // Writes the normal form of a knowledge.
-pub fn normalise(knowledge: &[u8], out: &mut [u8]) -> Answer
-    ensures value { result ≡ answer (normalise_reply basic knowledge.now) (length out.old) }
+pub fn normalise(knowledge: &[u8], out: &mut [u8]) -> Result<usize, Refusal>
+    ensures value { answer_of result ≡ answer (normalise_reply basic knowledge.now) (length out.old) }
     ensures out_after { out.new ≡ after (normalise_reply basic knowledge.now) out.old }
 {
-    normalise_within(knowledge, out, layout::REPLICAS, layout::RANGES)
+    let v = lookup::open_within(knowledge, layout::LIMITS)?;
+    results::normalise_opened(knowledge, v, layout::LIMITS, out)
 }
 
 // ---- project
 
-// Where the knowledge is accepted: 17 for the span, or the projection.
-fn project_span(
-    s: &[u8],
-    v: View,
-    first: &[u8],
-    last: &[u8],
-    replicas: u32,
-    ranges: u32,
-    out: &mut [u8],
-) -> Answer
-    requires { Opens (rules_within replicas ranges) s.now v.r v.start }
-    ensures { Ended (project_reply (rules_within replicas ranges) s.now first.now last.now)
-        out.old out.new result }
-{
-    if lookup::wrong_span(first, last) {
-        return Answer::Refused(17);
-    }
-    let span = Span {
-        first: codec::item_of(first),
-        last: codec::item_of(last),
-    };
-    let limits = Limits {
-        replicas,
-        ranges,
-        records: layout::RECORDS,
-    };
-    results::project_opened(s, v, span, limits, out)
-}
-
-// With limits of the caller's.
-fn project_within(
+// Writes the projection of a knowledge on a span, from the first id to the last.
+pub fn project(
     knowledge: &[u8],
     first: &[u8],
     last: &[u8],
     out: &mut [u8],
-    replicas: u32,
-    ranges: u32,
-) -> Answer
-    ensures { Ended (project_reply (rules_within replicas ranges) knowledge.now first.now last.now)
-        out.old out.new result }
-{
-    let limits = Limits {
-        replicas,
-        ranges,
-        records: layout::RECORDS,
-    };
-    match lookup::open_within(knowledge, limits) {
-        Opened::At(v) => project_span(knowledge, v, first, last, replicas, ranges, out),
-        Opened::Refused(n) => Answer::Refused(n),
-    }
-}
-
-// Writes the projection of a knowledge on a span, from the first id to the last.
-pub fn project(knowledge: &[u8], first: &[u8], last: &[u8], out: &mut [u8]) -> Answer
-    ensures value { result ≡ answer (project_reply basic knowledge.now first.now last.now)
+) -> Result<usize, Refusal>
+    ensures value { answer_of result ≡ answer (project_reply basic knowledge.now first.now last.now)
         (length out.old) }
     ensures out_after { out.new ≡ after (project_reply basic knowledge.now first.now last.now)
         out.old }
 {
-    project_within(
-        knowledge,
-        first,
-        last,
-        out,
-        layout::REPLICAS,
-        layout::RANGES,
-    )
+    let v = lookup::open_within(knowledge, layout::LIMITS)?;
+    if lookup::wrong_span(first, last) {
+        return Err(Refusal::WrongIds);
+    }
+    let span = Span {
+        first: Item::from_bytes(first),
+        last: Item::from_bytes(last),
+    };
+    results::project_opened(knowledge, v, span, layout::LIMITS, out)
 }
 
 // ---- merge
 
-// Once the first knowledge is accepted.
-fn merge_second(
-    s: &[u8],
-    v: View,
-    other: &[u8],
-    out: &mut [u8],
-    replicas: u32,
-    ranges: u32,
-) -> Answer
-    requires { Opens (rules_within replicas ranges) s.now v.r v.start }
-    ensures { Ended (merge_reply (rules_within replicas ranges) s.now other.now) out.old out.new result }
-{
-    let limits = Limits {
-        replicas,
-        ranges,
-        records: layout::RECORDS,
-    };
-    match lookup::open_within(other, limits) {
-        Opened::At(w) => results::merge_opened(s, v, other, w, limits, out),
-        Opened::Refused(n) => Answer::Refused(n),
-    }
-}
-
-// With limits of the caller's.
-fn merge_within(first: &[u8], second: &[u8], out: &mut [u8], replicas: u32, ranges: u32) -> Answer
-    ensures { Ended (merge_reply (rules_within replicas ranges) first.now second.now)
-        out.old out.new result }
-{
-    let limits = Limits {
-        replicas,
-        ranges,
-        records: layout::RECORDS,
-    };
-    match lookup::open_within(first, limits) {
-        Opened::At(v) => merge_second(first, v, second, out, replicas, ranges),
-        Opened::Refused(n) => Answer::Refused(n),
-    }
-}
-
 // Writes the normal form of what either of two knowledges knows. All of the first is checked before any of the second.
-pub fn merge(first: &[u8], second: &[u8], out: &mut [u8]) -> Answer
-    ensures value { result ≡ answer (merge_reply basic first.now second.now) (length out.old) }
+pub fn merge(first: &[u8], second: &[u8], out: &mut [u8]) -> Result<usize, Refusal>
+    ensures value { answer_of result ≡ answer (merge_reply basic first.now second.now) (length out.old) }
     ensures out_after { out.new ≡ after (merge_reply basic first.now second.now) out.old }
 {
-    merge_within(first, second, out, layout::REPLICAS, layout::RANGES)
+    let v = lookup::open_within(first, layout::LIMITS)?;
+    let w = lookup::open_within(second, layout::LIMITS)?;
+    results::merge_opened(first, v, second, w, layout::LIMITS, out)
 }

@@ -11,12 +11,6 @@ use Rattle.plan.specs.Method.{Front}
 pub left_all : (l : List ℕ) (n : ℕ) → numbers_at l 0 n ≡ numbers_at l 0 (n - 0)
 left_all l n = let e : n ≡ n - 0 = omega arith in ap (numbers_at l 0) e
 
-pub left_more : (l : List ℕ) (i n : ℕ) → i < n → numbers_at l i (n - i) ≡ get_or l i 0 ∷ numbers_at l (i + 1) (n - (i + 1))
-left_more l i n h = let e : n - i ≡ suc (n - (i + 1)) = omega arith in ap (numbers_at l i) e ∙ numbers_at-suc l i (n - (i + 1))
-
-pub left_none : (l : List ℕ) (i n : ℕ) → n ≤ i → numbers_at l i (n - i) ≡ []
-left_none l i n h = let e : n - i ≡ 0 = omega arith in ap (numbers_at l i) e ∙ numbers_at-zero l i
-
 -- a number put before those listed changes none of them
 pub left-set : (l : List ℕ) (j x i n : ℕ) → j < i → numbers_at (set l j x) i n ≡ numbers_at l i n
 left-set l j x i zero h = numbers_at-zero (set l j x) i ∙ sym (numbers_at-zero l i)
@@ -59,7 +53,7 @@ front_then vs ws d u w v x h k l =
       room = omega (arith, h.size, k.room);
     }
 
-numbers_front : (u : List ℕ) (v : ℕ) → v ≤ length u → numbers_at u 0 v ≡ take v u
+pub numbers_front : (u : List ℕ) (v : ℕ) → v ≤ length u → numbers_at u 0 v ≡ take v u
 numbers_front u zero h = numbers_at-zero u 0
 numbers_front u (suc v) h =
     let z : 0 + v ≡ v = omega arith in

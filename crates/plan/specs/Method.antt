@@ -1,6 +1,6 @@
 -- What the functions of planning leave behind, step by step, and the tables that get a plan: as code works. There is nothing
 -- to believe here: the laws of `tables` say that the plan of a table that samples known ticks is their normal form.
-use Rattle.std.specs.Prelude.{ℕ, ◌+◌, ◌≤◌, ◌<◌, ◌≡◌, Bool, true, false, List, ◌∷◌, leb, ltb, eqb, length, get_or, drop, set}
+use Rattle.std.specs.Prelude.{ℕ, ◌+◌, ◌≤◌, ◌<◌, ◌≡◌, Bool, List, ◌∷◌, ◌&&◌, leb, ltb, length, get_or, drop, set}
 use Rattle.ticks.specs.Meaning.{place_by}
 use Rattle.tables.specs.declared.Sizes.{Sizes}
 use Rattle.tables.specs.MethodWords.{stride, most_rows, numbers_at}
@@ -12,10 +12,6 @@ pub record Front (vs d u : List ℕ) (v : ℕ) : Type 0 where
   pub rest : drop v u ≡ drop v d
   pub size : length u ≡ length d
   pub room : v ≤ length d
-
--- 0 where two numbers are the same, 1 where they are not
-unfoldable pub unlike : ℕ → ℕ → ℕ
-unlike x y = elim (eqb x y) [ true ↦ 0 | false ↦ 1 ]
 
 -- the words of v distinct rows
 pub record Mixed (T : ℕ → ℕ → ℕ) (r : ℕ) (firsts : List ℕ) (v : ℕ) (mixed : List ℕ) : Type 0 where
@@ -44,21 +40,10 @@ pub record Exchanged (P : ℕ → ℕ) (c i : ℕ) (cols cols' : List ℕ) (d : 
   pub is : cols' ≡ set cols i kept
   pub later : (ds : List ℕ) → insert_column P c (get_or cols i 0 ∷ ds) ≡ kept ∷ insert_column P d ds
 
--- a plan of fewer rows takes less room
-abbrev pub few : ℕ
-few = 16
-
 -- a plan is made for a table of at most the largest sizes, where the lists have room: r columns, n rows, and the lengths of the
 -- lists of columns, distinct rows and numbers
 unfoldable pub fits : ℕ → ℕ → ℕ → ℕ → ℕ → Bool
-fits r n c f x =
-    elim (leb r stride) [
-      | true ↦ elim (ltb n most_rows) [
-        | true ↦ elim (leb r c) [ true ↦ elim (ltb n f) [ true ↦ leb n x | false ↦ false ] | false ↦ false ]
-        | false ↦ false
-      ]
-      | false ↦ false
-    ]
+fits r n c f x = leb r stride && (ltb n most_rows && (leb r c && (ltb n f && leb n x)))
 
 unfoldable pub no_sizes : Sizes
 no_sizes = record { replicas = 0; vectors = 0; elements = 0; ranges = 0 }

@@ -7,8 +7,8 @@ use native.Mathlib.Omega.{arith}
 use lib.ListN.{length, replicate}
 use borrow.Author.Tests.{lt-ltb, le-ltb}
 use Rattle.codec.specs.Reply.{Reply}
-use Rattle.codec.specs.declared.Answer.{Answer}
-use Rattle.codec.specs.declared.Answer.TheVariants as A
+use Rattle.codec.specs.Answer.{Answer, answer_of}
+use Rattle.codec.specs.Answer as A
 use Rattle.codec.proofs.Calls.{short_answer, short_after, written_answer, written_after}
 use Rattle.layout.specs.Knowledge.{Limits}
 use Rattle.ticks.proofs.Lists.{order, less, same, more}
@@ -17,8 +17,10 @@ use Rattle.tables.specs.MethodWords.{stride, most_rows}
 use Rattle.tables.specs.MethodPlan.{length_of}
 use Rattle.tables.specs.MethodPieces.{laid, page_pieces}
 use Rattle.sampling.specs.declared.Filled.{Filled}
-use Rattle.preparing.specs.declared.Prepared.{Prepared}
-use Rattle.preparing.specs.declared.Prepared.TheVariants as P
+use Rattle.std.specs.Prelude.{Result, Ok, Err}
+use Rattle.codec.specs.declared.Refusal.{Refusal}
+use Rattle.codec.specs.declared.Refusal.TheVariants.{BufferTooShort}
+use Rattle.codec.specs.Refusal.{number}
 use Rattle.codec.specs.MethodEnded.{End, end_of, Ended}
 use Rattle.preparing.specs.MethodPrepared.{few, Plan, plan_of, planned, written_end, finished}
 use Rattle.codec.proofs.Ended.{ended_refused}
@@ -52,14 +54,15 @@ module _ (out ids bounds t cols firsts numbers : List ℕ) where
     end_written u m l e f =
         ap₂ (λ v k. end_of v (A.Written k)) e f ∙ rw (le-ltb (length out) (length_of z) l, written_end)
 
-  pub finished_ready : (z : Sizes) (n : ℕ) (p : Prepared) (w : End) → w ≡ written_end out ids bounds t cols firsts numbers z n → p ≡ P.Ready z n
-      → w ≡ finished out ids bounds t cols firsts numbers p
+  pub finished_ready : (z : Sizes) (n : ℕ) (p : Result Sizes Refusal) (w : End) → w ≡ written_end out ids bounds t cols firsts numbers z n
+      → p ≡ Ok z → w ≡ finished out ids bounds t cols firsts numbers n p
   unfolding finished
-  finished_ready z n p w e f = e ∙ sym (ap (finished out ids bounds t cols firsts numbers) f)
+  finished_ready z n p w e f = e ∙ sym (ap (finished out ids bounds t cols firsts numbers n) f)
 
-  pub finished_refused : (n : ℕ) (p : Prepared) → p ≡ P.Refused n → end_of out (A.Refused n) ≡ finished out ids bounds t cols firsts numbers p
+  pub finished_refused : (n : ℕ) (e : Refusal) (p : Result Sizes Refusal) → p ≡ Err e
+      → end_of out (A.Refused (number e)) ≡ finished out ids bounds t cols firsts numbers n p
   unfolding finished
-  finished_refused n p f = sym (ap (finished out ids bounds t cols firsts numbers) f)
+  finished_refused n e p f = sym (ap (finished out ids bounds t cols firsts numbers n) f)
 
 -- and it is as the reply says
 module _ (reply : Reply) (out ids bounds t cols firsts numbers : List ℕ) where
@@ -80,17 +83,40 @@ module _ (reply : Reply) (out ids bounds t cols firsts numbers : List ℕ) where
           subst Fine (end_written out ids bounds t cols firsts numbers z n u (length_of z) l refl refl)
           (ended_written reply out ids bounds t cols firsts numbers z n h u (length_of z) refl l refl)
 
-  fine_finished : (p : Prepared) → Prepares reply ids bounds t cols firsts numbers p → Fine (finished out ids bounds t cols firsts numbers p)
+  fine_finished : (n : ℕ) (p : Result Sizes Refusal) → Prepares reply ids bounds t cols firsts numbers n p
+      → Fine (finished out ids bounds t cols firsts numbers n p)
   unfolding finished
-  fine_finished (P.Ready z n) h = fine_written z n h.is
-  fine_finished (P.Refused n) h = ended_refused reply out n h.is
+  fine_finished n (Ok z) h = fine_written z n h.is
+  fine_finished n (Err e) h = ended_refused reply out (number e) h.is
 
 -- the end after a plan
 module _ (L : Limits) (q : Filled) (out ids bounds t : List ℕ) where
-  pub end_planned : (c f x c' f' x' : List ℕ) (p : Prepared) (w : End) → plan_of c' f' x' p ≡ planned L q ids t c f x
-      → w ≡ finished out ids bounds t c' f' x' p → w ≡ planned_end (planned L q ids t c f x) out ids bounds t
+  pub end_planned : (c f x c' f' x' : List ℕ) (p : Result Sizes Refusal) (w : End) → plan_of c' f' x' p ≡ planned L q ids t c f x
+      → w ≡ finished out ids bounds t c' f' x' q.rows p → w ≡ planned_end (planned L q ids t c f x) q.rows out ids bounds t
   unfolding planned_end
-  end_planned c f x c' f' x' p w e g = g ∙ ap (λ y. planned_end y out ids bounds t) e
+  end_planned c f x c' f' x' p w e g = g ∙ ap (λ y. planned_end y q.rows out ids bounds t) e
+
+  -- for a plan that is refused, for one with no room in the buffer, and for one that is written
+  module _ (c f x c' f' x' : List ℕ) (p : Result Sizes Refusal) (made : plan_of c' f' x' p ≡ planned L q ids t c f x) where
+    abbrev Ends : List ℕ → Result ℕ Refusal → Type 0
+    Ends u r = end_of u (answer_of r) ≡ planned_end (planned L q ids t c f x) q.rows out ids bounds t
+
+    pub planned_refused : (e : Refusal) → p ≡ Err e → Ends out (Err e)
+    unfolding answer_of
+    planned_refused e g = end_planned c f x c' f' x' p _ made (finished_refused out ids bounds t c' f' x' q.rows e p g)
+
+    pub planned_short : (z : Sizes) → p ≡ Ok z → length out < length_of z → Ends out (Err BufferTooShort)
+    unfolding answer_of number
+    planned_short z g l =
+        end_planned c f x c' f' x' p _ made
+        (finished_ready out ids bounds t c' f' x' z q.rows p _ (end_short out ids bounds t c' f' x' z q.rows l) g)
+
+    pub planned_written : (z : Sizes) → p ≡ Ok z → (u : List ℕ) (m : ℕ) → length_of z ≤ length out
+        → u ≡ laid out 0 (page_pieces z ids bounds t q.rows c' f' x') → m ≡ length_of z → Ends u (Ok m)
+    unfolding answer_of
+    planned_written z g u m l e h =
+        end_planned c f x c' f' x' p _ made
+        (finished_ready out ids bounds t c' f' x' z q.rows p _ (end_written out ids bounds t c' f' x' z q.rows u m l e h) g)
 
   pub end_few : (w : End) → q.rows < few → w ≡ blank_end few L q out ids bounds t → w ≡ concluded L q out ids bounds t
   unfolding concluded
@@ -104,14 +130,14 @@ module _ (L : Limits) (q : Filled) (out ids bounds t : List ℕ) where
     abbrev Good : End → Type 0
     Good w = Ended reply out w.out w.answer
 
-    planned_good : (w : Plan) → Prepares reply ids bounds t w.cols w.firsts w.numbers w.prepared → Good (planned_end w out ids bounds t)
+    planned_good : (w : Plan) → Prepares reply ids bounds t w.cols w.firsts w.numbers q.rows w.prepared → Good (planned_end w q.rows out ids bounds t)
     unfolding planned_end
-    planned_good w h = fine_finished reply out ids bounds t w.cols w.firsts w.numbers w.prepared h
+    planned_good w h = fine_finished reply out ids bounds t w.cols w.firsts w.numbers q.rows w.prepared h
 
     -- what planning leaves is what the reply says, whichever lists of zeros were lent for it
     pub concluded_ended : (u : List ℕ) (a : Answer) → end_of u a ≡ concluded L q out ids bounds t
         → ((n : ℕ) → q.rows < n → let w = planned L q ids t (replicate stride 0) (replicate n 0) (replicate n 0) in
-        Prepares reply ids bounds t w.cols w.firsts w.numbers w.prepared) → q.rows < most_rows → Ended reply out u a
+        Prepares reply ids bounds t w.cols w.firsts w.numbers q.rows w.prepared) → q.rows < most_rows → Ended reply out u a
     concluded_ended u a e h l =
         elim (order q.rows few) [
           | less k ↦ subst Good (sym (e ∙ sym (end_few (blank_end few L q out ids bounds t) k refl))) (planned_good (plan few) (h few k))

@@ -8,7 +8,7 @@ use mathlib.Core.List.{List}
 use native.Mathlib.Omega.{arith}
 use lib.ListN.{replicate}
 use Rattle.codec.specs.Words.{words2}
-use Rattle.codec.specs.declared.Answer.{Answer}
+use Rattle.codec.specs.Answer.{Answer}
 use Rattle.layout.specs.Knowledge.{Limits, Rules, Knowledge, base}
 use Rattle.layout.specs.Permitted.{within, rules_within}
 use Rattle.layout.specs.Decode.{decode}

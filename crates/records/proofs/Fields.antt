@@ -16,9 +16,14 @@ use Rattle.codec.specs.Number.{Bytes, be_at}
 use Rattle.codec.specs.Part.{part}
 use Rattle.codec.specs.Total.{read_at}
 use Rattle.codec.specs.Words.{words2, words3}
-use Rattle.codec.proofs.Order.{words2_be, words3_be}
+use Rattle.codec.specs.Ids.{item_of, replica_of, item_read, replica_read}
+use Rattle.codec.specs.declared.Item.{Item}
+use Rattle.codec.specs.declared.Replica.{Replica}
+use Rattle.codec.proofs.Ids.{item_there, replica_there}
+use Rattle.codec.proofs.Order.{words2_be}
 use Rattle.codec.proofs.Reading.{be_one}
 use Rattle.codec.proofs.Total.{read_there, read_missing}
+use Rattle.leaves.proofs.Part.{part_at}
 use Rattle.replication.specs.Record.{Rec}
 use Rattle.replication.specs.Formats.{put_rec}
 use Rattle.replication.specs.Operate.{wins}
@@ -190,11 +195,14 @@ module _ (s : List ℕ) (at : ℕ) where
 
 -- a field as the code reads it: all of its bytes are there, or it is 0
 module _ (s : List ℕ) (at : ℕ) where
-  pub item_read_lem : (a b c : ℕ) → a ≡ be_at s 8 at → b ≡ be_at s 8 (at + 8) → c ≡ be_at s 8 (at + 16) → words3 a b c ≡ be_at s 24 at
-  item_read_lem a b c e f g = rw (e, f, g) (sym (words3_be s at))
+  pub item_part_there : at + 24 ≤ length s → (i : Item) → i ≡ item_read (take (at + 24 - at) (drop at s)) → item_of i ≡ be_at s 24 at
+  item_part_there h i e =
+      let id = take (at + 24 - at) (drop at s) in
+      let l : 24 ≤ length id = omega (arith, h, length-take (at + 24 - at) (drop at s), length-drop at s) in
+      ap item_of e ∙ item_there id l ∙ sym (read_there id 24 0 (omega (arith, l))) ∙ part_at s at 24 h
 
-  pub item_total : at + 24 ≤ length s → (i : ℕ) → i ≡ be_at s 24 at → i ≡ read_at s 24 at
-  item_total h i e = e ∙ sym (read_there s 24 at h)
+  pub item_part : at + 24 ≤ length s → (i : Item) → i ≡ item_read (take (at + 24 - at) (drop at s)) → item_of i ≡ read_at s 24 at
+  item_part h i e = item_part_there h i e ∙ sym (read_there s 24 at h)
 
   pub item_missing : length s < at + 24 → words3 0 0 0 ≡ read_at s 24 at
   unfolding words3
@@ -203,8 +211,13 @@ module _ (s : List ℕ) (at : ℕ) where
   pub pair_read : (a b : ℕ) → a ≡ be_at s 8 at → b ≡ be_at s 8 (at + 8) → words2 a b ≡ be_at s 16 at
   pair_read a b e f = ap₂ words2 e f ∙ sym (words2_be s at)
 
-  pub replica_total : at + 16 ≤ length s → (a b : ℕ) → a ≡ be_at s 8 at → b ≡ be_at s 8 (at + 8) → words2 a b ≡ read_at s 16 at
-  replica_total h a b e f = pair_read a b e f ∙ sym (read_there s 16 at h)
+  pub replica_part : at + 16 ≤ length s → (p : Replica) → p ≡ replica_read (take (at + 16 - at) (drop at s))
+      → replica_of p ≡ read_at s 16 at
+  replica_part h p e =
+      let id = take (at + 16 - at) (drop at s) in
+      let l : 16 ≤ length id = omega (arith, h, length-take (at + 16 - at) (drop at s), length-drop at s) in
+      ap replica_of e ∙ replica_there id l ∙ sym (read_there id 16 0 (omega (arith, l))) ∙ part_at s at 16 h
+      ∙ sym (read_there s 16 at h)
 
   pub replica_missing : length s < at + 16 → words2 0 0 ≡ read_at s 16 at
   unfolding words2

@@ -14,16 +14,16 @@ use Rattle.replication.specs.Reading.{item_place, rec_at}
 use Rattle.replication.specs.Queries.{places, place_of, length_at}
 use Rattle.replication.proofs.Tables.InBytes.{whole_at}
 use Rattle.replication.proofs.Tables.Walked.{place_end, place_found, place_on}
-use Rattle.records.specs.declared.Found.TheVariants as F
+use Rattle.std.specs.Prelude as R
 use Rattle.replication.specs.MethodRecords.{WholeAt}
 use Rattle.records.specs.Method.{found_place}
 use Rattle.records.proofs.Fields.{whole_past, length-ends, length_stands, length-behind, item_at}
 
-pub found_at_lem : (at : ℕ) → found_place (F.At at) ≡ some at
+pub found_at_lem : (at : ℕ) → found_place (R.Some at) ≡ some at
 unfolding found_place
 found_at_lem at = refl
 
-pub found_nothing : found_place F.Nothing ≡ none
+pub found_nothing : found_place R.None ≡ none
 unfolding found_place
 found_nothing = refl
 
@@ -39,15 +39,15 @@ pub length-inside : (s : List ℕ) (at n : ℕ) → n ≡ length_at s at → (n 
 length-inside s at n e z = omega (arith, length-behind s at n e z, (length-at s at n e z).inside)
 
 module _ (s : List ℕ) (i first at : ℕ) (inv : place_of s i (places s first) ≡ place_of s i (places s at)) where
-  pub search_past : length s ≤ at → found_place F.Nothing ≡ place_of s i (places s first)
+  pub search_past : length s ≤ at → found_place R.None ≡ place_of s i (places s first)
   search_past l = found_nothing ∙ sym (inv ∙ place_end s i at (whole_past s at l))
 
   module _ (n : ℕ) (e : n ≡ length_at s at) where
-    pub search_end : n ≡ 0 → found_place F.Nothing ≡ place_of s i (places s first)
+    pub search_end : n ≡ 0 → found_place R.None ≡ place_of s i (places s first)
     search_end z = found_nothing ∙ sym (inv ∙ place_end s i at (length-ends s at n e z))
 
     module _ (z : n ≡ 0 → ⊥) (r : Bool) (h : r ≡ eqb (rec_at s at).item i) where
-      pub search_found : r ≡ true → found_place (F.At at) ≡ place_of s i (places s first)
+      pub search_found : r ≡ true → found_place (R.Some at) ≡ place_of s i (places s first)
       search_found k =
           found_at_lem at ∙ sym (inv ∙ place_found s i at (length_stands s at n e z) (eqb-true (rec_at s at).item i (sym h ∙ k)))
 

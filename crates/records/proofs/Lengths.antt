@@ -49,5 +49,5 @@ module _ (s : List ℕ) (at left : ℕ) (room : at + common_length * left ≡ le
       pub left_whole : WholeAt s at
       left_whole = whole_at s at (length_stands s at m left-length z)
 
-      pub left_next : at + m + common_length * (left - 1) ≡ length s
-      left_next = omega (arith, left-length, length-size s at (length_stands s at m left-length z))
+      pub left-size : m ≡ common_length
+      left-size = omega (arith, left-length, length-size s at (length_stands s at m left-length z))

@@ -1,16 +1,16 @@
 -- The whole record at a place by its length and its bytes, the fields at a place by total reads, the answer of a search for an item's
 -- record as an option, and the lower bound that a pass over rising items keeps. There is nothing to believe here: where a whole
 -- record stands, the law `part_record` says that the part is the bytes of `rec_at`, and `read_whole` that the fields are those of `rec_at`.
-use Rattle.std.specs.Prelude.{ℕ, suc, ◌+◌, List, Bool, true, false, eqb}
+use Rattle.std.specs.Prelude.{ℕ, suc, ◌+◌, List, eqb}
+use Rattle.std.specs.Prelude as R
 use Rattle.codec.specs.Prelude.{Option, none, some}
 use Rattle.codec.specs.Part.{part}
 use Rattle.codec.specs.Total.{read_at}
-use Rattle.codec.specs.Words.{words3}
+use Rattle.codec.specs.Ids.{item_of}
+use Rattle.codec.specs.declared.Item.{Item}
 use Rattle.replication.specs.Record.{Rec}
 use Rattle.replication.specs.Queries.{length_at}
 use Rattle.replication.specs.Reading.{item_place, change_replica_place, change_tick_place, create_replica_place, create_tick_place, tag_place}
-use Rattle.records.specs.declared.Found.{Found}
-use Rattle.records.specs.declared.Found.TheVariants as F
 
 -- the length of a record of either kind, by the law `common-length`
 abbrev pub common_length : ℕ
@@ -33,11 +33,11 @@ read_rec s at =
     }
 
 -- the place that was found
-unfoldable pub found_place : Found → Option ℕ
-found_place (F.At at) = some at
-found_place F.Nothing = none
+unfoldable pub found_place : R.Option ℕ → Option ℕ
+found_place (R.Some at) = some at
+found_place R.None = none
 
--- the least item that may come next: any item where none came before, else the one above the last, which is given by its words
-unfoldable pub least : Bool → ℕ → ℕ → ℕ → ℕ
-least true i0 i1 i2 = suc (words3 i0 i1 i2)
-least false i0 i1 i2 = 0
+-- the least item that may come next: any item where none came before, else the one above the last
+unfoldable pub least : R.Option Item → ℕ
+least (R.Some last) = suc (item_of last)
+least R.None = 0

@@ -1,14 +1,12 @@
 // Records in the bytes of a store or batch: their lengths and fields, which of two records wins, the search for an item's record,
 // and the check of a table.
 //
-// Every public function is total and takes the whole bytes and a place in them. An item id is three words of 64 bits and a
-// replica id two, the highest first.
+// Every public function is total and takes the whole bytes and a place in them.
 #![tactic(auto)]
 
-ghost use Rattle.std.specs.Prelude.{◌≡◌, ◌+◌, ◌*◌, ◌≤◌, ◌<◌, eqb, leb, length, get_or};
-ghost use Rattle.codec.specs.Number.{be_at};
+ghost use Rattle.std.specs.Prelude.{◌≡◌, ◌+◌, ◌*◌, ◌^◌, ◌≤◌, ◌<◌, eqb, leb, length};
 ghost use Rattle.codec.specs.Total.{read_at};
-ghost use Rattle.codec.specs.Words.{words2, words3};
+ghost use Rattle.codec.specs.Ids.{InWords, item_of, replica_of};
 ghost use Rattle.replication.specs.Reading.{rec_length, behind, rec_at, tag_kept, valid_rec};
 ghost use Rattle.replication.specs.Reading.{item_place, change_replica_place, change_tick_place, create_replica_place, create_tick_place, tag_place};
 ghost use Rattle.replication.specs.Queries.{places, place_of, length_at};
@@ -34,35 +32,12 @@ const TAG: usize = 73;
 // the place behind it, counted so too: the length of a record of either kind
 const END: usize = 89;
 
+// the kinds of records, as their first byte has them
+pub const LIVE: u64 = 1;
+
+pub const TOMBSTONE: u64 = 2;
+
 const LARGEST_TICK: u64 = 9223372036854775807;
-
-// Where an item's record stands.
-#[derive(Clone, Copy)]
-pub enum Found {
-    // the place of the record
-    At(usize),
-    // the item has none
-    Nothing,
-}
-
-// ---- bytes that are there
-
-fn one(s: &[u8], at: usize) -> u64
-    requires { at < length s.now }
-    ensures { (result ≡ get_or s.now at 0) × (result < 256) }
-{
-    s[at] as u64
-}
-
-fn item_there(s: &[u8], at: usize) -> Item
-    requires { at + 24 ≤ length s.now }
-    ensures { words3 result.high result.middle result.low ≡ be_at s.now 24 at }
-{
-    let high = leaves::eight(&s[at..at + 8]);
-    let middle = leaves::eight(&s[at + 8..at + 8 + 8]);
-    let low = leaves::eight(&s[at + 16..at + 16 + 8]);
-    Item { high, middle, low }
-}
 
 // ---- one record
 
@@ -70,24 +45,21 @@ fn item_there(s: &[u8], at: usize) -> Item
 pub fn record_length(kind: u64) -> usize
     ensures { result ≡ rec_length kind }
 {
-    if kind == 1 {
-        return END;
+    match kind {
+        LIVE => END,
+        TOMBSTONE => END,
+        _ => 0,
     }
-    if kind == 2 {
-        return END;
-    }
-    0
 }
 
 // The length of the whole record of a known kind at a place, 0 where none stands there.
 pub fn length_at(s: &[u8], at: usize) -> usize
     ensures { result ≡ length_at s.now at }
 {
-    if s.len() <= at {
+    let Some(kind) = s.get(at) else {
         return 0;
-    }
-    let kind = one(s, at);
-    let n = record_length(kind);
+    };
+    let n = record_length(u64::from(*kind));
     if s.len() - at < n {
         return 0;
     }
@@ -101,9 +73,7 @@ pub fn behind(s: &[u8], at: usize) -> usize
     if s.len() <= at {
         return at;
     }
-    let kind = one(s, at);
-    let n = record_length(kind);
-    at + n
+    at + record_length(u64::from(s[at]))
 }
 
 // ---- the fields of the record at a place; a field of which a byte is missing is 0
@@ -111,14 +81,13 @@ pub fn behind(s: &[u8], at: usize) -> usize
 // The replica id that begins so many bytes behind a place.
 fn replica_at(s: &[u8], at: usize, from: usize) -> Replica
     requires { from ≤ tag_place }
-    ensures { words2 result.high result.low ≡ read_at s.now 16 (at + from) }
+    ensures value { replica_of result ≡ read_at s.now 16 (at + from) }
+    ensures low_bound { result.low < 2 ^ 64 }
 {
     if codec::beyond(s.len(), at, from + 16) {
         return Replica { high: 0, low: 0 };
     }
-    let high = leaves::eight(&s[at + from..at + from + 8]);
-    let low = leaves::eight(&s[at + from + 8..at + from + 8 + 8]);
-    Replica { high, low }
+    Replica::from_bytes(&s[at + from..at + from + 16])
 }
 
 // The tick that begins so many bytes behind a place.
@@ -129,12 +98,13 @@ fn tick_at(s: &[u8], at: usize, from: usize) -> u64
     if codec::beyond(s.len(), at, from + 8) {
         return 0;
     }
-    leaves::eight(&s[at + from..at + from + 8])
+    leaves::first::<8>(&s[at + from..at + from + 8])
 }
 
 // The item.
 pub fn item_of(s: &[u8], at: usize) -> Item
-    ensures { words3 result.high result.middle result.low ≡ read_at s.now 24 (at + item_place) }
+    ensures value { item_of result ≡ read_at s.now 24 (at + item_place) }
+    ensures in_words { InWords result }
 {
     if codec::beyond(s.len(), at, ITEM_PLACE + 24) {
         return Item {
@@ -143,12 +113,13 @@ pub fn item_of(s: &[u8], at: usize) -> Item
             low: 0,
         };
     }
-    item_there(s, at + ITEM_PLACE)
+    Item::from_bytes(&s[at + ITEM_PLACE..at + ITEM_PLACE + 24])
 }
 
 // The replica and the tick of the change version.
 pub fn change_replica(s: &[u8], at: usize) -> Replica
-    ensures { words2 result.high result.low ≡ read_at s.now 16 (at + change_replica_place) }
+    ensures value { replica_of result ≡ read_at s.now 16 (at + change_replica_place) }
+    ensures low_bound { result.low < 2 ^ 64 }
 {
     replica_at(s, at, CHANGE_REPLICA_PLACE)
 }
@@ -161,7 +132,7 @@ pub fn change_tick(s: &[u8], at: usize) -> u64
 
 // The replica and the tick of the create version.
 pub fn create_replica(s: &[u8], at: usize) -> Replica
-    ensures { words2 result.high result.low ≡ read_at s.now 16 (at + create_replica_place) }
+    ensures { replica_of result ≡ read_at s.now 16 (at + create_replica_place) }
 {
     replica_at(s, at, CREATE_REPLICA_PLACE)
 }
@@ -176,8 +147,7 @@ pub fn create_tick(s: &[u8], at: usize) -> u64
 pub fn tombstone(s: &[u8], at: usize) -> bool
     ensures { result ≡ (rec_at s.now at).content.deleted }
 {
-    let kind = codec::read1(s, at);
-    kind == 2
+    codec::read::<1>(s, at) == TOMBSTONE
 }
 
 // ---- which of two records wins
@@ -190,40 +160,38 @@ pub fn wins(s: &[u8], a: usize, t: &[u8], b: usize) -> bool
     let mine = change_tick(s, a);
     let theirs = change_tick(t, b);
     if mine == theirs {
-        let p = change_replica(s, a);
-        let q = change_replica(t, b);
-        return codec::less2(p.high, p.low, q.high, q.low);
+        return change_replica(s, a) < change_replica(t, b);
     }
     mine < theirs
 }
 
 // ---- the search for an item
 
-// Is the item of the whole record at a place the one of the given words.
-fn has_item(s: &[u8], at: usize, i0: u64, i1: u64, i2: u64) -> bool
+// Is the item of the whole record at a place the given one.
+fn has_item(s: &[u8], at: usize, item: Item) -> bool
     requires { WholeAt s.now at }
-    ensures { result ≡ eqb (rec_at s.now at).item (words3 i0 i1 i2) }
+    ensures { result ≡ eqb (rec_at s.now at).item (item_of item) }
 {
-    let i = item_there(s, at + ITEM_PLACE);
-    codec::same3(i.high, i.middle, i.low, i0, i1, i2)
+    Item::from_bytes(&s[at + ITEM_PLACE..at + ITEM_PLACE + 24]) == item
 }
 
 // The place of the item's record among those that a walker goes through from a place on.
-pub fn place_of(s: &[u8], at: usize, i0: u64, i1: u64, i2: u64) -> Found
-    ensures { found_place result ≡ place_of s.now (words3 i0 i1 i2) (places s.now at) }
+pub fn place_of(s: &[u8], at: usize, item: Item) -> Option<usize>
+    ensures { found_place result ≡ place_of s.now (item_of item) (places s.now at) }
 {
     let mut p = at;
+    // a while: the place moves by the length that is read
     while p < s.len() {
         let n = length_at(s, p);
         if n == 0 {
-            return Found::Nothing;
+            return None;
         }
-        if has_item(s, p, i0, i1, i2) {
-            return Found::At(p);
+        if has_item(s, p, item) {
+            return Some(p);
         }
         p += n;
     }
-    Found::Nothing
+    None
 }
 
 // ---- the check of a table
@@ -233,13 +201,12 @@ fn tag_kept(s: &[u8], at: usize) -> bool
     requires { WholeAt s.now at }
     ensures { result ≡ tag_kept (rec_at s.now at).content }
 {
-    let kind = one(s, at);
-    if kind == 2 {
-        let t0 = leaves::eight(&s[at + TAG..at + TAG + 8]);
-        let t1 = leaves::eight(&s[at + TAG + 8..at + TAG + 8 + 8]);
-        return codec::same2(t0, t1, 0, 0);
+    if u64::from(s[at]) != TOMBSTONE {
+        return true;
     }
-    true
+    let t0 = leaves::first::<8>(&s[at + TAG..at + TAG + 8]);
+    let t1 = leaves::first::<8>(&s[at + TAG + 8..at + TAG + 8 + 8]);
+    t0 == 0 && t1 == 0
 }
 
 // Is the whole record at a place valid.
@@ -247,8 +214,8 @@ fn valid(s: &[u8], at: usize) -> bool
     requires { WholeAt s.now at }
     ensures { result ≡ valid_rec (rec_at s.now at) }
 {
-    let create = leaves::eight(&s[at + CREATE_TICK_PLACE..at + CREATE_TICK_PLACE + 8]);
-    let change = leaves::eight(&s[at + CHANGE_TICK_PLACE..at + CHANGE_TICK_PLACE + 8]);
+    let create = leaves::first::<8>(&s[at + CREATE_TICK_PLACE..at + CREATE_TICK_PLACE + 8]);
+    let change = leaves::first::<8>(&s[at + CHANGE_TICK_PLACE..at + CHANGE_TICK_PLACE + 8]);
     if create < 1 {
         return false;
     }
@@ -262,13 +229,13 @@ fn valid(s: &[u8], at: usize) -> bool
 }
 
 // May an item come next: any item where none came before, else one above the last.
-fn rises(any: bool, l0: u64, l1: u64, l2: u64, i0: u64, i1: u64, i2: u64) -> bool
-    ensures { result ≡ leb (least any l0 l1 l2) (words3 i0 i1 i2) }
+fn rises(last: Option<Item>, i: Item) -> bool
+    ensures { result ≡ leb (least last) (item_of i) }
 {
-    if any {
-        return codec::less3(l0, l1, l2, i0, i1, i2);
+    match last {
+        Some(l) => l < i,
+        None => true,
     }
-    true
 }
 
 // Are the n records that take all bytes from a place on of known kinds, valid and strictly rising by item. Each is whole: the length of
@@ -277,31 +244,21 @@ fn in_order(s: &[u8], n: u32, at: usize) -> bool
     requires { at + common_length * n ≡ length s.now }
     ensures { result ≡ shaped_at s.now 0 n at }
 {
-    let mut any = false;
-    let mut l0: u64 = 0;
-    let mut l1: u64 = 0;
-    let mut l2: u64 = 0;
-    let mut left = n;
-    let mut p = at;
-    while 0 < left {
-        let kind = one(s, p);
-        let k = record_length(kind);
-        if k == 0 {
+    let mut last: Option<Item> = None;
+    for k in 0..n {
+        let p = at + END * (k as usize);
+        let size = record_length(u64::from(s[p]));
+        if size == 0 {
             return false;
         }
-        let i = item_there(s, p + ITEM_PLACE);
-        if !rises(any, l0, l1, l2, i.high, i.middle, i.low) {
+        let i = Item::from_bytes(&s[p + ITEM_PLACE..p + ITEM_PLACE + 24]);
+        if !rises(last, i) {
             return false;
         }
         if !valid(s, p) {
             return false;
         }
-        any = true;
-        l0 = i.high;
-        l1 = i.middle;
-        l2 = i.low;
-        p += k;
-        left -= 1;
+        last = Some(i);
     }
     true
 }

@@ -2,14 +2,13 @@
 -- the first address on. So of records that follow each other the bytes of all may be written once, where there is room for all of them.
 use Prim.Native.Nat.{ℕ, ◌+◌, ◌-◌, ◌≤◌, ◌<◌}
 use mathlib.Core.Path.{◌≡◌, refl, sym, ap, ap₂, ◌∙◌}
-use mathlib.Core.Logic.{◌⊎◌, ⊎_elim}
 use mathlib.Core.Bool.{Bool, true, false}
 use mathlib.Core.List.{List, [], ◌∷◌, ◌++◌}
 use native.Mathlib.Omega.{arith}
 use native.Mathlib.Numerals.{add-one}
 use lib.Dec.{leb}
 use lib.ListN.{length, take, drop, get_or, length-append, drop_of_length-le}
-use lib.Seq.{drop-cons, drop-drop, take-add, take_all}
+use lib.Seq.{drop-cons, drop-drop, take-add}
 use borrow.Author.Tests.{le-leb, lt-leb, leb-true, leb-false}
 use Rattle.codec.specs.Part.{placed, part}
 use Rattle.codec.proofs.Writing.{placed_out, placed-length, placed-append, nothing}
@@ -210,11 +209,3 @@ module _ (s t chosen d : List ℕ) (at : ℕ) where
 pub copied_empty : (s t d : List ℕ) (at : ℕ) (l : List ℕ) → length l ≡ 0 → d ≡ copied s t d at l
 copied_empty s t d at [] h = sym (copied_none s t d at)
 copied_empty s t d at (x ∷ l) h = absurd (omega arith)
-
--- the first n of a list, or all of it where it has fewer
-pub first_copied : (s t d : List ℕ) (at : ℕ) (l : List ℕ) (n e : ℕ) → (e ≡ n) ⊎ ((length l < n) × (e ≡ length l))
-    → copied s t d at (take (e - 0) (drop 0 l)) ≡ copied s t d at (take n l)
-first_copied s t d at l n e h =
-    ap (copied s t d at) (⊎_elim {C = take (e - 0) l ≡ take n l}
-    (λ f. let z : e - 0 ≡ n = omega arith in ap (λ (k : ℕ). take k l) z)
-    (λ w. let z : length l ≤ e - 0 = omega arith in let o : length l ≤ n = omega arith in take_all (e - 0) l z ∙ sym (take_all n l o)) h)

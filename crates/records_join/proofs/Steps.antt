@@ -4,13 +4,13 @@
 use Prim.Native.Nat.{ℕ, ◌+◌, ◌-◌, ◌≤◌, ◌<◌}
 use mathlib.Core.Path.{◌≡◌, refl, sym, ap, ap₂, ◌∙◌}
 use mathlib.Core.Bool.{Bool, true, false}
-use mathlib.Core.List.{List, ◌∷◌}
+use mathlib.Core.List.{List, [], ◌∷◌}
 use native.Mathlib.Omega.{arith}
 use native.Mathlib.Numerals.{add-one}
-use lib.Dec.{eqb, ltb}
+use lib.Dec.{ltb}
 use lib.ListN.{length, set}
-use lib.Seq.{sets, set_out}
-use borrow.Author.Tests.{ltb-true, ltb-false, eqb-true, eqb-false}
+use lib.Seq.{sets}
+use borrow.Author.Tests.{ltb-true, ltb-false}
 use Rattle.codec.specs.Total.{read_at}
 use Rattle.replication.specs.Reading.{behind, item_place, rec_at, whole}
 use Rattle.replication.specs.Operate.{wins}
@@ -35,9 +35,9 @@ module _ (s : List ℕ) (a m : ℕ) (t : List ℕ) (b n : ℕ) (e : m ≡ length
       let l : a + m ≤ length s = length-inside s a m e z in
       let k : a < length s = (length-at s a m e z).first in
       record {
-        ends = λ y. absurd (z y);
-        next = λ y. h ∙ ap (λ (c : ℕ). a ∷ join_at s c t b) (sym (length-behind s a m e z));
-        sized = λ y. e ∙ sym (at_first length_at s t a k);
+        next = h ∙ ap (λ (c : ℕ). a ∷ join_at s c t b) (sym (length-behind s a m e z));
+        sized = e ∙ sym (at_first length_at s t a k);
+        some = omega (arith, z);
         left = omega arith;
       }
 
@@ -46,19 +46,14 @@ module _ (s : List ℕ) (a m : ℕ) (t : List ℕ) (b n : ℕ) (e : m ≡ length
   passes_second z h =
       let l : b + n ≤ length t = length-inside t b n f z in
       record {
-        ends = λ y. absurd (z y);
-        next = λ y. h ∙ ap (λ (c : ℕ). (length s + b) ∷ join_at s a t c) (sym (length-behind t b n f z));
-        sized = λ y. f ∙ sym (at_second length_at s t b);
+        next = h ∙ ap (λ (c : ℕ). (length s + b) ∷ join_at s a t c) (sym (length-behind t b n f z));
+        sized = f ∙ sym (at_second length_at s t b);
+        some = omega (arith, z);
         left = omega arith;
       }
 
-  pub steps_none : m ≡ 0 → n ≡ 0 → Steps s a t b (record { chosen = 0; size = 0; first = a; second = b })
-  steps_none y z = record {
-    ends = λ x. step_end s a t b (length-ends s a m e y) (length-ends t b n f z);
-    next = λ x. absurd (x refl);
-    sized = λ x. absurd (x refl);
-    left = omega arith;
-  }
+  pub steps_none : m ≡ 0 → n ≡ 0 → join_at s a t b ≡ []
+  steps_none y z = step_end s a t b (length-ends s a m e y) (length-ends t b n f z)
 
   pub steps_first : (m ≡ 0 → ⊥) → n ≡ 0 → Steps s a t b (record { chosen = a; size = m; first = a + m; second = b })
   steps_first y z = passes_first y (step_first s a t b (length_stands s a m e y) (length-ends t b n f z))
@@ -85,17 +80,16 @@ module _ (s : List ℕ) (a m : ℕ) (t : List ℕ) (b n : ℕ) (e : m ≡ length
         let l = ltb-true i j (sym p ∙ q) in
         passes_first (none_of m y) (step_left s a t b u v (omega (arith, l, mine, theirs)))
 
-    module _ (w : Bool) (p : w ≡ ltb i j) (q : w ≡ false) (k : Bool) (o : k ≡ eqb i j) where
-      pub steps_right : k ≡ false → Steps s a t b (record { chosen = length s + b; size = n; first = a; second = b + n })
+    module _ (w : Bool) (p : w ≡ ltb i j) (q : w ≡ false) (k : Bool) (o : k ≡ ltb j i) where
+      pub steps_right : k ≡ true → Steps s a t b (record { chosen = length s + b; size = n; first = a; second = b + n })
       steps_right r =
-          let l = ltb-false i j (sym p ∙ q) in
-          let x : i ≡ j → ⊥ = eqb-false i j (sym o ∙ r) in
-          passes_second (none_of n z) (step_right s a t b u v (omega (arith, l, x, mine, theirs)))
+          let l = ltb-true j i (sym o ∙ r) in
+          passes_second (none_of n z) (step_right s a t b u v (omega (arith, l, mine, theirs)))
 
-      module _ (r : k ≡ true) (x : Bool) (won : x ≡ wins (read_rec s a) (read_rec t b)) where
+      module _ (r : k ≡ false) (x : Bool) (won : x ≡ wins (read_rec s a) (read_rec t b)) where
         both : join_at s a t b ≡ winner_from s a t b ∷ join_at s (a + m) t (b + n)
         both =
-            step_same s a t b u v (omega (arith, eqb-true i j (sym o ∙ r), mine, theirs))
+            step_same s a t b u v (omega (arith, ltb-false i j (sym p ∙ q), ltb-false j i (sym o ∙ r), mine, theirs))
             ∙ ap₂ {C = List ℕ} (λ (c d : ℕ). winner_from s a t b ∷ join_at s c t d) (sym (length-behind s a m e (none_of m y)))
             (sym (length-behind t b n f (none_of n z)))
 
@@ -113,9 +107,9 @@ module _ (s : List ℕ) (a m : ℕ) (t : List ℕ) (b n : ℕ) (e : m ≡ length
             let k : a + m ≤ length s = first_left in
             let l : b + n ≤ length t = second_left in
             record {
-              ends = λ d. absurd (none_of n z d);
-              next = λ d. both ∙ ap (λ (w : ℕ). w ∷ join_at s (a + m) t (b + n)) (winner_theirs s t a b (sym won_whole ∙ c));
-              sized = λ d. f ∙ sym (at_second length_at s t b);
+              next = both ∙ ap (λ (w : ℕ). w ∷ join_at s (a + m) t (b + n)) (winner_theirs s t a b (sym won_whole ∙ c));
+              sized = f ∙ sym (at_second length_at s t b);
+              some = z;
               left = omega arith;
             }
 
@@ -125,16 +119,13 @@ module _ (s : List ℕ) (a m : ℕ) (t : List ℕ) (b n : ℕ) (e : m ≡ length
             let l : b + n ≤ length t = second_left in
             let i : a < length s = (length-at s a m e (none_of m y)).first in
             record {
-              ends = λ d. absurd (none_of m y d);
-              next = λ d. both ∙ ap (λ (w : ℕ). w ∷ join_at s (a + m) t (b + n)) (winner_mine s t a b (sym won_whole ∙ c));
-              sized = λ d. e ∙ sym (at_first length_at s t a i);
+              next = both ∙ ap (λ (w : ℕ). w ∷ join_at s (a + m) t (b + n)) (winner_mine s t a b (sym won_whole ∙ c));
+              sized = e ∙ sym (at_first length_at s t a i);
+              some = y;
               left = omega arith;
             }
 
 -- ---- the loop
-
-pub put_past : (l : List ℕ) (i x : ℕ) → length l ≤ i → l ≡ set l i x
-put_past l i x h = sym (set_out l i x h)
 
 -- what is counted and stored, and the places from which the rest is joined
 pub record Joining (s : List ℕ) (a : ℕ) (t : List ℕ) (b : ℕ) (d : List ℕ) (x y count size : ℕ) (p : List ℕ) : Type 0 where
@@ -148,35 +139,33 @@ module _ (s : List ℕ) (a : ℕ) (t : List ℕ) (b : ℕ) (d : List ℕ) where
   pub joining_all : Joining s a t b d a b 0 0 d
   joining_all = record { counted = omega arith; sized = omega arith; stored = refl; few = omega arith; left = omega arith }
 
-  module _ (x y count size : ℕ) (p : List ℕ) (i : Joining s a t b d x y count size p) (r : Step) (h : Steps s x t y r) where
-    module _ (z : r.size ≡ 0) where
+  module _ (x y count size : ℕ) (p : List ℕ) (i : Joining s a t b d x y count size p) where
+    module _ (z : join_at s x t y ≡ []) where
       pub count_end : count ≡ length (join_at s a t b)
-      count_end = omega (arith, i.counted, ap length (h.ends z))
+      count_end = omega (arith, i.counted, ap length z)
 
       pub size_end : size ≡ size_from s t (join_at s a t b)
-      size_end = omega (arith, i.sized, ap (size_from s t) (h.ends z) ∙ size_none s t)
+      size_end = omega (arith, i.sized, ap (size_from s t) z ∙ size_none s t)
 
       pub chosen_end : p ≡ fronted d (join_at s a t b)
-      chosen_end = sym (sym (fronted-sets d (join_at s a t b)) ∙ (i.stored ∙ ap (sets p count) (h.ends z)))
+      chosen_end = sym (sym (fronted-sets d (join_at s a t b)) ∙ (i.stored ∙ ap (sets p count) z))
 
-    pub joining_more : (r.size ≡ 0 → ⊥) → (q : List ℕ) → q ≡ set p count r.chosen
-        → Joining s a t b d r.first r.second (count + 1) (size + r.size) q
-    joining_more z q e =
-        let k = h.next z in
-        record {
-          counted = omega (arith, i.counted, ap length k);
-          sized = omega (arith, i.sized, ap (size_from s t) k ∙ size_more s t r.chosen (join_at s r.first t r.second), h.sized z);
-          stored =
-              i.stored
-              ∙ (ap (sets p count) k
-              ∙ ap₂ {C = List ℕ} (λ (l : List ℕ) (c : ℕ). sets l c (join_at s r.first t r.second)) (sym e) (sym (add-one count)));
-          few = omega (arith, i.few, z);
-          left = omega (arith, i.left, h.left);
-        }
+    module _ (r : Step) (h : Steps s x t y r) where
+      pub joining_more : (q : List ℕ) → q ≡ set p count r.chosen → Joining s a t b d r.first r.second (count + 1) (size + r.size) q
+      joining_more q e = record {
+        counted = omega (arith, i.counted, ap length h.next);
+        sized = omega (arith, i.sized, ap (size_from s t) h.next ∙ size_more s t r.chosen (join_at s r.first t r.second), h.sized);
+        stored =
+            i.stored
+            ∙ (ap (sets p count) h.next
+            ∙ ap₂ {C = List ℕ} (λ (l : List ℕ) (c : ℕ). sets l c (join_at s r.first t r.second)) (sym e) (sym (add-one count)));
+        few = omega (arith, i.few, h.some);
+        left = omega (arith, i.left, h.left);
+      }
 
-    -- what the code needs for its sums, and that fewer bytes are left
-    pub joining_room : (size + r.size ≤ length s + length t) × (count ≤ size)
-    joining_room = (omega (arith, i.left, h.left), i.few)
+      -- what the code needs for its sums, and that fewer bytes are left
+      pub joining_room : (size + r.size ≤ length s + length t) × (count ≤ size)
+      joining_room = (omega (arith, i.left, h.left), i.few)
 
-    pub joining_less : (r.size ≡ 0 → ⊥) → (length s - r.first) + (length t - r.second) < (length s - x) + (length t - y)
-    joining_less z = omega (arith, h.left, z)
+      pub joining_less : (length s - r.first) + (length t - r.second) < (length s - x) + (length t - y)
+      joining_less = omega (arith, h.left, h.some)

@@ -1,7 +1,7 @@
 -- A record written field by field. Each part is written where the one before it ended, so that with room for all what is written is the
 -- record's bytes, which are those of its fields one after the other. Read again, an array of one record so written is the table of that
 -- record; so an edit is the join of a store's table with such an array.
-use Prim.Native.Nat.{ℕ, ◌+◌, ◌≤◌, ◌<◌}
+use Prim.Native.Nat.{ℕ, ◌+◌, ◌^◌, ◌≤◌, ◌<◌}
 use mathlib.Core.Path.{◌≡◌, sym, ap, ◌∙◌}
 use mathlib.Core.Bool.{true, false}
 use mathlib.Core.List.{List, [], ◌∷◌, ◌++◌, append-nil}
@@ -14,7 +14,7 @@ use Rattle.codec.specs.MethodWritten.{Wrote}
 use Rattle.codec.specs.Part.{placed, bytes}
 use Rattle.codec.specs.Words.{words2}
 use Rattle.codec.proofs.Writing.{placed_in, placed_out}
-use Rattle.codec.proofs.Written.{wrote_number, wrote_then, wrote_to, wrote_all}
+use Rattle.codec.proofs.Written.{wrote_number, wrote_then, wrote_to, wrote_all, pair_wrote}
 use Rattle.layout.proofs.Runs.{run_puts}
 use Rattle.layout.proofs.Chain.{stands_whole}
 use Rattle.replication.specs.Record.{Rec}
@@ -53,16 +53,16 @@ module _ (w : RecordWords) where
   pub record_wrote : (d e f g u : List ℕ) (at k : ℕ) → at + rec_size ≤ length d → k ≡ kind_of (record_of w).content
       → e ≡ placed d at (bytes 1 k) → f ≡ placed e (at + 1) (bytes 24 (item_of w.item))
       → Wrote f (at + 25) (put_versions w.change w.create) g (at + 25 + 48)
-      → u ≡ placed g (at + 73) (bytes 16 (words2 w.tag.high w.tag.low))
+      → (h : List ℕ) → h ≡ placed g (at + 73) (bytes 8 w.tag.high) → w.tag.low < 2 ^ 64 → u ≡ placed h (at + 81) (bytes 8 w.tag.low)
       → u ≡ placed d at (put_rec (record_of w) [])
   unfolding record_of put_rec rec_fields
-  record_wrote d e f g u at k room kind a b c y =
+  record_wrote d e f g u at k room kind a b c h x low y =
       let first = a ∙ ap (λ (x : ℕ). placed d at (bytes 1 x)) kind in
       let fields = run_puts (rec_fields (record_of w)) [] in
       wrote_all
       (wrote_then (wrote_number d e at 1 (kind_of (record_of w).content) first)
       (wrote_then (wrote_to (omega arith) (wrote_number e f (at + 1) 24 (item_of w.item) b))
-      (wrote_then (wrote_to (omega arith) c) (wrote_number g u (at + 73) 16 (words2 w.tag.high w.tag.low) y))))
+      (wrote_then (wrote_to (omega arith) c) (pair_wrote g h u (at + 73) w.tag.high w.tag.low low x (y ∙ ap (λ (p : ℕ). placed h p (bytes 8 w.tag.low)) (omega arith))))))
       (omega (arith, room))
       ∙ ap (placed d at) (sym fields)
 

@@ -1,7 +1,7 @@
 -- Two tables of records joined by addresses. An address is a place of the store's bytes s or, from the length of s on, a place of the
 -- other bytes t, counted from there. There is nothing to believe here: the laws `joined_table`, `joined_count`, `joined_size` and
 -- `joined_copied` say what these are in the terms of `replication`.
-use Rattle.std.specs.Prelude.{ℕ, ◌+◌, ◌-◌, true, false, ◌≤◌, ◌≡◌, List, [], ◌∷◌, ◌++◌, ltb, length, take, drop}
+use Rattle.std.specs.Prelude.{ℕ, ◌+◌, ◌-◌, true, false, ◌≤◌, ◌<◌, ◌≡◌, List, [], ◌∷◌, ◌++◌, ltb, length, take, drop}
 use Rattle.codec.specs.Part.{placed, part}
 use Rattle.replication.specs.Record.{Rec}
 use Rattle.replication.specs.Reading.{rec_at}
@@ -57,12 +57,12 @@ join_places s t (a ∷ us) vs = join_on s t a us (join_places s t us) vs
 unfoldable pub join_at : List ℕ → ℕ → List ℕ → ℕ → List ℕ
 join_at s a t b = join_places s t (places s a) (places t b)
 
--- what a step of the join comes to: the end of both tables, or the next address with the length of its record, and the places from
+-- what a step of the join comes to where a record is left: the next address with the length of its record, and the places from
 -- which the rest is joined; and it takes the bytes that it passes
 pub record Steps (s : List ℕ) (a : ℕ) (t : List ℕ) (b : ℕ) (r : Step) : Type 0 where
-  pub ends : r.size ≡ 0 → join_at s a t b ≡ []
-  pub next : (r.size ≡ 0 → ⊥) → join_at s a t b ≡ r.chosen ∷ join_at s r.first t r.second
-  pub sized : (r.size ≡ 0 → ⊥) → r.size ≡ at_address length_at s t r.chosen
+  pub next : join_at s a t b ≡ r.chosen ∷ join_at s r.first t r.second
+  pub sized : r.size ≡ at_address length_at s t r.chosen
+  pub some : 0 < r.size
   pub left : r.size + ((length s - r.first) + (length t - r.second)) ≤ (length s - a) + (length t - b)
 
 -- ---- what is written

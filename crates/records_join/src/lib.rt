@@ -5,7 +5,7 @@
 // or, from their length on, a place of the second. Every public function is total: what has no room is not written.
 #![tactic(auto)]
 
-ghost use Rattle.std.specs.Prelude.{◌≡◌, true, [], ◌+◌, ◌^◌, ◌≤◌, ◌<◌, length, take, set};
+ghost use Rattle.std.specs.Prelude.{◌≡◌, true, [], ◌+◌, ◌^◌, ◌≤◌, ◌<◌, length, take, set, MatchOption};
 ghost use Rattle.codec.specs.Part.{placed};
 ghost use Rattle.replication.specs.Formats.{kind_of, put_rec};
 ghost use Rattle.replication.specs.Queries.{length_at};
@@ -49,8 +49,7 @@ pub struct Extent {
     pub length: usize,
 }
 
-// What a step of the join comes to: the address chosen next, the length of the record there, 0 at the end of both tables, and the
-// places behind what is passed.
+// A step of the join: the address chosen next, the length of the record there, and the places behind what is passed.
 #[derive(Clone, Copy)]
 struct Step {
     chosen: usize,
@@ -69,7 +68,7 @@ fn merge_step_both(s: &[u8], a: usize, m: usize, t: &[u8], b: usize, n: usize) -
 {
     let x = records::item_of(s, a);
     let y = records::item_of(t, b);
-    if codec::less3(x.high, x.middle, x.low, y.high, y.middle, y.low) {
+    if x < y {
         return Step {
             chosen: a,
             size: m,
@@ -77,7 +76,7 @@ fn merge_step_both(s: &[u8], a: usize, m: usize, t: &[u8], b: usize, n: usize) -
             second: b,
         };
     }
-    if !codec::same3(x.high, x.middle, x.low, y.high, y.middle, y.low) {
+    if y < x {
         return Step {
             chosen: s.len() + b,
             size: n,
@@ -101,47 +100,41 @@ fn merge_step_both(s: &[u8], a: usize, m: usize, t: &[u8], b: usize, n: usize) -
     }
 }
 
-// The next step, also where one table has ended, or both.
-fn merge_step(s: &[u8], a: usize, t: &[u8], b: usize) -> Step
-    ensures { Steps s.now a t.now b result }
+// The next step, also where one table has ended; none at the end of both.
+fn merge_step(s: &[u8], a: usize, t: &[u8], b: usize) -> Option<Step>
+    ensures { MatchOption result (join_at s.now a t.now b ≡ []) (λ r. Steps s.now a t.now b r) }
 {
     let m = records::length_at(s, a);
     let n = records::length_at(t, b);
     if n == 0 {
         if m == 0 {
-            return Step {
-                chosen: 0,
-                size: 0,
-                first: a,
-                second: b,
-            };
+            return None;
         }
-        return Step {
+        return Some(Step {
             chosen: a,
             size: m,
             first: a + m,
             second: b,
-        };
+        });
     }
     if m == 0 {
-        return Step {
+        return Some(Step {
             chosen: s.len() + b,
             size: n,
             first: a,
             second: b + n,
-        };
+        });
     }
-    merge_step_both(s, a, m, t, b, n)
+    Some(merge_step_both(s, a, m, t, b, n))
 }
 
 // A number of a list, where it has the place.
 pub fn put(l: &mut [usize], i: usize, x: usize)
     ensures { l.new ≡ set l.old i x }
 {
-    if l.len() <= i {
-        return;
+    if i < l.len() {
+        l[i] = x;
     }
-    l[i] = x;
 }
 
 // The addresses of the records of the joined tables, into the front of `chosen`, as many as it has room for; how many records
@@ -155,19 +148,16 @@ pub fn join(s: &[u8], a: usize, t: &[u8], b: usize, chosen: &mut [usize]) -> Ext
     let mut size: usize = 0;
     let mut x = a;
     let mut y = b;
-    loop {
-        let r = merge_step(s, x, t, y);
-        if r.size == 0 {
-            return Extent {
-                count,
-                length: size,
-            };
-        }
+    while let Some(r) = merge_step(s, x, t, y) {
         put(chosen, count, r.chosen);
         count += 1;
         size += r.size;
         x = r.first;
         y = r.second;
+    }
+    Extent {
+        count,
+        length: size,
     }
 }
 
@@ -215,15 +205,14 @@ fn copy_all(s: &[u8], t: &[u8], chosen: &[usize], out: &mut [u8], at: usize)
     requires { at ≤ length out.old }
     ensures { out.new ≡ copied s.now t.now out.old at chosen.now }
 {
-    if chosen.len() == 0 {
+    if chosen.is_empty() {
         return;
     }
     let mut p = at;
     let mut x = chosen[0];
     let mut m: usize = 0;
-    let mut i: usize = 0;
-    while i < chosen.len() {
-        let y = chosen[i];
+    for y in chosen {
+        let y = *y;
         let k = length_from(s, t, y);
         if codec::beyond(out.len(), p + m, k) {
             break;
@@ -236,7 +225,6 @@ fn copy_all(s: &[u8], t: &[u8], chosen: &[usize], out: &mut [u8], at: usize)
             x = y;
             m = k;
         }
-        i += 1;
     }
     copy_run(s, t, x, m, out, p);
 }
@@ -249,52 +237,56 @@ pub fn copy_picked(s: &[u8], t: &[u8], chosen: &[usize], n: usize, out: &mut [u8
     if out.len() < at {
         return;
     }
-    let mut end = n;
-    if chosen.len() < n {
-        end = chosen.len();
-    }
-    copy_all(s, t, &chosen[0..end], out, at);
+    let end = n.min(chosen.len());
+    copy_all(s, t, &chosen[..end], out, at);
 }
 
 // ---- a record written
 
-// A version but for its item, and a record's change and create versions.
-fn write_version(out: &mut [u8], at: usize, v: VersionWords)
-    requires { at + 24 < 2 ^ 64 }
-    ensures { Wrote out.old at (put_version v) out.new (at + 24) }
-{
-    leaves::write_replica(out, at, v.replica);
-    codec::write8(out, at + 16, v.tick);
-}
-
-fn write_versions(out: &mut [u8], at: usize, change: VersionWords, create: VersionWords)
-    requires { at + 48 < 2 ^ 64 }
-    ensures { Wrote out.old at (put_versions change create) out.new (at + 48) }
-{
-    write_version(out, at, change);
-    write_version(out, at + 24, create);
-}
-
-// The kind of a record.
-fn kind_of(r: RecordWords) -> u64
-    ensures { result ≡ kind_of (record_of r).content }
-{
-    if r.deleted {
-        return 2;
+impl VersionWords {
+    // A version but for its item.
+    fn write(self, out: &mut [u8], at: usize)
+        requires { at + 24 < 2 ^ 64 }
+        ensures { Wrote out.old at (put_version self) out.new (at + 24) }
+    {
+        leaves::write_replica(out, at, self.replica);
+        codec::write::<8>(out, at + 16, self.tick);
     }
-    1
 }
 
-// A record's bytes, from a place of an output on.
-pub fn write_record(out: &mut [u8], at: usize, r: RecordWords)
-    ensures { out.new ≡ placed out.old at (put_rec (record_of r) []) }
-{
-    if codec::beyond(out.len(), at, RECORD_LENGTH) {
-        return;
+impl RecordWords {
+    // The change version and the create version.
+    fn write_versions(self, out: &mut [u8], at: usize)
+        requires { at + 48 < 2 ^ 64 }
+        ensures { Wrote out.old at (put_versions self.change self.create) out.new (at + 48) }
+    {
+        self.change.write(out, at);
+        self.create.write(out, at + 24);
     }
-    let kind = kind_of(r);
-    codec::write1(out, at, kind);
-    leaves::write_item(out, at + 1, r.item);
-    write_versions(out, at + 25, r.change, r.create);
-    leaves::write16(out, at + 73, r.tag.high, r.tag.low);
+
+    // The kind.
+    fn kind(self) -> u64
+        ensures { result ≡ kind_of (record_of self).content }
+    {
+        if self.deleted {
+            records::TOMBSTONE
+        } else {
+            records::LIVE
+        }
+    }
+
+    // The bytes, from a place of an output on.
+    pub fn write(self, out: &mut [u8], at: usize)
+        ensures { out.new ≡ placed out.old at (put_rec (record_of self) []) }
+    {
+        if codec::beyond(out.len(), at, RECORD_LENGTH) {
+            return;
+        }
+        let kind = self.kind();
+        codec::write::<1>(out, at, kind);
+        leaves::write_item(out, at + 1, self.item);
+        self.write_versions(out, at + 25);
+        codec::write::<8>(out, at + 73, self.tag.high);
+        codec::write::<8>(out, at + 81, self.tag.low);
+    }
 }

@@ -81,18 +81,10 @@ module _ (s : List ℕ) (at : ℕ) (k : List ℕ) (r : ℕ) (start : Cursor) (la
   passed_none = record { is = refl; left = omega arith }
 
   module _ (p : ℕ) (c : Cursor) (inv : Passed s at k r start last p c) (n : ℕ) (e : n ≡ length_at s p) where
-    none : (m : ℕ) → m ≡ 0 → lacking_at s at k r start last ≡ [] → Picks s at k r start last (record { at = p; size = m; cursor = c })
-    none m y h = record {
-      ends = λ z. h;
-      next = λ z. absurd (z y);
-      sized = λ z. absurd (z y);
-      left = omega (arith, inv.left, y);
-    }
-
-    pub pick_end : n ≡ 0 → Picks s at k r start last (record { at = p; size = n; cursor = c })
+    pub pick_end : n ≡ 0 → lacking_at s at k r start last ≡ []
     pick_end z =
-        none n z (inv.is ∙ (lacking_is s p k r c last
-        ∙ (ap (lacking s k r c last) (places_end s p (length-ends s p n e z)) ∙ lacking_none s k r c last)))
+        inv.is ∙ (lacking_is s p k r c last
+        ∙ (ap (lacking s k r c last) (places_end s p (length-ends s p n e z)) ∙ lacking_none s k r c last))
 
     module _ (z : n ≡ 0 → ⊥) (i0 i1 i2 : ℕ) (g : words3 i0 i1 i2 ≡ read_at s 24 (p + item_place)) (b : Bool)
         (h : b ≡ ltb last (words3 i0 i1 i2)) where
@@ -102,10 +94,10 @@ module _ (s : List ℕ) (at : ℕ) (k : List ℕ) (r : ℕ) (start : Cursor) (la
       here : lacking_at s at k r start last ≡ lacking s k r c last (p ∷ places s (p + n))
       here = inv.is ∙ (lacking_is s p k r c last ∙ ap (lacking s k r c last) (places_on s p n e z))
 
-      pub pick_past : b ≡ true → Picks s at k r start last (record { at = p; size = 0; cursor = c })
+      pub pick_past : b ≡ true → lacking_at s at k r start last ≡ []
       pick_past f =
           let l = ltb-true last (words3 i0 i1 i2) (sym h ∙ f) in
-          none 0 refl (here ∙ lacking_ends s k r c last p (places s (p + n)) (omega (arith, l, item_is)))
+          here ∙ lacking_ends s k r c last p (places s (p + n)) (omega (arith, l, item_is))
 
       module _ (f : b ≡ false) (d : Cursor) (m : d ≡ advanced k r c (words3 i0 i1 i2)) (t : Bool)
           (o : t ≡ change_in s p k r d.vector) where
@@ -125,10 +117,10 @@ module _ (s : List ℕ) (at : ℕ) (k : List ℕ) (r : ℕ) (start : Cursor) (la
         pick_taken j =
             let l = length-inside s p n e z in
             record {
-              ends = λ y. absurd (z y);
-              next = λ y.
+              next =
                   here ∙ (lacking_takes s k r c last p (places s (p + n)) inside (asked false j) ∙ ap (λ (ps : List ℕ). p ∷ ps) onwards);
-              sized = λ y. e;
+              sized = e;
+              some = omega (arith, z);
               left = omega (arith, inv.left);
             }
 
@@ -155,45 +147,46 @@ module _ (s : List ℕ) (at : ℕ) (k : List ℕ) (r : ℕ) (start : Cursor) (la
   pub selecting_all : Selecting s at k r start last d at start 0 0 d
   selecting_all = record { counted = omega arith; sized = omega arith; stored = refl; few = omega arith; left = omega arith }
 
-  module _ (p : ℕ) (c : Cursor) (count size : ℕ) (picks : List ℕ) (i : Selecting s at k r start last d p c count size picks)
-      (x : Pick) (h : Picks s p k r c last x) where
-    module _ (z : x.size ≡ 0) where
+  module _ (p : ℕ) (c : Cursor) (count size : ℕ) (picks : List ℕ) (i : Selecting s at k r start last d p c count size picks) where
+    module _ (z : lacking_at s p k r c last ≡ []) where
       pub count_end : count ≡ length (lacking_at s at k r start last)
-      count_end = omega (arith, i.counted, ap length (h.ends z))
+      count_end = omega (arith, i.counted, ap length z)
 
       pub size_end : size ≡ size_from s s (lacking_at s at k r start last)
-      size_end = omega (arith, i.sized, ap (size_from s s) (h.ends z) ∙ size_none s s)
+      size_end = omega (arith, i.sized, ap (size_from s s) z ∙ size_none s s)
 
       pub picks_end : picks ≡ fronted d (lacking_at s at k r start last)
-      picks_end = sym (sym (fronted-sets d (lacking_at s at k r start last)) ∙ (i.stored ∙ ap (sets picks count) (h.ends z)))
+      picks_end = sym (sym (fronted-sets d (lacking_at s at k r start last)) ∙ (i.stored ∙ ap (sets picks count) z))
 
-    module _ (z : x.size ≡ 0 → ⊥) where
+    module _ (x : Pick) (h : Picks s p k r c last x) where
+      size_some : x.size ≡ 0 → ⊥
+      size_some z = omega (arith, z, h.some)
+
       pub pick_inside : x.at + x.size ≤ length s
-      pick_inside = length-inside s x.at x.size (h.sized z) z
+      pick_inside = length-inside s x.at x.size h.sized size_some
 
       pub selecting_more : (u : List ℕ) → u ≡ set picks count x.at
           → Selecting s at k r start last d (x.at + x.size) x.cursor (count + 1) (size + x.size) u
       selecting_more u e =
-          let f = h.next z in
           let rest = lacking_at s (x.at + x.size) k r x.cursor last in
           let one : x.size ≡ at_address length_at s s x.at =
-          h.sized z ∙ sym (at_first length_at s s x.at (length-at s x.at x.size (h.sized z) z).first) in
+          h.sized ∙ sym (at_first length_at s s x.at (length-at s x.at x.size h.sized size_some).first) in
           record {
-            counted = omega (arith, i.counted, ap length f);
-            sized = omega (arith, i.sized, ap (size_from s s) f ∙ size_more s s x.at rest, one);
+            counted = omega (arith, i.counted, ap length h.next);
+            sized = omega (arith, i.sized, ap (size_from s s) h.next ∙ size_more s s x.at rest, one);
             stored =
                 i.stored
-                ∙ (ap (sets picks count) f ∙ ap₂ {C = List ℕ} (λ (l : List ℕ) (n : ℕ). sets l n rest) (sym e) (sym (add-one count)));
-            few = omega (arith, i.few, z);
+                ∙ (ap (sets picks count) h.next ∙ ap₂ {C = List ℕ} (λ (l : List ℕ) (n : ℕ). sets l n rest) (sym e) (sym (add-one count)));
+            few = omega (arith, i.few, h.some);
             left = omega (arith, i.left, h.left);
           }
 
       pub selecting_less : length s - (x.at + x.size) < length s - p
-      selecting_less = omega (arith, h.left, z)
+      selecting_less = omega (arith, h.left, h.some)
 
-    -- what the code needs for its sums
-    pub selecting_room : (size + x.size ≤ length s) × (count ≤ size)
-    selecting_room = (omega (arith, i.left, h.left), i.few)
+      -- what the code needs for its sums
+      pub selecting_room : (size + x.size ≤ length s) × (count ≤ size)
+      selecting_room = (omega (arith, i.left, h.left), i.few)
 
 -- ---- both parts of the selection
 

@@ -1,6 +1,6 @@
 -- The records of a table that a batch carries, by their places. There is nothing to believe here: the laws `selected_table`,
 -- `selected_size` and `selected_copied` say what these are in the terms of `replication`, for a table that rises.
-use Rattle.std.specs.Prelude.{ℕ, ◌+◌, ◌-◌, ◌≤◌, ◌≡◌, true, false, List, [], ◌∷◌, ltb, length}
+use Rattle.std.specs.Prelude.{ℕ, ◌+◌, ◌-◌, ◌≤◌, ◌<◌, ◌≡◌, true, false, List, [], ◌∷◌, ltb, length}
 use Rattle.replication.specs.Reading.{rec_at}
 use Rattle.replication.specs.Queries.{places, length_at}
 use Rattle.lookup.specs.declared.Cursor.{Cursor}
@@ -29,11 +29,11 @@ lacking s k r c last (p ∷ ps) =
 unfoldable pub lacking_at : List ℕ → ℕ → List ℕ → ℕ → Cursor → ℕ → List ℕ
 lacking_at s at k r c last = lacking s k r c last (places s at)
 
--- x is the next of these places, with the cursor there, and the others follow behind it; where its size is 0, there is none
+-- x is the next of these places, with the cursor there, and the others follow behind it
 pub record Picks (s : List ℕ) (at : ℕ) (k : List ℕ) (r : ℕ) (c : Cursor) (last : ℕ) (x : Pick) : Type 0 where
-  pub ends : x.size ≡ 0 → lacking_at s at k r c last ≡ []
-  pub next : (x.size ≡ 0 → ⊥) → lacking_at s at k r c last ≡ x.at ∷ lacking_at s (x.at + x.size) k r x.cursor last
-  pub sized : (x.size ≡ 0 → ⊥) → x.size ≡ length_at s x.at
+  pub next : lacking_at s at k r c last ≡ x.at ∷ lacking_at s (x.at + x.size) k r x.cursor last
+  pub sized : x.size ≡ length_at s x.at
+  pub some : 0 < x.size
   pub left : x.size + (length s - (x.at + x.size)) ≤ length s - at
 
 -- the places of the records from first to last that k lacks

@@ -5,7 +5,7 @@
 // and goes by places; for a table that rises and bytes that the check accepts the records are those that a make carries.
 #![tactic(auto)]
 
-ghost use Rattle.std.specs.Prelude.{◌≡◌, length};
+ghost use Rattle.std.specs.Prelude.{◌≡◌, [], length, MatchOption};
 ghost use Rattle.codec.specs.Ids.{item_of};
 ghost use Rattle.replication.specs.Queries.{places};
 ghost use Rattle.records_join.specs.MethodJoin.{size_from, fronted};
@@ -15,7 +15,7 @@ use codec::{Item, Span};
 use lookup::{Cursor, View};
 use records_join::Extent;
 
-// The next record that is selected: its place, its length, 0 where there is none, and the cursor at its item.
+// The next record that is selected: its place, its length, and the cursor at its item.
 #[derive(Clone, Copy)]
 pub struct Pick {
     pub at: usize,
@@ -28,41 +28,40 @@ fn from_first(s: &[u8], at: usize, first: Item) -> usize
     ensures { places s.now result ≡ from_first s.now (item_of first) (places s.now at) }
 {
     let mut p = at;
+    // a loop: the place moves by the length that is read
     loop {
         let n = records::length_at(s, p);
         if n == 0 {
             return p;
         }
-        let i = records::item_of(s, p);
-        if !codec::less3(i.high, i.middle, i.low, first.high, first.middle, first.low) {
+        if records::item_of(s, p) < first {
+            p += n;
+        } else {
             return p;
         }
-        p += n;
     }
 }
 
 // The next record, up to the last item, whose change version the knowledge k lacks.
-fn next_lacking(s: &[u8], from: usize, k: &[u8], r: u32, start: Cursor, last: Item) -> Pick
-    ensures { Picks s.now from k.now r start (item_of last) result }
+fn next_lacking(s: &[u8], from: usize, k: &[u8], r: u32, start: Cursor, last: Item) -> Option<Pick>
+    ensures { MatchOption result (lacking_at s.now from k.now r start (item_of last) ≡ [])
+        (λ x. Picks s.now from k.now r start (item_of last) x) }
 {
     let mut at = from;
     let mut cursor = start;
+    // a loop: the place moves by the length that is read
     loop {
         let size = records::length_at(s, at);
         if size == 0 {
-            return Pick { at, size, cursor };
+            return None;
         }
         let i = records::item_of(s, at);
-        if codec::less3(last.high, last.middle, last.low, i.high, i.middle, i.low) {
-            return Pick {
-                at,
-                size: 0,
-                cursor,
-            };
+        if last < i {
+            return None;
         }
         cursor = lookup::advance(k, r, cursor, i);
         if !records_versions::change_in(s, at, k, r, cursor.vector) {
-            return Pick { at, size, cursor };
+            return Some(Pick { at, size, cursor });
         }
         at += size;
     }
@@ -82,19 +81,16 @@ fn all_lacking(s: &[u8], at: usize, k: &[u8], v: View, last: Item, picks: &mut [
     let mut size: usize = 0;
     let mut p = at;
     let mut c = v.start;
-    loop {
-        let x = next_lacking(s, p, k, r, c, last);
-        if x.size == 0 {
-            return Extent {
-                count,
-                length: size,
-            };
-        }
+    while let Some(x) = next_lacking(s, p, k, r, c, last) {
         records_join::put(picks, count, x.at);
         count += 1;
         size += x.size;
         p = x.at + x.size;
         c = x.cursor;
+    }
+    Extent {
+        count,
+        length: size,
     }
 }
 

@@ -77,9 +77,10 @@ pub record Passes (P : Rec → Bool) (s k : List ℕ) (r n at left p : ℕ) (c :
   pub is : each P (records_at s n at) ≡ each P (records_at s left p)
   pub follows : Follows s k r left p c
 
-pub passes_start : (P : Rec → Bool) (s k : List ℕ) (r n at : ℕ) (c : Cursor) → shaped_at s 0 n at ≡ true → Open k r c
-    → Passes P s k r n at n at c
-passes_start P s k r n at c h o = record { is = refl; follows = follows_start s k r n at c o h }
+pub passes_start : (P : Rec → Bool) (s k : List ℕ) (r n at : ℕ) (c : Cursor) (left : ℕ) → left ≡ n → shaped_at s 0 n at ≡ true → Open k r c
+    → Passes P s k r n at left at c
+passes_start P s k r n at c left e h o =
+    subst (λ m. Passes P s k r n at m at c) (sym e) (record { is = refl; follows = follows_start s k r n at c o h })
 
 module _ (P : Rec → Bool) (s k : List ℕ) (r n at left p : ℕ) (c : Cursor) (inv : Passes P s k r n at left p c) where
   pub passes_end : left ≤ 0 → true ≡ each P (records_at s n at)
@@ -97,10 +98,11 @@ module _ (P : Rec → Bool) (s k : List ℕ) (r n at left p : ℕ) (c : Cursor) 
     passes_stop e = sym (one ∙ each_stop P (rec_at s p) (records_at s (left - 1) (behind s p)) (sym e))
 
     pub passes_on : (d : Cursor) → d ≡ moved_to s p k r c → true ≡ P (rec_at s p) → (next : ℕ) → next ≡ behind s p
-        → Passes P s k r n at (left - 1) next d
-    passes_on d e f next g = record {
-      is =
-          one ∙ each_on P (rec_at s p) (records_at s (left - 1) (behind s p)) (sym f)
-          ∙ ap (λ q. each P (records_at s (left - 1) q)) (sym g);
-      follows = follows_next s k r left p c inv.follows some d e next g;
-    }
+        → (more : ℕ) → more ≡ left - 1 → Passes P s k r n at more next d
+    passes_on d e f next g more h =
+        subst (λ m. Passes P s k r n at m next d) (sym h) (record {
+          is =
+              one ∙ each_on P (rec_at s p) (records_at s (left - 1) (behind s p)) (sym f)
+              ∙ ap (λ q. each P (records_at s (left - 1) q)) (sym g);
+          follows = follows_next s k r left p c inv.follows some d e next g;
+        })

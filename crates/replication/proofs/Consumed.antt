@@ -31,8 +31,8 @@ use Rattle.replication.specs.BatchFormat.{Batch}
 use Rattle.replication.specs.Valid.{LawfulStore}
 use Rattle.replication.specs.Calls.{new_reply, edit_reply, delete_reply, make_reply, apply_reply, own_ahead}
 use Rattle.replication.specs.Demand1.{part_values, coverage_values, Demand1}
-use Rattle.replication.specs.declared.Part.{Part}
-use Rattle.replication.specs.declared.Coverage.{Coverage}
+use Rattle.replication.specs.Part.{Part}
+use Rattle.replication.specs.Coverage.{Coverage}
 use Rattle.replication.specs.Queries.{part_number, part_side, part_at_place, part_length, winner_part, learned_part, knowledge_part}
 use Rattle.replication.specs.Queries.{coverage_number, coverage_contained, coverage_all, coverage_thousandths, coverage_answer}
 use Rattle.replication.specs.Lists.{World, start, outcome, batch_number, trace}

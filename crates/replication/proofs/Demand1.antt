@@ -23,9 +23,9 @@ use Rattle.replication.specs.OpenStore.{open_store}
 use Rattle.replication.specs.OpenBatch.{open_batch}
 use Rattle.replication.specs.Operate.{wins}
 use Rattle.replication.specs.Reading.{rec_at}
-use Rattle.replication.specs.declared.Part.{Part}
-use Rattle.replication.specs.declared.Part.TheVariants as P
-use Rattle.replication.specs.declared.Coverage.TheVariants as G
+use Rattle.replication.specs.Part.{Part}
+use Rattle.replication.specs.Part as P
+use Rattle.replication.specs.Coverage as G
 use Rattle.replication.specs.Queries.{of_store, of_batch, winner_at, winner_part, learned_part, knowledge_part, part_number, part_side, part_at_place, part_length}
 use Rattle.replication.specs.Queries.{coverage_number, coverage_contained, coverage_all, coverage_thousandths, coverage_answer}
 use Rattle.replication.proofs.Contents.Valid.{store_number, batch_number_lem}

@@ -11,8 +11,8 @@ use Rattle.ticks.specs.Compare.{compare_reply, order_value}
 use Rattle.ticks.specs.Demand1.{WritesOrRefuses, SaysOrRefuses, ChecksOrRefuses}
 use Rattle.replication.specs.Call.{Brought}
 use Rattle.replication.specs.Calls.{new_reply, edit_reply, delete_reply, make_reply, apply_reply}
-use Rattle.replication.specs.declared.Part.{Part}
-use Rattle.replication.specs.declared.Coverage.{Coverage}
+use Rattle.replication.specs.Part.{Part}
+use Rattle.replication.specs.Coverage.{Coverage}
 use Rattle.replication.specs.Queries.{part_number, part_side, part_at_place, part_length, winner_part, learned_part, knowledge_part}
 use Rattle.replication.specs.Queries.{coverage_number, coverage_contained, coverage_all, coverage_thousandths, coverage_answer}
 

@@ -12,6 +12,8 @@ pub mod MethodOpening
 pub mod Operate
 pub mod Calls
 pub mod MethodReplies
+pub mod Part
+pub mod Coverage
 pub mod Queries
 pub mod MethodTable
 pub mod MethodRecords

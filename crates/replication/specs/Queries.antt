@@ -13,10 +13,10 @@ use Rattle.replication.specs.OpenStore.{knowledge_length, store_knowledge, store
 use Rattle.replication.specs.OpenBatch.{learned_length, batch_learned, batch_table, open_batch}
 use Rattle.replication.specs.Operate.{wins}
 use Rattle.replication.specs.Calls.{store_or}
-use Rattle.replication.specs.declared.Part.{Part}
-use Rattle.replication.specs.declared.Part.TheVariants as P
-use Rattle.replication.specs.declared.Coverage.{Coverage}
-use Rattle.replication.specs.declared.Coverage.TheVariants as G
+use Rattle.replication.specs.Part.{Part}
+use Rattle.replication.specs.Part as P
+use Rattle.replication.specs.Coverage.{Coverage}
+use Rattle.replication.specs.Coverage as G
 use Rattle.codec.specs.Parsed.{line, own_fault}
 
 -- "Calls that return a part give the number beside it; the part is empty on a refusal and for an item on neither side": the

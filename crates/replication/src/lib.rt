@@ -1,29 +1,26 @@
-// The answers of the calls on stores and batches that write no bytes. No function stands here: the crate holds the meaning of
+// What the calls on stores and batches that write no bytes find. No function stands here: the crate holds the meaning of
 // records, stores, batches and calls, and the theorem over whole lists of calls.
 #![tactic(auto)]
 
-// The answer of a call that returns a part of the bytes given: where the part begins and how long it is.
-#[derive(Clone, Copy)]
-pub enum Part {
-    // no part: the item is on neither side
-    Nothing,
-    // a part of the store's bytes
-    OfStore(usize, usize),
-    // a part of the batch's bytes
-    OfBatch(usize, usize),
-    // the refusal's number
-    Refused(u32),
+// Which of the bytes given to a call.
+#[derive(Clone, Copy, Debug, PartialEq, Eq)]
+pub enum Side {
+    Store,
+    Batch,
 }
 
-// The answer of coverage.
+// A part of the bytes given to a call: where it begins and how long it is.
 #[derive(Clone, Copy)]
-pub enum Coverage {
-    // the records whose change version the knowledge contains, the records in all, and 1000 times their ratio
-    Covered {
-        contained: usize,
-        all: usize,
-        thousandths: usize,
-    },
-    // the refusal's number
-    Refused(u32),
+pub struct Location {
+    pub side: Side,
+    pub at: usize,
+    pub length: usize,
+}
+
+// What coverage counts: the records whose change version the knowledge contains, the records in all, and 1000 times their ratio.
+#[derive(Clone, Copy)]
+pub struct Counted {
+    pub contained: usize,
+    pub all: usize,
+    pub thousandths: usize,
 }

@@ -7,7 +7,7 @@ use mathlib.Core.List.{List}
 use native.Mathlib.Omega.{arith}
 use Rattle.codec.specs.Reply.{gives}
 use Rattle.codec.specs.MethodEnded.{Ended, End, end_of}
-use Rattle.codec.specs.declared.Answer.{Answer}
+use Rattle.codec.specs.Answer.{Answer}
 use Rattle.layout.specs.Knowledge as K
 use Rattle.layout.specs.Permitted.{largest_replicas, largest_ranges}
 use Rattle.layout.specs.Decode.{decode}

@@ -10,7 +10,7 @@ use lib.ListN.{replicate}
 use borrow.Author.Tests.{lt-ltb, le-ltb}
 use Rattle.codec.specs.MethodEnded.{Ended, End, end_of}
 use Rattle.codec.specs.Ids.{InWords, item_of, replica_of}
-use Rattle.codec.specs.declared.Answer.{Answer}
+use Rattle.codec.specs.Answer.{Answer}
 use Rattle.codec.specs.declared.Replica.{Replica}
 use Rattle.codec.specs.declared.Span.{Span}
 use Rattle.layout.specs.Knowledge.{Rules, Knowledge}
@@ -30,12 +30,43 @@ use Rattle.sampling.proofs.Opening.{scratch_replicas, scratch_ranges}
 use Rattle.sampling.proofs.Scratch.{table_room}
 use Rattle.preparing.specs.MethodPrepared.{concluded, Sheet}
 use Rattle.preparing.proofs.Ready.{normalise_sheet, merge_sheet, project_sheet, raise_sheet, sheet_ended}
-use Rattle.results.specs.MethodOpened.{Reads, result_of, small_rows, middle_rows, one_rows, size_for, rows_of, Fill, zeroed, lent, table_end}
+use Rattle.results.specs.MethodOpened.{Reads, result_of, small_rows, middle_rows, one_rows, rows_for, Fill, zeroed, lent, table_end}
 use Rattle.results.specs.MethodOpened.{merged_end, raised_end, by_table_end, normalised_end, projected_end}
-use Rattle.results.specs.declared.Size.{Size}
-use Rattle.results.specs.declared.Size.TheVariants as Z
 use Rattle.results.proofs.Copied.{end_copied, normal_given, normalised_is_copied, normalised_is_by_table}
 use Rattle.results.proofs.TableWords.{TableWords, words_zeros, one_words, raised_words, span_words, two_words}
+
+-- the rows of scratch, by the last row of the table
+module _ (n large : ℕ) where
+  small_rows_for : n < small_rows → rows_for n large ≡ small_rows
+  unfolding rows_for
+  small_rows_for l = rw (lt-ltb n small_rows l, rows_for)
+
+  middle_rows_for : small_rows ≤ n → n < middle_rows → rows_for n large ≡ middle_rows
+  unfolding rows_for
+  middle_rows_for l m = rw (le-ltb n small_rows l, lt-ltb n middle_rows m, rows_for)
+
+  large_rows_for : small_rows ≤ n → middle_rows ≤ n → rows_for n large ≡ large
+  unfolding rows_for
+  large_rows_for l m = rw (le-ltb n small_rows l, le-ltb n middle_rows m, rows_for)
+
+  module _ (l : n < large) (b : large ≤ most_rows) where
+    abbrev Has : ℕ → Type 0
+    Has m = (n < m) × (m ≤ most_rows)
+
+    rows_have : Has (rows_for n large)
+    rows_have =
+        elim (order n small_rows) [
+          | less c ↦ subst Has (sym (small_rows_for c)) (omega arith, omega arith)
+          | same c ↦ on (omega arith)
+          | more c ↦ on (omega arith)
+        ]
+      where
+        on : small_rows ≤ n → Has (rows_for n large)
+        on c = elim (order n middle_rows) [
+          | less d ↦ subst Has (sym (middle_rows_for c d)) (omega arith, omega arith)
+          | same d ↦ subst Has (sym (large_rows_for c (omega arith))) (l, b)
+          | more d ↦ subst Has (sym (large_rows_for c (omega arith))) (l, b)
+        ]
 
 -- ---- the end that a function computes
 
@@ -45,67 +76,22 @@ module _ (most : Limits) (out : List ℕ) where
   unfolding table_end
   end_filled ids bounds t q w e f g = g ∙ ap (table_end most out) f
 
-  -- in the scratch that was chosen
-  pub end_sized : (n large : ℕ) (fill : Fill) (e : End) (z y : Size) → z ≡ size_for n → z ≡ y
-      → e ≡ table_end most out (zeroed (rows_of y large) fill) → e ≡ table_end most out (lent n large fill)
-  end_sized n large fill e z y is f g = g ∙ ap (λ x. table_end most out (zeroed (rows_of x large) fill)) (sym f ∙ is)
+-- in the scratch that was chosen
+module _ (most : Limits) (out : List ℕ) (n large : ℕ) (fill : Fill) (e : End) where
+  abbrev Sized : ℕ → Type 0
+  Sized m = e ≡ table_end most out (zeroed m fill) → e ≡ table_end most out (lent n large fill)
 
-module _ (most : Limits) (s : List ℕ) (v : View) (out : List ℕ) (e : End) (z y : Size) where
-  pub merged_sized : (other : List ℕ) (w : View) → z ≡ size_for (v.start.left + w.start.left + 1) → z ≡ y
-      → e ≡ table_end most out (zeroed (rows_of y most_rows) (two_table s v.r v.start other w.r w.start))
-      → e ≡ merged_end most s v other w out
-  unfolding merged_end
-  merged_sized other w = end_sized most out _ most_rows (two_table s v.r v.start other w.r w.start) e z y
+  sized : (m : ℕ) → rows_for n large ≡ m → Sized m
+  sized m f g = g ∙ ap (λ x. table_end most out (zeroed x fill)) (sym f)
 
-  pub raised_sized : (p : Replica) (tick : ℕ) → z ≡ size_for (v.start.left + 1) → z ≡ y
-      → e ≡ table_end most out (zeroed (rows_of y one_rows) (raised_table s v.r v.start p.high p.low tick))
-      → e ≡ raised_end most s v p tick out
-  unfolding raised_end
-  raised_sized p tick = end_sized most out _ one_rows (raised_table s v.r v.start p.high p.low tick) e z y
+  pub small_sized : n < small_rows → Sized small_rows
+  small_sized l = sized small_rows (small_rows_for n large l)
 
-  pub by_table_sized : z ≡ size_for (v.start.left + 1) → z ≡ y
-      → e ≡ table_end most out (zeroed (rows_of y one_rows) (one_table s v.r v.start)) → e ≡ by_table_end most s v out
-  unfolding by_table_end
-  by_table_sized = end_sized most out _ one_rows (one_table s v.r v.start) e z y
+  pub middle_sized : small_rows ≤ n → n < middle_rows → Sized middle_rows
+  middle_sized l m = sized middle_rows (middle_rows_for n large l m)
 
-  pub projected_sized : (x : Span) → z ≡ size_for (v.start.left + 3) → z ≡ y
-      → e ≡ table_end most out (zeroed (rows_of y one_rows) (span_table s v.r v.start x.first x.last))
-      → e ≡ projected_end most s v x out
-  unfolding projected_end
-  projected_sized x = end_sized most out _ one_rows (span_table s v.r v.start x.first x.last) e z y
-
--- the scratch for a row has it
-module _ (n : ℕ) where
-  pub small_size : n < small_rows → Z.Small ≡ size_for n
-  unfolding size_for
-  small_size l = rw (lt-ltb n small_rows l, size_for)
-
-  pub middle_size : small_rows ≤ n → n < middle_rows → Z.Middle ≡ size_for n
-  unfolding size_for
-  middle_size l m = rw (le-ltb n small_rows l, lt-ltb n middle_rows m, size_for)
-
-  pub large_size : small_rows ≤ n → middle_rows ≤ n → Z.Large ≡ size_for n
-  unfolding size_for
-  large_size l m = rw (le-ltb n small_rows l, le-ltb n middle_rows m, size_for)
-
-  module _ (large : ℕ) (l : n < large) (b : large ≤ most_rows) where
-    abbrev Has : Size → Type 0
-    Has z = (n < rows_of z large) × (rows_of z large ≤ most_rows)
-
-    size_has : Has (size_for n)
-    size_has =
-        elim (order n small_rows) [
-          | less c ↦ subst Has (small_size c) (omega arith, omega arith)
-          | same c ↦ on (omega arith)
-          | more c ↦ on (omega arith)
-        ]
-      where
-        on : small_rows ≤ n → Has (size_for n)
-        on c = elim (order n middle_rows) [
-          | less d ↦ subst Has (middle_size c d) (omega arith, omega arith)
-          | same d ↦ subst Has (large_size c (omega arith)) (l, b)
-          | more d ↦ subst Has (large_size c (omega arith)) (l, b)
-        ]
+  pub large_sized : small_rows ≤ n → middle_rows ≤ n → (m : ℕ) → large ≡ m → Sized m
+  large_sized l h m e = sized m (large_rows_for n large l h ∙ e)
 
 -- ---- what it is where the bytes were opened
 
@@ -139,7 +125,7 @@ module _ (most : Limits) (out : List ℕ) (k : Knowledge) where
   -- whichever scratch is taken
   lent_good : (n large : ℕ) (fill : Fill) → n < large → large ≤ most_rows
       → ((m : ℕ) → n < m → m ≤ most_rows → Good (table_end most out (zeroed m fill))) → Good (table_end most out (lent n large fill))
-  lent_good n large fill l b h = let x = size_has n large l b in h (rows_of (size_for n) large) x.0 x.1
+  lent_good n large fill l b h = let x = rows_have n large l b in h (rows_for n large) x.0 x.1
 
 pub merge_opened : (most : Limits) (s : List ℕ) (v : View) (other : List ℕ) (w : View) (out u : List ℕ) (a : Answer)
     → end_of u a ≡ merged_end most s v other w out → Reads most s v → Reads most other w

@@ -1,6 +1,6 @@
 -- The ids and bounds of a table that is filled are words of 64 bits: what is put into them was read as words from bytes, or was given as words.
 use Prim.Native.Nat.{ℕ, zero, suc, ◌+◌, ◌*◌, ◌^◌, ◌≤◌, ◌<◌}
-use mathlib.Core.Path.{◌≡◌, refl, sym, subst}
+use mathlib.Core.Path.{◌≡◌, refl}
 use mathlib.Core.Bool.{Bool, true, false}
 use mathlib.Core.List.{List, [], ◌∷◌}
 use native.Mathlib.Omega.{arith}
@@ -11,14 +11,13 @@ use Rattle.codec.specs.Number.{Bytes, be_at}
 use Rattle.codec.specs.Words.{words2}
 use Rattle.codec.specs.Ids.{InWords, item_of}
 use Rattle.codec.specs.declared.Item.{Item}
-use Rattle.codec.specs.declared.Replica.{Replica}
 use Rattle.codec.proofs.Numbers.{be_below}
 use Rattle.ticks.proofs.Lists.{order, less, same, more}
 use Rattle.layout.specs.MethodPlaces.{ids_place}
 use Rattle.lookup.specs.declared.Cursor.{Cursor}
 use Rattle.tables.specs.MethodWords.{Words, bound_at}
 use Rattle.sampling.specs.MethodColumns.{column_of, put_id, joined, ColumnList, columns_of, mapped_from, mapped}
-use Rattle.sampling.specs.MethodRows.{top_word, first_item, top_item, bound_in, turn, put_bound, RowList, rows_of, row_more, grown, stopped_from, stopped}
+use Rattle.sampling.specs.MethodRows.{top_word, first_item, top_item, bound_in, turn, put_bound, RowList, rows_of, grown, stopped_from, stopped}
 use Rattle.sampling.specs.MethodRows.{first_row, after, last_row}
 use Rattle.sampling.specs.MethodStops.{spanned}
 use Rattle.sampling.specs.MethodTables.{Table, fits, no_table, no_keys, one_filled, one_table, two_filled, two_table, span_filled, span_table}

@@ -17,8 +17,8 @@ use Rattle.tables.specs.MethodWords.{stride, most_rows}
 use Rattle.sampling.specs.MethodTables.{Table, one_table, two_table, span_table, raised_table}
 use Rattle.codec.specs.MethodEnded.{End, end_of}
 use Rattle.preparing.specs.MethodPrepared.{concluded}
-use Rattle.results.specs.declared.Size.{Size}
-use Rattle.results.specs.declared.Size.TheVariants as Z
+use Rattle.results.specs.declared.Work.{Work}
+use Rattle.results.specs.declared.Work.TheVariants as W
 
 -- What a caller has and gets
 
@@ -49,15 +49,9 @@ middle_rows = 34
 abbrev pub one_rows : ℕ
 one_rows = largest_ranges + 4
 
--- the scratch for a table that may come up to row n
-unfoldable pub size_for : ℕ → Size
-size_for n = elim (ltb n small_rows) [ true ↦ Z.Small | false ↦ elim (ltb n middle_rows) [ true ↦ Z.Middle | false ↦ Z.Large ] ]
-
--- its rows
-abbrev pub rows_of : Size → ℕ → ℕ
-rows_of Z.Small large = small_rows
-rows_of Z.Middle large = middle_rows
-rows_of Z.Large large = large
+-- the rows of the scratch for a table that may come up to row n, where the large one has so many
+unfoldable pub rows_for : ℕ → ℕ → ℕ
+rows_for n large = elim (ltb n small_rows) [ true ↦ small_rows | false ↦ elim (ltb n middle_rows) [ true ↦ middle_rows | false ↦ large ] ]
 
 -- the table that is filled in lists for ids, bounds and ticks
 abbrev pub Fill : Type 0
@@ -69,13 +63,37 @@ zeroed n fill = fill (replicate (2 * stride) 0) (replicate (3 * n) 0) (replicate
 
 -- in zeros of the size for row n
 abbrev pub lent : ℕ → ℕ → Fill → Table
-lent n large fill = zeroed (rows_of (size_for n) large) fill
+lent n large fill = zeroed (rows_for n large) fill
+
+-- What is written by a table: the last row that the table may have, the rows of large scratch, and the table
+
+abbrev pub row_of : Work → ℕ
+row_of (W.Normalise s v) = v.start.left + 1
+row_of (W.Merge s v other w) = v.start.left + w.start.left + 1
+row_of (W.Raise s v p tick) = v.start.left + 1
+row_of (W.Project s v x) = v.start.left + 3
+
+abbrev pub large_for : Work → ℕ
+large_for (W.Normalise s v) = one_rows
+large_for (W.Merge s v other w) = most_rows
+large_for (W.Raise s v p tick) = one_rows
+large_for (W.Project s v x) = one_rows
+
+abbrev pub filled_by : Work → Fill
+filled_by (W.Normalise s v) = one_table s.now v.r v.start
+filled_by (W.Merge s v other w) = two_table s.now v.r v.start other.now w.r w.start
+filled_by (W.Raise s v p tick) = raised_table s.now v.r v.start p.high p.low tick
+filled_by (W.Project s v x) = span_table s.now v.r v.start x.first x.last
 
 -- What is left
 
 -- with a table that was filled
 unfoldable pub table_end : Limits → List ℕ → Table → End
 table_end most out w = concluded (rules_within most.replicas most.ranges).limits w.filled out w.ids w.bounds w.t
+
+-- with the table of what is written
+abbrev pub work_end : Limits → Work → List ℕ → End
+work_end most x out = table_end most out (lent (row_of x) (large_for x) (filled_by x))
 
 -- with bytes that are copied, or with 14
 unfoldable pub copied_end : List ℕ → List ℕ → End

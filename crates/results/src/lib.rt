@@ -6,16 +6,18 @@
 // where the bytes were opened under the limits.
 #![tactic(auto)]
 
-ghost use Rattle.std.specs.Prelude.{◌≡◌};
+ghost use Rattle.std.specs.Prelude.{◌≡◌, ◌*◌, ◌≤◌, replicate};
+ghost use Rattle.codec.specs.Answer.{answer_of};
 ghost use Rattle.codec.specs.MethodEnded.{end_of};
-ghost use Rattle.tables.specs.MethodWords.{most_rows};
-ghost use Rattle.sampling.specs.MethodTables.{one_table, two_table, span_table, raised_table};
-ghost use Rattle.results.specs.MethodOpened.{small_rows, middle_rows, one_rows, size_for, zeroed, table_end};
+ghost use Rattle.tables.specs.MethodWords.{stride, most_rows};
+ghost use Rattle.sampling.specs.MethodTables.{table_of};
+ghost use Rattle.results.specs.MethodOpened.{row_of, large_for, filled_by, table_end, work_end};
 ghost use Rattle.results.specs.MethodOpened.{merged_end, raised_end, by_table_end, normalised_end, projected_end};
 
-use codec::{Answer, Replica, Span};
+use codec::{Refusal, Replica, Span};
 use layout::Limits;
 use lookup::View;
+use sampling::Filled;
 
 // Rows of scratch: so many in small scratch, in middle scratch, and for one knowledge at the largest limits: row 0, one at the first item, one
 // for each range, and two at the ends of a span. Two knowledges at the largest limits take `tables::ROWS`. A table of `n` rows takes
@@ -26,77 +28,114 @@ const MIDDLE: usize = 34;
 
 const ONE: usize = layout::LARGEST_RANGES as usize + 4;
 
+// The words of bounds and of ticks in each: a const argument takes no product.
+const SMALL_BOUNDS: usize = 3 * SMALL;
+
+const SMALL_TICKS: usize = tables::STRIDE * SMALL;
+
+const MIDDLE_BOUNDS: usize = 3 * MIDDLE;
+
+const MIDDLE_TICKS: usize = tables::STRIDE * MIDDLE;
+
+const ONE_BOUNDS: usize = 3 * ONE;
+
+const ONE_TICKS: usize = tables::STRIDE * ONE;
+
+const TWO_BOUNDS: usize = 3 * tables::ROWS;
+
+const TWO_TICKS: usize = tables::STRIDE * tables::ROWS;
+
+// What is written by a table.
 #[derive(Clone, Copy)]
-enum Size {
-    Small,
-    Middle,
-    Large,
+enum Work<'a> {
+    Normalise {
+        s: &'a [u8],
+        v: View,
+    },
+    Merge {
+        s: &'a [u8],
+        v: View,
+        other: &'a [u8],
+        w: View,
+    },
+    Raise {
+        s: &'a [u8],
+        v: View,
+        p: Replica,
+        tick: u64,
+    },
+    Project {
+        s: &'a [u8],
+        v: View,
+        span: Span,
+    },
 }
 
-// Which scratch a table takes that may come up to a row.
-fn size_for(row: usize) -> Size
-    ensures { result ≡ size_for row }
-{
-    if row < SMALL {
-        return Size::Small;
+impl<'a> Work<'a> {
+    // The last row that the table may have.
+    fn row(self) -> usize
+        ensures { result ≡ row_of self.entry }
+    {
+        match self {
+            Work::Normalise { v, .. } | Work::Raise { v, .. } => v.start.left as usize + 1,
+            Work::Merge { v, w, .. } => v.start.left as usize + w.start.left as usize + 1,
+            Work::Project { v, .. } => v.start.left as usize + 3,
+        }
     }
-    if row < MIDDLE {
-        return Size::Middle;
+
+    // Fills the table.
+    fn fill(self, ids: &mut [u64], bounds: &mut [u64], t: &mut [u64]) -> Filled
+        ensures { table_of ids.new bounds.new t.new result ≡ filled_by self.entry ids.old bounds.old t.old }
+    {
+        match self {
+            Work::Normalise { s, v } => filling::fill_one(s, v, ids, bounds, t),
+            Work::Merge { s, v, other, w } => filling::fill_two(s, v, other, w, ids, bounds, t),
+            Work::Raise { s, v, p, tick } => filling::fill_raised(s, v, p, tick, ids, bounds, t),
+            Work::Project { s, v, span } => filling::fill_span(s, v, span, ids, bounds, t),
+        }
     }
-    Size::Large
-}
 
-// ---- merge of what was opened
+    // Fills the table in scratch with so many words of bounds and of ticks, and writes what is planned for it.
+    #[tactic(auto, using(crate::proofs::Opened::end_filled))]
+    fn write_in<const BOUNDS: usize, const TICKS: usize>(
+        self,
+        limits: Limits,
+        out: &mut [u8],
+    ) -> Result<usize, Refusal>
+        requires { (BOUNDS ≤ 3 * most_rows) × (TICKS ≤ stride * most_rows) }
+        ensures { end_of out.new (answer_of result) ≡ table_end limits out.old
+            (filled_by self.entry (replicate (2 * stride) 0) (replicate BOUNDS 0) (replicate TICKS 0)) }
+    {
+        let mut ids = [0u64; 2 * tables::STRIDE];
+        let mut bounds = [0u64; BOUNDS];
+        let mut t = [0u64; TICKS];
+        let q = self.fill(&mut ids, &mut bounds, &mut t);
+        preparing::conclude(q, limits, out, &ids, &bounds, &t)
+    }
 
-fn merge_in(
-    s: &[u8],
-    v: View,
-    other: &[u8],
-    w: View,
-    limits: Limits,
-    out: &mut [u8],
-    ids: &mut [u64],
-    bounds: &mut [u64],
-    t: &mut [u64],
-) -> Answer
-    ensures { end_of out.new result ≡ table_end limits out.old (two_table s.now v.r v.start
-        other.now w.r w.start ids.old bounds.old t.old) }
-{
-    let q = filling::fill_two(s, v.r, v.start, other, w.r, w.start, ids, bounds, t);
-    preparing::conclude(q, limits.replicas, limits.ranges, out, ids, bounds, t)
-}
-
-fn merge_small(s: &[u8], v: View, other: &[u8], w: View, limits: Limits, out: &mut [u8]) -> Answer
-    ensures { end_of out.new result ≡ table_end limits out.old (zeroed small_rows (two_table s.now v.r v.start
-        other.now w.r w.start)) }
-{
-    let mut ids = [0u64; 2 * tables::STRIDE];
-    let mut bounds = [0u64; 3 * SMALL];
-    let mut t = [0u64; tables::STRIDE * SMALL];
-    merge_in(s, v, other, w, limits, out, &mut ids, &mut bounds, &mut t)
-}
-
-fn merge_middle(s: &[u8], v: View, other: &[u8], w: View, limits: Limits, out: &mut [u8]) -> Answer
-    ensures { end_of out.new result ≡ table_end limits out.old (zeroed middle_rows (two_table s.now v.r v.start
-        other.now w.r w.start)) }
-{
-    let mut ids = [0u64; 2 * tables::STRIDE];
-    let mut bounds = [0u64; 3 * MIDDLE];
-    let mut t = [0u64; tables::STRIDE * MIDDLE];
-    merge_in(s, v, other, w, limits, out, &mut ids, &mut bounds, &mut t)
-}
-
-fn merge_large(s: &[u8], v: View, other: &[u8], w: View, limits: Limits, out: &mut [u8]) -> Answer
-    ensures { end_of out.new result ≡ table_end limits out.old (zeroed most_rows (two_table s.now v.r v.start
-        other.now w.r w.start)) }
-{
-    let mut ids = [0u64; 2 * tables::STRIDE];
-    let mut bounds = [0u64; 3 * tables::ROWS];
-    let mut t = [0u64; tables::STRIDE * tables::ROWS];
-    merge_in(s, v, other, w, limits, out, &mut ids, &mut bounds, &mut t)
+    // In scratch that has the last row that the table may have; the largest is given by its words of bounds and of ticks, so that a call
+    // has no scratch on its stack that it never needs.
+    fn write<const BOUNDS: usize, const TICKS: usize>(
+        self,
+        limits: Limits,
+        out: &mut [u8],
+    ) -> Result<usize, Refusal>
+        requires { (BOUNDS ≡ 3 * large_for self) × (TICKS ≡ stride * large_for self) }
+        ensures { end_of out.new (answer_of result) ≡ work_end limits self.entry out.old }
+    {
+        let row = self.row();
+        if row < SMALL {
+            return self.write_in::<SMALL_BOUNDS, SMALL_TICKS>(limits, out);
+        }
+        if row < MIDDLE {
+            return self.write_in::<MIDDLE_BOUNDS, MIDDLE_TICKS>(limits, out);
+        }
+        self.write_in::<BOUNDS, TICKS>(limits, out)
+    }
 }
 
 // Writes the normal form of what either of two knowledges knows.
+#[tactic(auto, unfolding(crate::specs::MethodOpened::merged_end))]
 pub fn merge_opened(
     s: &[u8],
     v: View,
@@ -104,67 +143,14 @@ pub fn merge_opened(
     w: View,
     limits: Limits,
     out: &mut [u8],
-) -> Answer
-    ensures { end_of out.new result ≡ merged_end limits s.now v other.now w out.old }
+) -> Result<usize, Refusal>
+    ensures { end_of out.new (answer_of result) ≡ merged_end limits s.now v other.now w out.old }
 {
-    match size_for(v.start.left as usize + w.start.left as usize + 1) {
-        Size::Small => merge_small(s, v, other, w, limits, out),
-        Size::Middle => merge_middle(s, v, other, w, limits, out),
-        Size::Large => merge_large(s, v, other, w, limits, out),
-    }
-}
-
-// ---- raise of what was opened
-
-fn raise_in(
-    s: &[u8],
-    v: View,
-    p: Replica,
-    tick: u64,
-    limits: Limits,
-    out: &mut [u8],
-    ids: &mut [u64],
-    bounds: &mut [u64],
-    t: &mut [u64],
-) -> Answer
-    ensures { end_of out.new result ≡ table_end limits out.old (raised_table s.now v.r v.start
-        p.high p.low tick ids.old bounds.old t.old) }
-{
-    let q = filling::fill_raised(s, v.r, v.start, p.high, p.low, tick, ids, bounds, t);
-    preparing::conclude(q, limits.replicas, limits.ranges, out, ids, bounds, t)
-}
-
-fn raise_small(s: &[u8], v: View, p: Replica, tick: u64, limits: Limits, out: &mut [u8]) -> Answer
-    ensures { end_of out.new result ≡ table_end limits out.old
-        (zeroed small_rows (raised_table s.now v.r v.start p.high p.low tick)) }
-{
-    let mut ids = [0u64; 2 * tables::STRIDE];
-    let mut bounds = [0u64; 3 * SMALL];
-    let mut t = [0u64; tables::STRIDE * SMALL];
-    raise_in(s, v, p, tick, limits, out, &mut ids, &mut bounds, &mut t)
-}
-
-fn raise_middle(s: &[u8], v: View, p: Replica, tick: u64, limits: Limits, out: &mut [u8]) -> Answer
-    ensures { end_of out.new result ≡ table_end limits out.old
-        (zeroed middle_rows (raised_table s.now v.r v.start p.high p.low tick)) }
-{
-    let mut ids = [0u64; 2 * tables::STRIDE];
-    let mut bounds = [0u64; 3 * MIDDLE];
-    let mut t = [0u64; tables::STRIDE * MIDDLE];
-    raise_in(s, v, p, tick, limits, out, &mut ids, &mut bounds, &mut t)
-}
-
-fn raise_large(s: &[u8], v: View, p: Replica, tick: u64, limits: Limits, out: &mut [u8]) -> Answer
-    ensures { end_of out.new result ≡ table_end limits out.old
-        (zeroed one_rows (raised_table s.now v.r v.start p.high p.low tick)) }
-{
-    let mut ids = [0u64; 2 * tables::STRIDE];
-    let mut bounds = [0u64; 3 * ONE];
-    let mut t = [0u64; tables::STRIDE * ONE];
-    raise_in(s, v, p, tick, limits, out, &mut ids, &mut bounds, &mut t)
+    Work::Merge { s, v, other, w }.write::<TWO_BOUNDS, TWO_TICKS>(limits, out)
 }
 
 // Writes the normal form of what a knowledge knows with the tick of a replica raised to one that no range has.
+#[tactic(auto, unfolding(crate::specs::MethodOpened::raised_end))]
 pub fn raise_opened(
     s: &[u8],
     v: View,
@@ -172,75 +158,28 @@ pub fn raise_opened(
     tick: u64,
     limits: Limits,
     out: &mut [u8],
-) -> Answer
-    ensures { end_of out.new result ≡ raised_end limits s.now v p tick out.old }
+) -> Result<usize, Refusal>
+    ensures { end_of out.new (answer_of result) ≡ raised_end limits s.now v p tick out.old }
 {
-    match size_for(v.start.left as usize + 1) {
-        Size::Small => raise_small(s, v, p, tick, limits, out),
-        Size::Middle => raise_middle(s, v, p, tick, limits, out),
-        Size::Large => raise_large(s, v, p, tick, limits, out),
-    }
+    Work::Raise { s, v, p, tick }.write::<ONE_BOUNDS, ONE_TICKS>(limits, out)
 }
 
-// ---- normalise of what was opened
-
-fn normalise_in(
+// Writes the normal form of a knowledge, whether it is in normal form or not.
+#[tactic(auto, unfolding(crate::specs::MethodOpened::by_table_end))]
+pub fn normalise_by_table(
     s: &[u8],
     v: View,
     limits: Limits,
     out: &mut [u8],
-    ids: &mut [u64],
-    bounds: &mut [u64],
-    t: &mut [u64],
-) -> Answer
-    ensures { end_of out.new result ≡ table_end limits out.old (one_table s.now v.r v.start
-        ids.old bounds.old t.old) }
+) -> Result<usize, Refusal>
+    ensures { end_of out.new (answer_of result) ≡ by_table_end limits s.now v out.old }
 {
-    let q = filling::fill_one(s, v.r, v.start, ids, bounds, t);
-    preparing::conclude(q, limits.replicas, limits.ranges, out, ids, bounds, t)
-}
-
-fn normalise_small(s: &[u8], v: View, limits: Limits, out: &mut [u8]) -> Answer
-    ensures { end_of out.new result ≡ table_end limits out.old (zeroed small_rows (one_table s.now v.r v.start)) }
-{
-    let mut ids = [0u64; 2 * tables::STRIDE];
-    let mut bounds = [0u64; 3 * SMALL];
-    let mut t = [0u64; tables::STRIDE * SMALL];
-    normalise_in(s, v, limits, out, &mut ids, &mut bounds, &mut t)
-}
-
-fn normalise_middle(s: &[u8], v: View, limits: Limits, out: &mut [u8]) -> Answer
-    ensures { end_of out.new result ≡ table_end limits out.old (zeroed middle_rows (one_table s.now v.r v.start)) }
-{
-    let mut ids = [0u64; 2 * tables::STRIDE];
-    let mut bounds = [0u64; 3 * MIDDLE];
-    let mut t = [0u64; tables::STRIDE * MIDDLE];
-    normalise_in(s, v, limits, out, &mut ids, &mut bounds, &mut t)
-}
-
-fn normalise_large(s: &[u8], v: View, limits: Limits, out: &mut [u8]) -> Answer
-    ensures { end_of out.new result ≡ table_end limits out.old (zeroed one_rows (one_table s.now v.r v.start)) }
-{
-    let mut ids = [0u64; 2 * tables::STRIDE];
-    let mut bounds = [0u64; 3 * ONE];
-    let mut t = [0u64; tables::STRIDE * ONE];
-    normalise_in(s, v, limits, out, &mut ids, &mut bounds, &mut t)
-}
-
-// Writes the normal form of a knowledge, whether it is in normal form or not.
-pub fn normalise_by_table(s: &[u8], v: View, limits: Limits, out: &mut [u8]) -> Answer
-    ensures { end_of out.new result ≡ by_table_end limits s.now v out.old }
-{
-    match size_for(v.start.left as usize + 1) {
-        Size::Small => normalise_small(s, v, limits, out),
-        Size::Middle => normalise_middle(s, v, limits, out),
-        Size::Large => normalise_large(s, v, limits, out),
-    }
+    Work::Normalise { s, v }.write::<ONE_BOUNDS, ONE_TICKS>(limits, out)
 }
 
 // Writes the normal form of a knowledge: a copy of its bytes where they are in normal form.
-pub fn normalise_opened(s: &[u8], v: View, limits: Limits, out: &mut [u8]) -> Answer
-    ensures { end_of out.new result ≡ normalised_end limits s.now v out.old }
+pub fn normalise_opened(s: &[u8], v: View, limits: Limits, out: &mut [u8]) -> Result<usize, Refusal>
+    ensures { end_of out.new (answer_of result) ≡ normalised_end limits s.now v out.old }
 {
     if normal_form::normal_opened(s, v) {
         return results_copied::copy_whole(s, out);
@@ -248,62 +187,16 @@ pub fn normalise_opened(s: &[u8], v: View, limits: Limits, out: &mut [u8]) -> An
     normalise_by_table(s, v, limits, out)
 }
 
-// ---- project of what was opened
-
-fn project_in(
+// Writes the normal form of what a knowledge knows of the items in a span.
+#[tactic(auto, unfolding(crate::specs::MethodOpened::projected_end))]
+pub fn project_opened(
     s: &[u8],
     v: View,
     span: Span,
     limits: Limits,
     out: &mut [u8],
-    ids: &mut [u64],
-    bounds: &mut [u64],
-    t: &mut [u64],
-) -> Answer
-    ensures { end_of out.new result ≡ table_end limits out.old (span_table s.now v.r v.start
-        span.first span.last ids.old bounds.old t.old) }
+) -> Result<usize, Refusal>
+    ensures { end_of out.new (answer_of result) ≡ projected_end limits s.now v span out.old }
 {
-    let q = filling::fill_span(s, v.r, v.start, span.first, span.last, ids, bounds, t);
-    preparing::conclude(q, limits.replicas, limits.ranges, out, ids, bounds, t)
-}
-
-fn project_small(s: &[u8], v: View, span: Span, limits: Limits, out: &mut [u8]) -> Answer
-    ensures { end_of out.new result ≡ table_end limits out.old
-        (zeroed small_rows (span_table s.now v.r v.start span.first span.last)) }
-{
-    let mut ids = [0u64; 2 * tables::STRIDE];
-    let mut bounds = [0u64; 3 * SMALL];
-    let mut t = [0u64; tables::STRIDE * SMALL];
-    project_in(s, v, span, limits, out, &mut ids, &mut bounds, &mut t)
-}
-
-fn project_middle(s: &[u8], v: View, span: Span, limits: Limits, out: &mut [u8]) -> Answer
-    ensures { end_of out.new result ≡ table_end limits out.old
-        (zeroed middle_rows (span_table s.now v.r v.start span.first span.last)) }
-{
-    let mut ids = [0u64; 2 * tables::STRIDE];
-    let mut bounds = [0u64; 3 * MIDDLE];
-    let mut t = [0u64; tables::STRIDE * MIDDLE];
-    project_in(s, v, span, limits, out, &mut ids, &mut bounds, &mut t)
-}
-
-fn project_large(s: &[u8], v: View, span: Span, limits: Limits, out: &mut [u8]) -> Answer
-    ensures { end_of out.new result ≡ table_end limits out.old
-        (zeroed one_rows (span_table s.now v.r v.start span.first span.last)) }
-{
-    let mut ids = [0u64; 2 * tables::STRIDE];
-    let mut bounds = [0u64; 3 * ONE];
-    let mut t = [0u64; tables::STRIDE * ONE];
-    project_in(s, v, span, limits, out, &mut ids, &mut bounds, &mut t)
-}
-
-// Writes the normal form of what a knowledge knows of the items in a span.
-pub fn project_opened(s: &[u8], v: View, span: Span, limits: Limits, out: &mut [u8]) -> Answer
-    ensures { end_of out.new result ≡ projected_end limits s.now v span out.old }
-{
-    match size_for(v.start.left as usize + 3) {
-        Size::Small => project_small(s, v, span, limits, out),
-        Size::Middle => project_middle(s, v, span, limits, out),
-        Size::Large => project_large(s, v, span, limits, out),
-    }
+    Work::Project { s, v, span }.write::<ONE_BOUNDS, ONE_TICKS>(limits, out)
 }

@@ -11,7 +11,7 @@ use Rattle.codec.specs.Part.{part, placed, bytes}
 use Rattle.codec.specs.Total.{read_at}
 use Rattle.codec.specs.Ids.{replica_of}
 use Rattle.codec.specs.MethodEnded.{end_of}
-use Rattle.codec.specs.declared.Answer.TheVariants.{Written, Refused}
+use Rattle.codec.specs.Answer.{Written, Refused}
 use Rattle.codec.specs.declared.Replica.{Replica}
 use Rattle.layout.specs.declared.ReplicaKey.{ReplicaKey}
 use Rattle.layout.specs.Decode.{elements_at}
@@ -62,10 +62,6 @@ module _ (key t : ℕ) (s : List ℕ) (start n : ℕ) where
         sym (inv ∙ ap (first_written key t u (start + 12 * i)) (elements-zero s (n - i) (start + 12 * i) (omega arith))
         ∙ first-nil key t u (start + 12 * i))
 
--- the elements of a vector, all there, end inside the bytes
-pub there_inside : (s : List ℕ) (at n i : ℕ) → There s at n → i < n → at + 8 + 12 * i + 12 ≤ length s
-there_inside s at n i h l = let r = h.room (omega arith) in omega (arith, r)
-
 -- ---- a vector
 
 module _ (key : ReplicaKey) (t : ℕ) (s u w : List ℕ) (at n : ℕ) (h : There s at n) where
@@ -91,13 +87,15 @@ module _ (key t : ℕ) (s : List ℕ) (n : ℕ) where
 
   module _ (w u : List ℕ) (k at : ℕ) (inv : w ≡ vectors_written key t s u (n - k) at) where
     pub vectors_on : k < n → (m : ℕ) → There s at m → (u' : List ℕ) → u' ≡ vector_written key t s u at
-        → w ≡ vectors_written key t s u' (n - (k + 1)) (at + 8 + 12 * m)
+        → w ≡ vectors_written key t s u' (n - (k + 1)) (at + (8 + 12 * m))
     vectors_on h m there u' e =
         let f : n - k ≡ suc (n - (k + 1)) = omega arith in
+        let g : at + 8 + 12 * m ≡ at + (8 + 12 * m) = omega arith in
         inv
         ∙ ap (λ j. vectors_written key t s u j at) f
         ∙ vectors_next key t s u (n - (k + 1)) at
         ∙ ap₂ (λ x j. vectors_written key t s x (n - (k + 1)) (at + 8 + 12 * j)) (sym e) (sym there.is)
+        ∙ ap (vectors_written key t s u' (n - (k + 1))) g
 
     pub vectors_end : n ≤ k → u ≡ w
     vectors_end h =
@@ -106,7 +104,7 @@ module _ (key t : ℕ) (s : List ℕ) (n : ℕ) where
 
 -- a vector with elements ends inside the bytes, and another has 8 bytes
 pub there_next : (s : List ℕ) (start k at m : ℕ) → There s at m → at ≤ start + length s + 8 * k
-    → at + 8 + 12 * m ≤ start + length s + 8 * (k + 1)
+    → at + (8 + 12 * m) ≤ start + length s + 8 * (k + 1)
 there_next s start k at m h l =
     elim (order m 0) [
       | less e ↦ absurd (omega arith)

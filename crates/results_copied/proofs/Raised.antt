@@ -16,8 +16,8 @@ use Rattle.codec.specs.Ids.{replica_of}
 use Rattle.codec.specs.Parsed.{line}
 use Rattle.codec.specs.Reply.{Reply, gives, refuses, first_fault}
 use Rattle.codec.specs.MethodEnded.{Ended, End, end_of}
-use Rattle.codec.specs.declared.Answer.{Answer}
-use Rattle.codec.specs.declared.Answer.TheVariants.{Written}
+use Rattle.codec.specs.Answer.{Answer}
+use Rattle.codec.specs.Answer.{Written}
 use Rattle.codec.specs.declared.Replica.{Replica}
 use Rattle.codec.proofs.Calls.{short_answer, short_after, written_answer, written_after}
 use Rattle.codec.proofs.Replies.{fault_none}

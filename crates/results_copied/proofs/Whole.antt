@@ -10,7 +10,7 @@ use borrow.Author.Tests.{le-leb}
 use Rattle.codec.specs.Part.{part, placed}
 use Rattle.codec.specs.Reply.{gives}
 use Rattle.codec.specs.MethodEnded.{Ended}
-use Rattle.codec.specs.declared.Answer.TheVariants.{Written, Refused}
+use Rattle.codec.specs.Answer.{Written, Refused}
 use Rattle.codec.proofs.Calls.{short_answer, short_after, written_answer, written_after}
 
 pub part_whole : (s : List ℕ) → part s 0 (length s) ≡ s

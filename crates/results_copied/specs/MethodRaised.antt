@@ -8,7 +8,7 @@ use Rattle.codec.specs.Part.{placed, bytes}
 use Rattle.codec.specs.Total.{read_at}
 use Rattle.codec.specs.Ids.{replica_of}
 use Rattle.codec.specs.MethodEnded.{End, end_of}
-use Rattle.codec.specs.declared.Answer.TheVariants.{Written, Refused}
+use Rattle.codec.specs.Answer.{Written, Refused}
 use Rattle.codec.specs.declared.Replica.{Replica}
 use Rattle.layout.specs.Knowledge.{Element, Knowledge}
 use Rattle.layout.specs.MethodPlaces.{vectors_place}

@@ -4,26 +4,27 @@
 #![tactic(auto)]
 
 ghost use Rattle.std.specs.Prelude.{◌≡◌, ◌+◌, ◌^◌, ◌≤◌};
+ghost use Rattle.codec.specs.Answer.{answer_of};
 ghost use Rattle.codec.specs.Reply.{gives};
 ghost use Rattle.codec.specs.MethodEnded.{Ended, end_of};
 ghost use Rattle.layout.specs.Decode.{elements_at};
 ghost use Rattle.lookup.specs.Method.{There};
 ghost use Rattle.results_copied.specs.MethodRaised.{first_written, vector_written, vectors_written, copied_end};
 
-use codec::{Answer, Replica};
+use codec::{Refusal, Replica};
 use layout::ReplicaKey;
 use lookup::View;
 
-// Copies bytes to the front of a buffer; 14 where it is too short.
-pub fn copy_whole(s: &[u8], out: &mut [u8]) -> Answer
-    ensures { Ended (gives s.now) out.old out.new result }
+// Copies bytes to the front of a buffer; refused where it is too short.
+pub fn copy_whole(s: &[u8], out: &mut [u8]) -> Result<usize, Refusal>
+    ensures { Ended (gives s.now) out.old out.new (answer_of result) }
 {
     let n = s.len();
     if out.len() < n {
-        return Answer::Refused(14);
+        return Err(Refusal::BufferTooShort);
     }
     codec::copy_part(s, 0, n, out, 0);
-    Answer::Written(n)
+    Ok(n)
 }
 
 // ---- a tick raised in a copy
@@ -36,14 +37,12 @@ fn write_first(s: &[u8], vector: usize, n: usize, key: ReplicaKey, tick: u64, ou
     ensures { out.new
         ≡ first_written key.0 tick out.old (vector + 8) (elements_at s.now n (vector + 8)) }
 {
-    let mut i: usize = 0;
-    while i < n {
+    for i in 0..n {
         let at = vector + 8 + 12 * i;
-        if leaves::four(&s[at..at + 4]) == key.0 as u64 {
-            codec::write8(out, at + 4, tick);
+        if leaves::first::<4>(&s[at..at + 4]) == u64::from(key.0) {
+            codec::write::<8>(out, at + 4, tick);
             return;
         }
-        i += 1;
     }
 }
 
@@ -53,14 +52,12 @@ fn write_tick(s: &[u8], vector: usize, n: usize, key: ReplicaKey, tick: u64, out
     ensures { out.new ≡ vector_written key.0 tick s.now out.old vector }
 {
     let guess = key.0 as usize;
-    if n <= guess {
-        write_first(s, vector, n, key, tick, out);
-        return;
-    }
-    let at = vector + 8 + 12 * guess;
-    if leaves::four(&s[at..at + 4]) == key.0 as u64 {
-        codec::write8(out, at + 4, tick);
-        return;
+    if guess < n {
+        let place = vector + 8 + 12 * guess;
+        if leaves::first::<4>(&s[place..place + 4]) == u64::from(key.0) {
+            codec::write::<8>(out, place + 4, tick);
+            return;
+        }
     }
     write_first(s, vector, n, key, tick, out);
 }
@@ -70,29 +67,33 @@ fn write_ticks(s: &[u8], n: u32, start: usize, key: ReplicaKey, tick: u64, out: 
     requires { start ≤ 2 ^ 40 }
     ensures { out.new ≡ vectors_written key.0 tick s.now out.old n start }
 {
-    let mut k: u32 = 0;
     let mut at = start;
-    while k < n {
+    for _ in 0..n {
         let m = lookup::elements_at(s, at);
         write_tick(s, at, m, key, tick, out);
-        at = at + 8 + 12 * m;
-        k += 1;
+        at += 8 + 12 * m;
     }
 }
 
-// Copies a knowledge to the front of a buffer, with a tick written over that of a replica in each clock vector that has one; 14 where the
-// buffer is too short.
-pub fn copy_raised(s: &[u8], v: View, p: Replica, tick: u64, out: &mut [u8]) -> Answer
-    ensures { end_of out.new result ≡ copied_end s.now v p tick out.old }
+// Copies a knowledge to the front of a buffer, with a tick written over that of a replica in each clock vector that has one; refused where
+// the buffer is too short.
+pub fn copy_raised(
+    s: &[u8],
+    v: View,
+    p: Replica,
+    tick: u64,
+    out: &mut [u8],
+) -> Result<usize, Refusal>
+    ensures { end_of out.new (answer_of result) ≡ copied_end s.now v p tick out.old }
 {
     let n = s.len();
     if out.len() < n {
-        return Answer::Refused(14);
+        return Err(Refusal::BufferTooShort);
     }
     codec::copy_part(s, 0, n, out, 0);
     let key = lookup::key_of(s, v.r, p);
     let start = layout::VECTORS_PLACE + 16 * (v.r as usize);
-    let vectors = codec::read4(s, start - 4) as u32;
+    let vectors = codec::read::<4>(s, start - 4) as u32;
     write_ticks(s, vectors, start, key, tick, out);
-    Answer::Written(n)
+    Ok(n)
 }

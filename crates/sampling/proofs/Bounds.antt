@@ -10,7 +10,7 @@ use mathlib.Core.Bool.{Bool, true, false}
 use mathlib.Core.List.{List, [], ◌∷◌}
 use native.Mathlib.Omega.{arith}
 use lib.Dec.{ltb}
-use lib.ListN.{length, get_or, set, length-set}
+use lib.ListN.{length, take, drop, get_or, set, length-set}
 use lib.Seq.{get_or-set_same, get_or-set_other}
 use borrow.Author.Tests.{ltb-true, ltb-false, lt-ltb, le-ltb, le-leb, lt-leb}
 use Rattle.codec.specs.Number.{be_at}
@@ -25,9 +25,10 @@ use Rattle.tables.specs.MethodWords.{bound_at}
 use Rattle.loading.specs.Method.{Stops}
 use Rattle.codec.specs.declared.Item.{Item}
 use Rattle.sampling.specs.declared.Turn.{Turn}
-use Rattle.codec.specs.Ids.{item_of}
+use Rattle.codec.specs.Ids.{item_of, item_read}
 use Rattle.sampling.specs.MethodRows.{bound_of, bound_in, turn_of, turn, put_bound, RowList, rows_of, row_more, grown, stopped_from, stopped}
 use Rattle.sampling.proofs.Columns.{Kept, Put}
+use Rattle.sampling.proofs.Parts.{part_read}
 
 -- B gives the bound of a row before a step, C after it; X and Y are lists of bounds
 
@@ -113,6 +114,16 @@ pub bound_read : (s : List ℕ) (at n x y z : ℕ) → x ≡ be_at s 8 (at + 28 
     → z ≡ be_at s 8 (at + 28 * n + 16) → bound_of x y z ≡ bound_in s at n
 unfolding bound_in
 bound_read s at n x y z e f g = rw (e, f, g) refl
+
+-- the item of such a part
+pub bound_is_read : (s : List ℕ) (at n : ℕ) (i : Item) → i ≡ item_read (take (at + 28 * n + 24 - (at + 28 * n)) (drop (at + 28 * n) s))
+    → at + 28 * n + 24 ≤ length s → i ≡ bound_in s at n
+unfolding item_read
+bound_is_read s at n i e l =
+    let p = at + 28 * n in
+    e
+    ∙ bound_read s at n _ _ _ (part_read s p 24 8 0 (omega arith) l ∙ ap (be_at s 8) (omega arith)) (part_read s p 24 8 8 (omega arith) l)
+    (part_read s p 24 8 16 (omega arith) l)
 
 -- One turn
 
@@ -271,15 +282,14 @@ module _ (l : List ℕ) (top : ℕ) (b : Item) where
   unfolding grown
   grown_on h = rw (lt-ltb (bound_at l top) (item_of b) h, grown)
 
-  module _ (x y z : ℕ) (e : x ≡ get_or l (3 * top) 0) (f : y ≡ get_or l (3 * top + 1) 0) (g : z ≡ get_or l (3 * top + 2) 0) (q : Bool)
-      (is : q ≡ ltb (words3 x y z) (item_of b)) where
+  module _ (last : Item) (e : item_of last ≡ bound_at l top) (q : Bool) (is : q ≡ ltb (item_of last) (item_of b)) where
     pub row_same : q ≡ false → rows_of l top ≡ grown (rows_of l top) b
-    row_same h = grown_not (omega (arith, bound_words_lem l top x y z e f g, ltb-false (words3 x y z) (item_of b) (sym is ∙ h)))
+    row_same h = grown_not (omega (arith, e, ltb-false (item_of last) (item_of b) (sym is ∙ h)))
 
     pub row_more_lem : q ≡ true → (u : List ℕ) → u ≡ put_bound l (top + 1) b → rows_of u (top + 1) ≡ grown (rows_of l top) b
     row_more_lem h u p =
         ap (λ (w : List ℕ). rows_of w (top + 1)) p
-        ∙ grown_on (omega (arith, bound_words_lem l top x y z e f g, ltb-true (words3 x y z) (item_of b) (sym is ∙ h)))
+        ∙ grown_on (omega (arith, e, ltb-true (item_of last) (item_of b) (sym is ∙ h)))
 
   -- what it comes to where there is room
   record GrownFacts (x : RowList) : Type 0 where

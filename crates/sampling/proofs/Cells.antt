@@ -185,41 +185,45 @@ module _ (keys t : List ℕ) (k key tick c : ℕ) (e : c ≡ get_or keys key 0) 
   unfolding raised_in raised_to
   raised_is y f = rw (f, e)
 
--- The loop over the elements at a place
+-- The loop over the elements of a vector
 
--- the whole row is what the elements that are left raise
-pub record Rest (whole s : List ℕ) (n i at : ℕ) (cols t : List ℕ) (k : ℕ) : Type 0 where
-  pub is : whole ≡ raised_by cols (elements_at s (n - i) (at + 8)) t k
-  pub there : i < n → at + 8 + 12 * (n - i) ≤ length s
+-- the whole row is what the elements after the first i raise
+pub record Rest (whole s : List ℕ) (vector n i : ℕ) (cols t : List ℕ) (k : ℕ) : Type 0 where
+  pub is : whole ≡ raised_by cols (elements_at s (n - i) (vector + 8 + 12 * i)) t k
+  pub there : i < n → vector + 8 + 12 * n ≤ length s
 
 pub rest_starts : (s : List ℕ) (n vector : ℕ) (cols t : List ℕ) (k : ℕ) → There s vector n
-    → Rest (raised_by cols (elements_here s vector) t k) s n 0 vector cols t k
+    → Rest (raised_by cols (elements_here s vector) t k) s vector n 0 cols t k
 rest_starts s n vector cols t k h =
     let z : n ≡ n - 0 = omega arith in
-    let e : elements_here s vector ≡ elements_at s (n - 0) (vector + 8) =
-    here_is s vector n h ∙ ap (λ m. elements_at s m (vector + 8)) z in
+    let p : vector + 8 ≡ vector + 8 + 12 * 0 = omega arith in
+    let e : elements_here s vector ≡ elements_at s (n - 0) (vector + 8 + 12 * 0) =
+    here_is s vector n h ∙ ap₂ (λ m a. elements_at s m a) z p in
     record { is = ap (λ es. raised_by cols es t k) e; there = λ l. omega (arith, h.room (omega arith)) }
 
-module _ (whole s : List ℕ) (n i at : ℕ) (cols t : List ℕ) (k : ℕ) (h : Rest whole s n i at cols t k) where
+module _ (whole s : List ℕ) (vector n i : ℕ) (cols t : List ℕ) (k : ℕ) (h : Rest whole s vector n i cols t k) where
   pub rest_ends : n ≤ i → t ≡ whole
   rest_ends l =
-      sym (h.is ∙ ap (λ es. raised_by cols es t k) (elements-zero s (n - i) (at + 8) (omega arith)) ∙ by_nil cols t k)
+      sym (h.is ∙ ap (λ es. raised_by cols es t k) (elements-zero s (n - i) (vector + 8 + 12 * i) (omega arith)) ∙ by_nil cols t k)
 
   module _ (l : i < n) where
-    first : elements_at s (n - i) (at + 8) ≡ element_at s (at + 8) ∷ elements_at s (n - (i + 1)) (at + 12 + 8)
+    pub rest_room : vector + 8 + 12 * i + 12 ≤ length s
+    rest_room = omega (arith, h.there l)
+
+    first : elements_at s (n - i) (vector + 8 + 12 * i)
+        ≡ element_at s (vector + 8 + 12 * i) ∷ elements_at s (n - (i + 1)) (vector + 8 + 12 * (i + 1))
     first =
         let z : n - i - 1 ≡ n - (i + 1) = omega arith in
-        let p : at + 8 + 12 ≡ at + 12 + 8 = omega arith in
-        elements-cons s (n - i) (at + 8) (omega arith)
-        ∙ ap₂ (λ m q. element_at s (at + 8) ∷ elements_at s m q) z p
+        let p : vector + 8 + 12 * i + 12 ≡ vector + 8 + 12 * (i + 1) = omega arith in
+        elements-cons s (n - i) (vector + 8 + 12 * i) (omega arith)
+        ∙ ap₂ (λ m q. element_at s (vector + 8 + 12 * i) ∷ elements_at s m q) z p
 
-    pub rest_next : (key tick : ℕ) (u : List ℕ) → key ≡ be_at s 4 (at + 8) → tick ≡ be_at s 8 (at + 12) → u ≡ raised_in cols t k key tick
-        → Rest whole s n (i + 1) (at + 12) cols u k
+    pub rest_next : (key tick : ℕ) (u : List ℕ) → key ≡ be_at s 4 (vector + 8 + 12 * i) → tick ≡ be_at s 8 (vector + 8 + 12 * i + 4)
+        → u ≡ raised_in cols t k key tick → Rest whole s vector n (i + 1) cols u k
     rest_next key tick u e g d =
-        let q : at + 12 ≡ at + 8 + 4 = omega arith in
-        let es = elements_at s (n - (i + 1)) (at + 12 + 8) in
+        let es = elements_at s (n - (i + 1)) (vector + 8 + 12 * (i + 1)) in
         record {
-          is = h.is ∙ ap (λ es. raised_by cols es t k) first ∙ by_one cols (element_at s (at + 8)) es t k
-              ∙ ap (λ w. raised_by cols es w k) (sym (d ∙ ap₂ (raised_in cols t k) e (g ∙ ap (be_at s 8) q)));
-          there = λ m. omega (arith, h.there l);
+          is = h.is ∙ ap (λ es. raised_by cols es t k) first ∙ by_one cols (element_at s (vector + 8 + 12 * i)) es t k
+              ∙ ap (λ w. raised_by cols es w k) (sym (d ∙ ap₂ (raised_in cols t k) e g));
+          there = λ m. h.there l;
         }

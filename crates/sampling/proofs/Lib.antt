@@ -8,3 +8,4 @@ pub mod Opening
 pub mod Span
 pub mod Stops
 pub mod Tables
+pub mod Parts

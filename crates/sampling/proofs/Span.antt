@@ -12,15 +12,13 @@ use lib.Dec.{eqb}
 use lib.ListN.{length}
 use borrow.Author.Tests.{eqb-false, eq-eqb, ne_eqb, lt-ltb, le-ltb}
 use Rattle.codec.specs.Words.{words3}
-use Rattle.codec.proofs.Total.{read_id3}
-use Rattle.ticks.specs.Calls.{id_of}
 use Rattle.ticks.specs.Meaning.{highest}
 use Rattle.ticks.proofs.Lists.{order, less, same, more}
 use Rattle.ticks.proofs.Equality.{exact?, eqb_exact}
 use Rattle.ticks.proofs.LawfulResults.{highest_words}
 use Rattle.loading.specs.Method.{Stops, Begins, at_once, after_one, Ends, at_top, with_one}
 use Rattle.codec.specs.declared.Item.{Item}
-use Rattle.codec.specs.Ids.{item_of, InWords, item_read}
+use Rattle.codec.specs.Ids.{item_of, InWords}
 use Rattle.sampling.specs.MethodRows.{bound_of, top_word, first_item, top_item, put_bound}
 use Rattle.sampling.specs.MethodRows.{RowList, rows_of, first_row, after, last_row}
 use Rattle.sampling.proofs.Columns.{Kept}

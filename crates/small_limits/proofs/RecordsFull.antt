@@ -5,7 +5,7 @@ use mathlib.Core.Path.{◌≡◌, refl}
 use mathlib.Core.List.{[], ◌∷◌}
 use lib.Dec.{lit<}
 use lib.ListN.{take}
-use Rattle.codec.specs.declared.Answer.TheVariants.{Refused}
+use Rattle.codec.specs.Answer.{Refused}
 use Rattle.layout.proofs.Forward.{encode_bytes}
 use Rattle.replication.specs.Call.{Given}
 use Rattle.replication.specs.Promise.{Promise, ends}

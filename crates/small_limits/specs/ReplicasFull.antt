@@ -2,8 +2,8 @@
 -- has two replicas and its own id would be a third. The bytes at the end were made from the paper's text; of this repository's
 -- definitions they rest only on `put`, a number as bytes.
 use Rattle.std.specs.Prelude.{ℕ, ◌-◌, ◌^◌, Bool, true, false, List, [], ◌∷◌}
-use Rattle.codec.specs.declared.Answer.{Answer}
-use Rattle.codec.specs.declared.Answer.TheVariants.{Written, Refused}
+use Rattle.codec.specs.Answer.{Answer}
+use Rattle.codec.specs.Answer.{Written, Refused}
 use Rattle.layout.specs.Knowledge.{encode}
 use Rattle.ticks.specs.Meaning.{highest}
 use Rattle.replication.specs.Call.{Call, edit, delete, make, apply}

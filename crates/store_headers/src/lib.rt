@@ -21,8 +21,8 @@ fn write_sizes(out: &mut [u8], at: usize, x: usize, y: usize)
     requires { at + 8 < 2 ^ 64 }
     ensures { Wrote out.old at (put_both 4 x y) out.new (at + 8) }
 {
-    codec::write4(out, at, x as u64);
-    codec::write4(out, at + 4, y as u64);
+    codec::write::<4>(out, at, x as u64);
+    codec::write::<4>(out, at + 4, y as u64);
 }
 
 // A first and a last id, from a place on.
@@ -41,7 +41,7 @@ pub fn write_store_header(out: &mut [u8], own: Replica, knowledge: usize, record
     if out.len() < STORE {
         return;
     }
-    codec::write1(out, 0, 3);
+    codec::write::<1>(out, 0, 3);
     leaves::write_replica(out, 1, own);
     write_sizes(out, 17, knowledge, records);
 }
@@ -54,8 +54,8 @@ pub fn write_batch_header(out: &mut [u8], span: Span, needed: usize, learned: us
     if out.len() < BATCH {
         return;
     }
-    codec::write1(out, 0, 4);
+    codec::write::<1>(out, 0, 4);
     write_span(out, 1, span);
     write_sizes(out, 49, needed, learned);
-    codec::write4(out, 57, records as u64);
+    codec::write::<4>(out, 57, records as u64);
 }

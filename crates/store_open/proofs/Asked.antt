@@ -7,8 +7,7 @@ use mathlib.Core.Path.{◌≡◌, refl, sym, ap, ap₂, ◌∙◌}
 use mathlib.Core.Bool.{Bool, true, false, not}
 use mathlib.Core.List.{List, [], ◌∷◌}
 use native.Mathlib.Omega.{arith}
-use lib.Dec.{eqb, leb}
-use borrow.Author.Tests.{le-leb, leb-true, eqb-true}
+use borrow.Author.Tests.{le-leb, leb-true}
 use Rattle.codec.specs.Number.{be_at}
 use Rattle.codec.specs.Words.{words2}
 use Rattle.codec.proofs.Total.{read_there}
@@ -19,24 +18,17 @@ use Rattle.replication.specs.Reading.{rec_at, both, change_replica_place, change
 use Rattle.replication.specs.OpenStore.{versions_in}
 use Rattle.replication.specs.OpenBatch.{lacks_change}
 use Rattle.replication.specs.MethodRecords.{each, WholeAt}
-use Rattle.replication.proofs.Tables.Rising.{both_parts}
 use Rattle.replication.proofs.Tables.InBytes.{each_nil, each-cons}
 use Rattle.lookup.specs.declared.Cursor.{Cursor}
 use Rattle.lookup.specs.Method.{key_at, tick_of}
 use Rattle.records_versions.specs.Method.{moved_to, tick_in, change_in, create_in, both_in}
 use Rattle.records_versions.proofs.Versions.{version_in_is}
 use Rattle.records_versions.proofs.Passing.{Follows, follows_change, follows_both}
+use Rattle.store_open.specs.declared.Wanted.{Wanted}
+use Rattle.store_open.specs.declared.Wanted.TheVariants.{Contained, Lacking}
 use Rattle.store_open.specs.MethodEach.{asked_in, asked, carried_by}
 
 -- ---- one record
-
--- of two versions, by their replicas and ticks
-module _ (p q tick t : ℕ) (b : Bool) (e : b ≡ eqb p q) where
-  pub no_later_same : b ≡ true → leb t tick ≡ both (eqb p q) (leb t tick)
-  no_later_same f = sym (ap (λ (x : Bool). both x (leb t tick)) (sym e ∙ f))
-
-  pub no_later_other : b ≡ false → false ≡ both (eqb p q) (leb t tick)
-  no_later_other f = sym (ap (λ (x : Bool). both x (leb t tick)) (sym e ∙ f))
 
 tick_less : (k : List ℕ) (r vector p q tick t : ℕ) → p ≡ q → t ≤ tick → tick_in k r vector p tick ≡ true
     → tick_in k r vector q t ≡ true
@@ -49,56 +41,51 @@ tick_less k r vector p q tick t e l h =
 -- of the whole record at a place, with the change version read
 module _ (s : List ℕ) (at : ℕ) (w : WholeAt s at) (k : List ℕ) (r vector p0 p1 tick : ℕ)
     (e : words2 p0 p1 ≡ be_at s 16 (at + change_replica_place)) (f : tick ≡ be_at s 8 (at + change_tick_place))
-    (b : Bool) (is : b ≡ tick_in k r vector (words2 p0 p1) tick) (lacking : Bool) where
+    (b : Bool) (is : b ≡ tick_in k r vector (words2 p0 p1) tick) (z : Wanted) where
   change_is : b ≡ change_in s at k r vector
   change_is =
       version_in_is k r vector s (at + change_replica_place) (at + change_tick_place) p0 p1 tick b
       (e ∙ sym (read_there s 16 (at + change_replica_place) w.change_replica))
       (f ∙ sym (read_there s 8 (at + change_tick_place) w.change_tick)) is
 
-  pub asked_lacking : lacking ≡ true → not b ≡ asked_in lacking s at k r vector
+  pub asked_lacking : z ≡ Lacking → not b ≡ asked_in z s at k r vector
   unfolding asked_in
   asked_lacking u = ap not change_is ∙ sym (ap (λ x. asked_in x s at k r vector) u)
 
-  module _ (u : lacking ≡ false) where
-    both_is : asked_in lacking s at k r vector ≡ both b (create_in s at k r vector)
+  module _ (u : z ≡ Contained) where
+    both_is : asked_in z s at k r vector ≡ both b (create_in s at k r vector)
     unfolding asked_in both_in
     both_is = ap (λ x. asked_in x s at k r vector) u ∙ ap (λ (x : Bool). both x (create_in s at k r vector)) (sym change_is)
 
-    pub asked_none : b ≡ false → false ≡ asked_in lacking s at k r vector
+    pub asked_none : b ≡ false → false ≡ asked_in z s at k r vector
     asked_none t = sym (both_is ∙ ap (λ (x : Bool). both x (create_in s at k r vector)) t)
 
     module _ (t : b ≡ true) (q0 q1 x : ℕ) (g : words2 q0 q1 ≡ be_at s 16 (at + create_replica_place))
         (h : x ≡ be_at s 8 (at + create_tick_place)) where
-      pub asked_create : (d : Bool) → d ≡ tick_in k r vector (words2 q0 q1) x → d ≡ asked_in lacking s at k r vector
+      pub asked_create : (d : Bool) → d ≡ tick_in k r vector (words2 q0 q1) x → d ≡ asked_in z s at k r vector
       asked_create d i =
           version_in_is k r vector s (at + create_replica_place) (at + create_tick_place) q0 q1 x d
           (g ∙ sym (read_there s 16 (at + create_replica_place) w.create_replica))
           (h ∙ sym (read_there s 8 (at + create_tick_place) w.create_tick)) i
           ∙ sym (both_is ∙ ap (λ (y : Bool). both y (create_in s at k r vector)) t)
 
-      pub asked_same : (d : Bool) → d ≡ both (eqb (words2 p0 p1) (words2 q0 q1)) (leb x tick) → d ≡ true
-          → true ≡ asked_in lacking s at k r vector
-      asked_same d i v =
-          let z = both_parts (eqb (words2 p0 p1) (words2 q0 q1)) (leb x tick) (sym i ∙ v) in
-          let l = leb-true x tick z.1 in
-          asked_create true
-          (sym (tick_less k r vector (words2 p0 p1) (words2 q0 q1) tick x (eqb-true (words2 p0 p1) (words2 q0 q1) z.0) l (sym is ∙ t)))
+      pub asked_same : words2 p0 p1 ≡ words2 q0 q1 → x ≤ tick → true ≡ asked_in z s at k r vector
+      asked_same i l = asked_create true (sym (tick_less k r vector (words2 p0 p1) (words2 q0 q1) tick x i l (sym is ∙ t)))
 
 -- of the record that the cursor was moved on to
 module _ (s k : List ℕ) (r n at : ℕ) (c : Cursor) (f : Follows s k r n at c) (some : 0 < n) (d : Cursor) (moved : d ≡ moved_to s at k r c) where
-  pub follows_asked : (lacking b : Bool) → b ≡ asked_in lacking s at k r d.vector → b ≡ asked lacking (decode k) (rec_at s at)
+  pub follows_asked : (z : Wanted) (b : Bool) → b ≡ asked_in z s at k r d.vector → b ≡ asked z (decode k) (rec_at s at)
   unfolding asked_in asked lacks_change
-  follows_asked true b e = e ∙ ap not (follows_change s k r n at c f some d moved (change_in s at k r d.vector) refl)
-  follows_asked false b e = follows_both s k r n at c f some d moved b e
+  follows_asked Lacking b e = e ∙ ap not (follows_change s k r n at c f some d moved (change_in s at k r d.vector) refl)
+  follows_asked Contained b e = follows_both s k r n at c f some d moved b e
 
 -- ---- each record of a table
 
-pub asked_contained : (k : Knowledge) (rs : List Rec) (b : Bool) → b ≡ each (asked false k) rs → b ≡ each (versions_in k) rs
+pub asked_contained : (k : Knowledge) (rs : List Rec) (b : Bool) → b ≡ each (asked Contained k) rs → b ≡ each (versions_in k) rs
 unfolding asked
 asked_contained k rs b e = e
 
-pub asked_each_lacking : (k : Knowledge) (rs : List Rec) (b : Bool) → b ≡ each (asked true k) rs → b ≡ each (lacks_change k) rs
+pub asked_each_lacking : (k : Knowledge) (rs : List Rec) (b : Bool) → b ≡ each (asked Lacking k) rs → b ≡ each (lacks_change k) rs
 unfolding asked
 asked_each_lacking k rs b e = e
 

@@ -13,7 +13,8 @@ use borrow.Author.Tests.{ltb-true, ltb-false}
 use Rattle.codec.specs.Number.{Bytes}
 use Rattle.codec.specs.Parsed.{Parsed}
 use Rattle.codec.specs.Total.{read_at, clamp}
-use Rattle.codec.specs.Words.{words3}
+use Rattle.codec.specs.declared.Refusal.{Refusal}
+use Rattle.codec.specs.declared.Refusal.TheVariants.{BatchNotValid}
 use Rattle.codec.proofs.Total.{read_there}
 use Rattle.layout.specs.Knowledge.{Limits, any_id, Knowledge}
 use Rattle.layout.specs.Permitted.{largest_records, within}
@@ -31,9 +32,8 @@ use Rattle.lookup.specs.Method.{open_of}
 use Rattle.lookup_ranges.specs.Method.{inside_of}
 use Rattle.lookup_ranges.proofs.Outside.{inside_opens}
 use Rattle.store_open.specs.declared.KnowledgePart.{KnowledgePart}
-use Rattle.store_open.specs.declared.Normality.{Normality}
-use Rattle.store_open.specs.declared.Normality.TheVariants as N
-use Rattle.store_open.specs.declared.OpenedBatch.TheVariants as B
+use Rattle.std.specs.Prelude as N
+use Rattle.store_open.specs.declared.OpenBatch.{OpenBatch}
 use Rattle.store_open.specs.Method.{sized_part, NormalOf, NormalityOf, needed_bytes, learned_bytes}
 use Rattle.store_open.specs.Method.{batch_from, batch_opened, BatchHeader}
 use Rattle.store_open.specs.MethodEach.{carried_by}
@@ -41,9 +41,15 @@ use Rattle.store_open.proofs.Opened.{if_batch, if_not, from_both}
 use Rattle.store_open.proofs.Judged.{normal_accepted, normal_read, normal_opened_lem}
 use Rattle.store_open.proofs.Carried.{carried_by_lem, carried_all}
 
--- ---- the two answers
+-- ---- the two results
 
-batch_not : (L : Limits) (s : List ℕ) → (BatchTests L s → ⊥) → B.NotValid ≡ batch_opened L s
+abbrev not_batch : N.Result OpenBatch Refusal
+not_batch = N.Err BatchNotValid
+
+abbrev valid_batch : KnowledgePart → KnowledgePart → ℕ → N.Result OpenBatch Refusal
+valid_batch p d n = N.Ok (record { needed = p; learned = d; count = n })
+
+batch_not : (L : Limits) (s : List ℕ) → (BatchTests L s → ⊥) → not_batch ≡ batch_opened L s
 unfolding batch_opened
 batch_not L s n = sym (if_not _ _ (no_batch L s n))
 
@@ -52,27 +58,26 @@ batch_is : (L : Limits) (s : List ℕ) → BatchTests L s
 unfolding batch_opened
 batch_is L s t = if_batch _ _ (tests_batch L s t)
 
--- ---- the span, by its words
+-- ---- the span
 
-module _ (s : List ℕ) (f0 f1 f2 l0 l1 l2 : ℕ) (first : words3 f0 f1 f2 ≡ first_id s) (last : words3 l0 l1 l2 ≡ last_id s) (t : Bool) where
-  pub span_less : t ≡ ltb (words3 l0 l1 l2) (words3 f0 f1 f2) → t ≡ ltb (last_id s) (first_id s)
+module _ (s : List ℕ) (f l : ℕ) (first : f ≡ first_id s) (last : l ≡ last_id s) (t : Bool) where
+  pub span_less : t ≡ ltb l f → t ≡ ltb (last_id s) (first_id s)
   span_less is = is ∙ ap₂ ltb last first
 
-  pub span_inside : (k : List ℕ) (c : Cursor) → t ≡ inside_of k c (words3 f0 f1 f2) (words3 l0 l1 l2)
-      → t ≡ inside_of k c (first_id s) (last_id s)
+  pub span_inside : (k : List ℕ) (c : Cursor) → t ≡ inside_of k c f l → t ≡ inside_of k c (first_id s) (last_id s)
   span_inside k c is = is ∙ ap₂ (inside_of k c) first last
 
 -- ---- up to the knowledges
 
 module _ (s : List ℕ) where
-  pub batch_short : (L : Limits) → length s < batch_needed → B.NotValid ≡ batch_opened L s
+  pub batch_short : (L : Limits) → length s < batch_needed → not_batch ≡ batch_opened L s
   batch_short L l = batch_not L s (λ t. omega (arith, t.header))
 
   module _ (h : batch_needed ≤ length s) where
-    pub batch_kind : (L : Limits) (x : ℕ) → x ≡ read_at s 1 0 → (x ≡ 4 → ⊥) → B.NotValid ≡ batch_opened L s
+    pub batch_kind : (L : Limits) (x : ℕ) → x ≡ read_at s 1 0 → (x ≡ 4 → ⊥) → not_batch ≡ batch_opened L s
     batch_kind L x e n = batch_not L s (λ t. n (e ∙ read_there s 1 0 (omega arith) ∙ t.kind))
 
-    pub batch_falls : (L : Limits) (t : Bool) → t ≡ ltb (last_id s) (first_id s) → t ≡ true → B.NotValid ≡ batch_opened L s
+    pub batch_falls : (L : Limits) (t : Bool) → t ≡ ltb (last_id s) (first_id s) → t ≡ true → not_batch ≡ batch_opened L s
     batch_falls L t e u =
         let l = ltb-true (last_id s) (first_id s) (sym e ∙ u) in
         batch_not L s (λ x. omega (arith, x.span, l))
@@ -84,14 +89,14 @@ module _ (s : List ℕ) where
       learned_size_lem : m ≡ learned_length s
       learned_size_lem = f ∙ read_there s 4 53 (omega arith)
 
-      pub batch_over : (L : Limits) → length s - batch_needed < n + m → B.NotValid ≡ batch_opened L s
+      pub batch_over : (L : Limits) → length s - batch_needed < n + m → not_batch ≡ batch_opened L s
       batch_over L l = batch_not L s (λ t. omega (arith, t.inside, needed_size_lem, learned_size_lem))
 
       module _ (count : ℕ) (g : count ≡ read_at s 4 57) where
         count_is : count ≡ batch_count s
         count_is = g ∙ read_there s 4 57 (omega arith)
 
-        pub batch_many : (L : Limits) (most : ℕ) → most ≡ L.records → most < count → B.NotValid ≡ batch_opened L s
+        pub batch_many : (L : Limits) (most : ℕ) → most ≡ L.records → most < count → not_batch ≡ batch_opened L s
         batch_many L most i l = batch_not L s (λ t. omega (arith, t.count, count_is, i))
 
         module _ (t : Bool) (i : t ≡ shaped_at s 0 count (batch_needed + n + m)) where
@@ -100,7 +105,7 @@ module _ (s : List ℕ) where
               let p : batch_needed + n + m ≡ batch_table s = omega (arith, needed_size_lem, learned_size_lem) in
               sym (i ∙ ap₂ (shaped_at s 0) count_is p)
 
-          pub batch_unshaped : (L : Limits) → t ≡ false → B.NotValid ≡ batch_opened L s
+          pub batch_unshaped : (L : Limits) → t ≡ false → not_batch ≡ batch_opened L s
           batch_unshaped L u =
               batch_not L s (λ x. let y = x.ordered in let w = shaped_is in let z : ◌≡◌ {A = ℕ} 0 1 = cc in omega arith)
 
@@ -153,13 +158,13 @@ module _ (a b m : ℕ) (s k l : List ℕ) (n : ℕ) (h : BatchHeader s k l n) (f
   read_learned : parse (any_id L) l ≡ learned_read L s
   read_learned = ap (parse (any_id L)) h.learned
 
-  pub batch_needed_lem : (z : Normality) → NormalityOf L k z → z ≡ N.Other → B.NotValid ≡ batch_opened L s
+  pub batch_needed_lem : (z : N.Option KnowledgePart) → NormalityOf L k z → z ≡ N.None → not_batch ≡ batch_opened L s
   batch_needed_lem z f e =
       batch_not L s
       (λ t. f.other e (ap (λ (x : Parsed Knowledge). is_accepted x) read_needed ∙ t.needed_accepted)
       (ap (λ (x : Parsed Knowledge). is_normal (read_as x)) read_needed ∙ t.needed_normal))
 
-  pub batch_learned_lem : (z : Normality) → NormalityOf L l z → z ≡ N.Other → B.NotValid ≡ batch_opened L s
+  pub batch_learned_lem : (z : N.Option KnowledgePart) → NormalityOf L l z → z ≡ N.None → not_batch ≡ batch_opened L s
   batch_learned_lem z f e =
       batch_not L s
       (λ t. f.other e (ap (λ (x : Parsed Knowledge). is_accepted x) read_learned ∙ t.learned_accepted)
@@ -177,7 +182,7 @@ module _ (a b m : ℕ) (s k l : List ℕ) (n : ℕ) (h : BatchHeader s k l n) (f
     inside_is : (inside_of l d.view.start (first_id s) (last_id s) ≡ true) ↔ NothingOutside (first_id s) (last_id s) (decode l)
     inside_is = inside_opens (any_id L) l d.view.r d.view.start q.opens (first_id s) (last_id s) q.normal
 
-    pub batch_outside : t ≡ false → B.NotValid ≡ batch_opened L s
+    pub batch_outside : t ≡ false → not_batch ≡ batch_opened L s
     batch_outside u =
         batch_not L s
         (λ x.
@@ -203,7 +208,7 @@ module _ (a b m : ℕ) (s k l : List ℕ) (n : ℕ) (h : BatchHeader s k l n) (f
         carried_is : w ≡ each (carried_by (decode k) (decode l)) (records_at s (batch_count s) (batch_table s))
         carried_is = x ∙ ap (each (carried_by (decode k) (decode l))) here
 
-        pub batch_lacks : w ≡ false → B.NotValid ≡ batch_opened L s
+        pub batch_lacks : w ≡ false → not_batch ≡ batch_opened L s
         batch_lacks f =
             batch_not L s
             (λ y.
@@ -232,14 +237,14 @@ module _ (a b m : ℕ) (s k l : List ℕ) (n : ℕ) (h : BatchHeader s k l n) (f
               (sym carried_is ∙ f);
         }
 
-        pub batch_valid : w ≡ true → B.Valid p d n ≡ batch_opened L s
+        pub batch_valid : w ≡ true → valid_batch p d n ≡ batch_opened L s
         batch_valid f =
             let one : p.length ≡ needed_length s = o.length ∙ needed-length s k l n h in
             let two : d.length ≡ learned_length s = q.length ∙ learned-length s k l n h in
             let needed : p ≡ sized_part (needed_length s) p.view = λ i. sized_part (one i) p.view in
             let learned : d ≡ sized_part (learned_length s) d.view = λ i. sized_part (two i) d.view in
-            ap₂ (λ (x : KnowledgePart) (c : ℕ). B.Valid x d c) needed h.count
-            ∙ ap (λ (x : KnowledgePart). B.Valid (sized_part (needed_length s) p.view) x (batch_count s)) learned
+            ap₂ (λ (x : KnowledgePart) (c : ℕ). valid_batch x d c) needed h.count
+            ∙ ap (λ (x : KnowledgePart). valid_batch (sized_part (needed_length s) p.view) x (batch_count s)) learned
             ∙ sym (batch_is L s (tests f)
             ∙ ap₂ (batch_from s)
             (ap (λ (x : List ℕ). open_of (checked_by (any_id L) x)) (sym h.needed) ∙ normal_opened_lem L k p o)

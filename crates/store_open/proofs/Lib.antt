@@ -3,6 +3,7 @@ pub mod Opened
 pub mod Judged
 pub mod Store
 pub mod Carried
+pub mod Ids
 pub mod Keys
 pub mod Places
 pub mod Asked

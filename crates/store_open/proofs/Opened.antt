@@ -1,23 +1,29 @@
--- What the answers of the check mean, for callers. An answer `Valid` holds what a caller goes on from (`store_open`, `batch_open`): the
--- tests of opening, the value at its places, and each knowledge opened for lookup. An answer `NotValid` is the refusal (`store_closed`,
--- `batch_closed`). The check of a knowledge that was accepted gave sizes, so the answers cannot be mixed up. Then the places and slices
--- that code computes from the sizes.
+-- What the results of the check mean, for callers. From `Ok` a caller goes on (`store_open`, `batch_open`): the tests of opening, the value
+-- at its places, and each knowledge opened for lookup. `Err` is the definition's refusal (`store_closed`, `batch_closed`), of one kind
+-- (`store_why`, `batch_why`). The check of a knowledge that was accepted gave sizes, so the results cannot be mixed up. Then the places and
+-- slices that code computes from the sizes.
 use Prim.Native.Nat.{ℕ, ◌+◌, ◌-◌, ◌≤◌}
 use mathlib.Core.Path.{◌≡◌, refl, sym, ap, ap₂, ◌∙◌, subst}
 use mathlib.Core.Bool.{Bool, true, false}
 use mathlib.Core.List.{List}
 use native.Mathlib.Omega.{arith}
 use lib.ListN.{length, take, drop}
+use Rattle.std.specs.Prelude.{Result, Ok, Err}
 use Rattle.codec.specs.Number.{Bytes}
+use Rattle.codec.specs.declared.Refusal.{Refusal}
+use Rattle.codec.specs.declared.Refusal.TheVariants.{StoreNotValid, BatchNotValid}
+use Rattle.codec.specs.Refusal.{number}
 use Rattle.codec.specs.Parsed.{accepted, refused}
 use Rattle.codec.proofs.Total.{clamp_within}
 use Rattle.layout.specs.Knowledge.{Limits, any_id}
 use Rattle.layout.specs.Permitted.{largest_replicas, within}
 use Rattle.layout.specs.Decode.{decode}
 use Rattle.layout.specs.Parse.{checked_by, parse}
+use Rattle.layout.specs.Checked.{Checked}
+use Rattle.layout.specs.Checked as A
+use Rattle.layout.proofs.Exact.{refused_exact}
 use Rattle.layout.proofs.Places.{places}
 use Rattle.layout.proofs.Within.{within_permitted}
-use Rattle.ticks.proofs.ForCode.{refusing}
 use Rattle.replication.specs.OpenStore.{knowledge_length, store_count, store_knowledge, store_table, open_store}
 use Rattle.replication.specs.OpenBatch.{first_id, last_id, needed_length, learned_length, batch_count, batch_needed, batch_learned, batch_table}
 use Rattle.replication.specs.OpenBatch.{open_batch}
@@ -28,16 +34,14 @@ use Rattle.replication.proofs.Opening.Store.{StoreTests, store_tests_hold, store
 use Rattle.replication.proofs.Opening.Batch.{BatchTests, batch_tests_hold, batch_opens, batch_refuses, needed_decodes, learned_decodes}
 use Rattle.lookup.specs.declared.Cursor.{Cursor}
 use Rattle.lookup.specs.declared.View.{View}
-use Rattle.lookup.specs.declared.Opened.{Opened}
-use Rattle.lookup.specs.declared.Opened.TheVariants as O
+use Rattle.lookup.specs.Opened.{Opened, opened_of}
+use Rattle.lookup.specs.Opened as O
 use Rattle.lookup.specs.Method.{open_of, Opens, Open}
 use Rattle.lookup.proofs.Leaf.{opens_reading}
-use Rattle.lookup.proofs.Calls.{opens, opens_refused}
+use Rattle.lookup.proofs.Calls.{opens, opened_view, check_refused}
 use Rattle.store_open.specs.declared.KnowledgePart.{KnowledgePart}
-use Rattle.store_open.specs.declared.OpenedStore.{OpenedStore}
-use Rattle.store_open.specs.declared.OpenedStore.TheVariants as S
-use Rattle.store_open.specs.declared.OpenedBatch.{OpenedBatch}
-use Rattle.store_open.specs.declared.OpenedBatch.TheVariants as B
+use Rattle.store_open.specs.declared.OpenStore.{OpenStore}
+use Rattle.store_open.specs.declared.OpenBatch.{OpenBatch}
 use Rattle.store_open.specs.Method.{sized_part, own_bytes, store_from, store_if, store_opened}
 use Rattle.store_open.specs.Method.{needed_bytes, learned_bytes, batch_from, batch_if, batch_opened}
 
@@ -57,7 +61,7 @@ module _ (a b n : ℕ) where
 
   module _ (bytes : List ℕ) where
     open_at : Bytes bytes → (v : View) → open_of (checked_by (any_id L) bytes) ≡ O.At v → Opens (any_id L) bytes v.r v.start
-    open_at h v e = opens (any_id L) (within_permitted a b n) bytes (open_of (checked_by (any_id L) bytes)) refl h v e
+    open_at h v e = opens (any_id L) (within_permitted a b n) bytes (Ok v) (opened_view v ∙ sym e) h v refl
 
     open_small : (r : ℕ) (c : Cursor) → Opens (any_id L) bytes r c → r ≤ largest_replicas
     open_small r c o =
@@ -69,8 +73,8 @@ module _ (a b n : ℕ) where
 
     not_refused : is_accepted (parse (any_id L) bytes) ≡ true → (m : ℕ) → open_of (checked_by (any_id L) bytes) ≡ O.Refused m → ⊥
     not_refused t m e =
-        let f = opens_refused (any_id L) (within_permitted a b n) bytes (open_of (checked_by (any_id L) bytes)) refl m e in
-        let g : is_accepted (parse (any_id L) bytes) ≡ false = not_accepted _ m (refusing (any_id L) bytes m f) in
+        let f = (refused_exact (any_id L) (within_permitted a b n) bytes m).0 (check_refused (checked_by (any_id L) bytes) m e) in
+        let g : is_accepted (parse (any_id L) bytes) ≡ false = not_accepted _ m f in
         absurd (let z : ◌≡◌ {A = ℕ} 0 1 = cc in omega arith)
 
 -- ---- stores
@@ -85,65 +89,73 @@ pub record StoreOpen (L : Limits) (s : List ℕ) (k : KnowledgePart) (n : ℕ) :
   pub knowledge : (store_at L s).knowledge ≡ decode (take (knowledge_length s) (drop store_knowledge s))
   pub small : k.view.r ≤ largest_replicas
 
-pub if_true : (b : Bool) (x : OpenedStore) → b ≡ true → store_if b x ≡ x
+pub if_true : (b : Bool) (x : Result OpenStore Refusal) → b ≡ true → store_if b x ≡ x
 unfolding store_if
 if_true b x e = ap (λ (t : Bool). store_if t x) e
 
-pub if_false : (b : Bool) (x : OpenedStore) → b ≡ false → store_if b x ≡ S.NotValid
+pub if_false : (b : Bool) (x : Result OpenStore Refusal) → b ≡ false → store_if b x ≡ Err StoreNotValid
 unfolding store_if
 if_false b x e = ap (λ (t : Bool). store_if t x) e
 
-pub from_at : (s : List ℕ) (v : View) → store_from s (O.At v) ≡ S.Valid (sized_part (knowledge_length s) v) (store_count s)
+pub from_at : (s : List ℕ) (v : View) → store_from s (O.At v) ≡ Ok (record { own = sized_part (knowledge_length s) v; count = store_count s })
 unfolding store_from
 from_at s v = refl
 
-from_refused : (s : List ℕ) (n : ℕ) → store_from s (O.Refused n) ≡ S.NotValid
+from_refused : (s : List ℕ) (n : ℕ) → store_from s (O.Refused n) ≡ Err StoreNotValid
 unfolding store_from
 from_refused s n = refl
 
 module _ (a b m : ℕ) (s : List ℕ) where
-  module _ (bytes : Bytes s) (k : KnowledgePart) (n : ℕ) where
+  module _ (bytes : Bytes s) (x : OpenStore) where
     open_store_lem : (o : Opened) → open_of (checked_by (any_id (within a b m)) (own_bytes s)) ≡ o → is_store (within a b m) s ≡ true
-        → store_from s o ≡ S.Valid k n → StoreOpen (within a b m) s k n
+        → store_from s o ≡ Ok x → StoreOpen (within a b m) s x.own x.count
     open_store_lem (O.At v) e t f =
         let L = within a b m in
         let part = own_bytes s in
         let g = sym (from_at s v) ∙ f in
-        let is : sized_part (knowledge_length s) v ≡ k = cc in
+        let all : record { own = sized_part (knowledge_length s) v; count = store_count s } ≡ x = cc in
+        let is : sized_part (knowledge_length s) v ≡ x.own = ap (λ (y : OpenStore). y.own) all in
         let part_is = part_bytes_lem s (knowledge_length s) store_knowledge bytes in
         let p = subst (PartOpen L part) is (opened_part a b m part part_is (knowledge_length s) v e) in
         let o = p.opens in
         record {
           tests = store_tests_hold L s t;
           value = store_opens L s t;
-          length = sym (ap (λ (x : KnowledgePart). x.length) is);
-          count = cc;
+          length = sym (ap (λ (y : KnowledgePart). y.length) is);
+          count = sym (ap (λ (y : OpenStore). y.count) all);
           opens = o;
-          knowledge = store_decodes L s k.view.r o.v o.e o.g (opens_reading (any_id L) part k.view.r k.view.start o);
+          knowledge = store_decodes L s x.own.view.r o.v o.e o.g (opens_reading (any_id L) part x.own.view.r x.own.view.start o);
           small = p.small;
         }
     open_store_lem (O.Refused q) e t f = absurd (let g = sym (from_refused s q) ∙ f in let z : ◌≡◌ {A = ℕ} 0 1 = cc in omega arith)
 
-    by_test : (t : Bool) → is_store (within a b m) s ≡ t → store_opened (within a b m) s ≡ S.Valid k n → StoreOpen (within a b m) s k n
+    by_test : (t : Bool) → is_store (within a b m) s ≡ t → store_opened (within a b m) s ≡ Ok x → StoreOpen (within a b m) s x.own x.count
     unfolding store_opened
     by_test true e f = open_store_lem _ refl e (sym (if_true _ _ e) ∙ f)
     by_test false e f = absurd (let g = sym (if_false _ _ e) ∙ f in let z : ◌≡◌ {A = ℕ} 0 1 = cc in omega arith)
 
-    pub store_open : store_opened (within a b m) s ≡ S.Valid k n → StoreOpen (within a b m) s k n
+    pub store_open : store_opened (within a b m) s ≡ Ok x → StoreOpen (within a b m) s x.own x.count
     store_open = by_test (is_store (within a b m) s) refl
 
-  closed_store : (o : Opened) → open_of (checked_by (any_id (within a b m)) (own_bytes s)) ≡ o → is_store (within a b m) s ≡ true
-      → store_from s o ≡ S.NotValid → ⊥
-  closed_store (O.At v) e t f = absurd (let g = sym (from_at s v) ∙ f in let z : ◌≡◌ {A = ℕ} 0 1 = cc in omega arith)
-  closed_store (O.Refused n) e t f = not_refused a b m (own_bytes s) (store_tests_hold (within a b m) s t).accepts n e
+  module _ (q : Refusal) where
+    closed_store : (o : Opened) → open_of (checked_by (any_id (within a b m)) (own_bytes s)) ≡ o → is_store (within a b m) s ≡ true
+        → store_from s o ≡ Err q → ⊥
+    closed_store (O.At v) e t f = absurd (let g = sym (from_at s v) ∙ f in let z : ◌≡◌ {A = ℕ} 0 1 = cc in omega arith)
+    closed_store (O.Refused n) e t f = not_refused a b m (own_bytes s) (store_tests_hold (within a b m) s t).accepts n e
 
-  pub store_closed : store_opened (within a b m) s ≡ S.NotValid → open_store (within a b m) s ≡ refused 15
-  unfolding store_opened
-  store_closed = go (is_store (within a b m) s) refl
-    where
-      go : (t : Bool) → is_store (within a b m) s ≡ t → store_opened (within a b m) s ≡ S.NotValid → open_store (within a b m) s ≡ refused 15
-      go true e f = absurd (closed_store _ refl e (sym (if_true _ _ e) ∙ f))
-      go false e f = store_refuses (within a b m) s e
+    -- why a store is refused, and that it is
+    closed_by : (t : Bool) → is_store (within a b m) s ≡ t → store_opened (within a b m) s ≡ Err q
+        → (q ≡ StoreNotValid) × (open_store (within a b m) s ≡ refused 15)
+    unfolding store_opened
+    closed_by true e f = absurd (closed_store _ refl e (sym (if_true _ _ e) ∙ f))
+    closed_by false e f = let g = sym (if_false _ _ e) ∙ f in (cc, store_refuses (within a b m) s e)
+
+    pub store_why : store_opened (within a b m) s ≡ Err q → q ≡ StoreNotValid
+    store_why f = (closed_by _ refl f).0
+
+    pub store_closed : store_opened (within a b m) s ≡ Err q → open_store (within a b m) s ≡ refused (number q)
+    unfolding number
+    store_closed f = let c = closed_by _ refl f in c.1 ∙ ap (λ (e : Refusal). refused (number e)) (sym c.0)
 
 -- where its parts stand, as code asks for them
 module _ (L : Limits) (s : List ℕ) (k : KnowledgePart) (n : ℕ) (o : StoreOpen L s k n) where
@@ -178,24 +190,24 @@ pub record BatchOpen (L : Limits) (s : List ℕ) (k l : KnowledgePart) (n : ℕ)
   pub needed_small : k.view.r ≤ largest_replicas
   pub learned_small : l.view.r ≤ largest_replicas
 
-pub if_batch : (b : Bool) (x : OpenedBatch) → b ≡ true → batch_if b x ≡ x
+pub if_batch : (b : Bool) (x : Result OpenBatch Refusal) → b ≡ true → batch_if b x ≡ x
 unfolding batch_if
 if_batch b x e = ap (λ (t : Bool). batch_if t x) e
 
-pub if_not : (b : Bool) (x : OpenedBatch) → b ≡ false → batch_if b x ≡ B.NotValid
+pub if_not : (b : Bool) (x : Result OpenBatch Refusal) → b ≡ false → batch_if b x ≡ Err BatchNotValid
 unfolding batch_if
 if_not b x e = ap (λ (t : Bool). batch_if t x) e
 
 pub from_both : (s : List ℕ) (v w : View) → batch_from s (O.At v) (O.At w)
-    ≡ B.Valid (sized_part (needed_length s) v) (sized_part (learned_length s) w) (batch_count s)
+    ≡ Ok (record { needed = sized_part (needed_length s) v; learned = sized_part (learned_length s) w; count = batch_count s })
 unfolding batch_from
 from_both s v w = refl
 
-from_first_lem : (s : List ℕ) (n : ℕ) (o : Opened) → batch_from s (O.Refused n) o ≡ B.NotValid
+from_first_lem : (s : List ℕ) (n : ℕ) (o : Opened) → batch_from s (O.Refused n) o ≡ Err BatchNotValid
 unfolding batch_from
 from_first_lem s n o = refl
 
-from_second : (s : List ℕ) (v : View) (n : ℕ) → batch_from s (O.At v) (O.Refused n) ≡ B.NotValid
+from_second : (s : List ℕ) (v : View) (n : ℕ) → batch_from s (O.At v) (O.Refused n) ≡ Err BatchNotValid
 unfolding batch_from
 from_second s v n = refl
 
@@ -203,15 +215,16 @@ module _ (a b m : ℕ) (s : List ℕ) where
   abbrev M : Limits
   M = within a b m
 
-  module _ (bytes : Bytes s) (k l : KnowledgePart) (n : ℕ) where
+  module _ (bytes : Bytes s) (x : OpenBatch) where
     open_batch_lem : (o q : Opened) → open_of (checked_by (any_id M) (needed_bytes s)) ≡ o → open_of (checked_by (any_id M) (learned_bytes s)) ≡ q
-        → is_batch M s ≡ true → batch_from s o q ≡ B.Valid k l n → BatchOpen M s k l n
+        → is_batch M s ≡ true → batch_from s o q ≡ Ok x → BatchOpen M s x.needed x.learned x.count
     open_batch_lem (O.At v) (O.At w) e h t f =
         let one = needed_bytes s in
         let two = learned_bytes s in
         let g = sym (from_both s v w) ∙ f in
-        let is : sized_part (needed_length s) v ≡ k = cc in
-        let as-well : sized_part (learned_length s) w ≡ l = cc in
+        let all : record { needed = sized_part (needed_length s) v; learned = sized_part (learned_length s) w; count = batch_count s } ≡ x = cc in
+        let is : sized_part (needed_length s) v ≡ x.needed = ap (λ (y : OpenBatch). y.needed) all in
+        let as-well : sized_part (learned_length s) w ≡ x.learned = ap (λ (y : OpenBatch). y.learned) all in
         let first-bytes = part_bytes_lem s (needed_length s) batch_needed bytes in
         let second-bytes = part_bytes_lem s (learned_length s) (batch_learned s) bytes in
         let p = subst (PartOpen M one) is (opened_part a b m one first-bytes (needed_length s) v e) in
@@ -222,14 +235,14 @@ module _ (a b m : ℕ) (s : List ℕ) where
         record {
           tests = tests;
           value = batch_opens M s t;
-          needed_size = sym (ap (λ (x : KnowledgePart). x.length) is);
-          learned_size = sym (ap (λ (x : KnowledgePart). x.length) as-well);
-          count = cc;
+          needed_size = sym (ap (λ (y : KnowledgePart). y.length) is);
+          learned_size = sym (ap (λ (y : KnowledgePart). y.length) as-well);
+          count = sym (ap (λ (y : OpenBatch). y.count) all);
           span = tests.span;
           needed_opens = o;
           learned_opens = u;
-          needed = needed_decodes M s k.view.r o.v o.e o.g (opens_reading (any_id M) one k.view.r k.view.start o);
-          learned = learned_decodes M s l.view.r u.v u.e u.g (opens_reading (any_id M) two l.view.r l.view.start u);
+          needed = needed_decodes M s x.needed.view.r o.v o.e o.g (opens_reading (any_id M) one x.needed.view.r x.needed.view.start o);
+          learned = learned_decodes M s x.learned.view.r u.v u.e u.g (opens_reading (any_id M) two x.learned.view.r x.learned.view.start u);
           needed_small = p.small;
           learned_small = q.small;
         }
@@ -237,28 +250,33 @@ module _ (a b m : ℕ) (s : List ℕ) where
         absurd (let g = sym (from_second s v j) ∙ f in let z : ◌≡◌ {A = ℕ} 0 1 = cc in omega arith)
     open_batch_lem (O.Refused j) q e h t f = absurd (let g = sym (from_first_lem s j q) ∙ f in let z : ◌≡◌ {A = ℕ} 0 1 = cc in omega arith)
 
-    batch_by_test : (t : Bool) → is_batch M s ≡ t → batch_opened M s ≡ B.Valid k l n → BatchOpen M s k l n
+    batch_by_test : (t : Bool) → is_batch M s ≡ t → batch_opened M s ≡ Ok x → BatchOpen M s x.needed x.learned x.count
     unfolding batch_opened
     batch_by_test true e f = open_batch_lem _ _ refl refl e (sym (if_batch _ _ e) ∙ f)
     batch_by_test false e f = absurd (let g = sym (if_not _ _ e) ∙ f in let z : ◌≡◌ {A = ℕ} 0 1 = cc in omega arith)
 
-    pub batch_open : batch_opened (within a b m) s ≡ B.Valid k l n → BatchOpen (within a b m) s k l n
+    pub batch_open : batch_opened (within a b m) s ≡ Ok x → BatchOpen (within a b m) s x.needed x.learned x.count
     batch_open = batch_by_test (is_batch M s) refl
 
-  closed_batch : (o q : Opened) → open_of (checked_by (any_id M) (needed_bytes s)) ≡ o → open_of (checked_by (any_id M) (learned_bytes s)) ≡ q
-      → is_batch M s ≡ true → batch_from s o q ≡ B.NotValid → ⊥
-  closed_batch (O.At v) (O.At w) e h t f =
-      absurd (let g = sym (from_both s v w) ∙ f in let z : ◌≡◌ {A = ℕ} 0 1 = cc in omega arith)
-  closed_batch (O.At v) (O.Refused j) e h t f = not_refused a b m (learned_bytes s) (batch_tests_hold M s t).learned_accepted j h
-  closed_batch (O.Refused j) q e h t f = not_refused a b m (needed_bytes s) (batch_tests_hold M s t).needed_accepted j e
+  module _ (j : Refusal) where
+    closed_batch : (o q : Opened) → open_of (checked_by (any_id M) (needed_bytes s)) ≡ o → open_of (checked_by (any_id M) (learned_bytes s)) ≡ q
+        → is_batch M s ≡ true → batch_from s o q ≡ Err j → ⊥
+    closed_batch (O.At v) (O.At w) e h t f =
+        absurd (let g = sym (from_both s v w) ∙ f in let z : ◌≡◌ {A = ℕ} 0 1 = cc in omega arith)
+    closed_batch (O.At v) (O.Refused i) e h t f = not_refused a b m (learned_bytes s) (batch_tests_hold M s t).learned_accepted i h
+    closed_batch (O.Refused i) q e h t f = not_refused a b m (needed_bytes s) (batch_tests_hold M s t).needed_accepted i e
 
-  pub batch_closed : batch_opened (within a b m) s ≡ B.NotValid → open_batch (within a b m) s ≡ refused 16
-  unfolding batch_opened
-  batch_closed = go (is_batch M s) refl
-    where
-      go : (t : Bool) → is_batch M s ≡ t → batch_opened M s ≡ B.NotValid → open_batch M s ≡ refused 16
-      go true e f = absurd (closed_batch _ _ refl refl e (sym (if_batch _ _ e) ∙ f))
-      go false e f = batch_refuses M s e
+    batch_closed_by : (t : Bool) → is_batch M s ≡ t → batch_opened M s ≡ Err j → (j ≡ BatchNotValid) × (open_batch M s ≡ refused 16)
+    unfolding batch_opened
+    batch_closed_by true e f = absurd (closed_batch _ _ refl refl e (sym (if_batch _ _ e) ∙ f))
+    batch_closed_by false e f = let g = sym (if_not _ _ e) ∙ f in (cc, batch_refuses M s e)
+
+    pub batch_why : batch_opened (within a b m) s ≡ Err j → j ≡ BatchNotValid
+    batch_why f = (batch_closed_by _ refl f).0
+
+    pub batch_closed : batch_opened (within a b m) s ≡ Err j → open_batch (within a b m) s ≡ refused (number j)
+    unfolding number
+    batch_closed f = let c = batch_closed_by _ refl f in c.1 ∙ ap (λ (e : Refusal). refused (number e)) (sym c.0)
 
 -- where its parts stand, as code asks for them
 module _ (L : Limits) (s : List ℕ) (k l : KnowledgePart) (n : ℕ) (o : BatchOpen L s k l n) where

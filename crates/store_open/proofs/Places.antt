@@ -8,7 +8,8 @@ use native.Mathlib.Omega.{arith}
 use lib.ListN.{length, get_or, set, take, length-set}
 use lib.Seq.{get_or-set_same, get_or-set_other, get_or-take, length-take-le}
 use Rattle.codec.specs.Number.{be_at}
-use Rattle.codec.specs.Words.{words3}
+use Rattle.codec.specs.declared.Item.{Item}
+use Rattle.codec.specs.Ids.{item_of}
 use Rattle.codec.proofs.Total.{read_there}
 use Rattle.layout.specs.declared.VectorIndex.{VectorIndex}
 use Rattle.layout.specs.Knowledge.{Rules}
@@ -122,9 +123,9 @@ cursor_at R k r c n st =
           ∙ sym (place_from k r first (vectors_place r) c.index (sym (stepped-zero k (vectors_place r))));
     }
 
-pub move_is : (s : List ℕ) (at : ℕ) → WholeAt s at → (k : List ℕ) (r : ℕ) (c d : Cursor) (i0 i1 i2 p : ℕ) → CursorAt k r c
-    → words3 i0 i1 i2 ≡ be_at s 24 (at + item_place) → d ≡ passed k (words3 i0 i1 i2) c.left c
+pub move_is : (s : List ℕ) (at : ℕ) → WholeAt s at → (k : List ℕ) (r : ℕ) (c d : Cursor) (i : Item) (p : ℕ) → CursorAt k r c
+    → item_of i ≡ be_at s 24 (at + item_place) → d ≡ passed k (item_of i) c.left c
     → p ≡ vector_from k r c.index c.vector d.index → cursor d.left d.next d.index p ≡ moved_to s at k r c
-move_is s at w k r c d i0 i1 i2 p st e f g =
-    moved_is s at k r c (cursor d.left d.next d.index p) i0 i1 i2 (e ∙ sym (read_there s 24 (at + item_place) w.item))
-    (advance_is k r c (words3 i0 i1 i2) d p st.room f g)
+move_is s at w k r c d i p st e f g =
+    moved_is s at k r c (cursor d.left d.next d.index p) i.high i.middle i.low (e ∙ sym (read_there s 24 (at + item_place) w.item))
+    (advance_is k r c (item_of i) d p st.room f g)

@@ -1,8 +1,10 @@
 -- What the check of a store or a batch answers: the tests of opening, then its sizes by places. There is nothing to believe here: the laws
 -- `store_open`, `store_closed`, `batch_open` and `batch_closed` say what these answers are in the terms of specs/OpenStore.antt and
 -- specs/OpenBatch.antt of `replication`.
-use Rattle.std.specs.Prelude.{ℕ, ◌≤◌, ◌≡◌, Bool, true, false, List, length, take, drop}
+use Rattle.std.specs.Prelude.{ℕ, ◌≤◌, ◌≡◌, Bool, true, false, List, length, take, drop, Result, Ok, Err}
 use Rattle.codec.specs.Number.{Bytes, be_at}
+use Rattle.codec.specs.declared.Refusal.{Refusal}
+use Rattle.codec.specs.declared.Refusal.TheVariants.{StoreNotValid, BatchNotValid}
 use Rattle.layout.specs.Knowledge.{Limits, any_id}
 use Rattle.layout.specs.Permitted.{largest_replicas}
 use Rattle.layout.specs.Decode.{decode}
@@ -14,16 +16,13 @@ use Rattle.replication.specs.OpenBatch.{first_id, last_id, needed_length, learne
 use Rattle.replication.specs.MethodRecords.{shaped_at}
 use Rattle.replication.specs.MethodOpening.{is_accepted, is_store, is_batch}
 use Rattle.lookup.specs.declared.View.{View}
-use Rattle.lookup.specs.declared.Opened.{Opened}
-use Rattle.lookup.specs.declared.Opened.TheVariants as O
+use Rattle.lookup.specs.Opened.{Opened}
+use Rattle.lookup.specs.Opened as O
 use Rattle.lookup.specs.Method.{open_of, Opens}
 use Rattle.store_open.specs.declared.KnowledgePart.{KnowledgePart}
-use Rattle.store_open.specs.declared.OpenedStore.{OpenedStore}
-use Rattle.store_open.specs.declared.OpenedStore.TheVariants as S
-use Rattle.store_open.specs.declared.OpenedBatch.{OpenedBatch}
-use Rattle.store_open.specs.declared.OpenedBatch.TheVariants as B
-use Rattle.store_open.specs.declared.Normality.{Normality}
-use Rattle.store_open.specs.declared.Normality.TheVariants as N
+use Rattle.store_open.specs.declared.OpenStore.{OpenStore}
+use Rattle.store_open.specs.declared.OpenBatch.{OpenBatch}
+use Rattle.std.specs.Prelude as R
 
 -- a knowledge of n bytes
 abbrev pub sized_part : ℕ → View → KnowledgePart
@@ -41,9 +40,9 @@ abbrev pub NotNormal : Limits → List ℕ → Type 0
 NotNormal L k = is_accepted (parse (any_id L) k) ≡ true → is_normal (read_as (parse (any_id L) k)) ≡ true → ⊥
 
 -- what the check of a knowledge and of its normal form came to
-pub record NormalityOf (L : Limits) (k : List ℕ) (z : Normality) : Type 0 where
-  pub normal : (p : KnowledgePart) → z ≡ N.Normal p → NormalOf L k p
-  pub other : z ≡ N.Other → NotNormal L k
+pub record NormalityOf (L : Limits) (k : List ℕ) (z : R.Option KnowledgePart) : Type 0 where
+  pub normal : (p : KnowledgePart) → z ≡ R.Some p → NormalOf L k p
+  pub other : z ≡ R.None → NotNormal L k
 
 -- ---- stores
 
@@ -52,15 +51,15 @@ abbrev pub own_bytes : List ℕ → List ℕ
 own_bytes s = take (knowledge_length s) (drop store_knowledge s)
 
 -- from what the check of the knowledge answered
-unfoldable pub store_from : List ℕ → Opened → OpenedStore
-store_from s (O.At v) = S.Valid (sized_part (knowledge_length s) v) (store_count s)
-store_from s (O.Refused n) = S.NotValid
+unfoldable pub store_from : List ℕ → Opened → Result OpenStore Refusal
+store_from s (O.At v) = Ok (record { own = sized_part (knowledge_length s) v; count = store_count s })
+store_from s (O.Refused n) = Err StoreNotValid
 
-unfoldable pub store_if : Bool → OpenedStore → OpenedStore
+unfoldable pub store_if : Bool → Result OpenStore Refusal → Result OpenStore Refusal
 store_if true x = x
-store_if false x = S.NotValid
+store_if false x = Err StoreNotValid
 
-unfoldable pub store_opened : Limits → List ℕ → OpenedStore
+unfoldable pub store_opened : Limits → List ℕ → Result OpenStore Refusal
 store_opened L s = store_if (is_store L s) (store_from s (open_of (checked_by (any_id L) (own_bytes s))))
 
 -- the tests before the knowledge hold, but for the limit of records; k is the knowledge's bytes, and n the count of records
@@ -80,16 +79,20 @@ needed_bytes s = take (needed_length s) (drop batch_needed s)
 abbrev pub learned_bytes : List ℕ → List ℕ
 learned_bytes s = take (learned_length s) (drop (batch_learned s) s)
 
-unfoldable pub batch_from : List ℕ → Opened → Opened → OpenedBatch
-batch_from s (O.At v) (O.At w) = B.Valid (sized_part (needed_length s) v) (sized_part (learned_length s) w) (batch_count s)
-batch_from s (O.At v) (O.Refused n) = B.NotValid
-batch_from s (O.Refused n) o = B.NotValid
+unfoldable pub batch_from : List ℕ → Opened → Opened → Result OpenBatch Refusal
+batch_from s (O.At v) (O.At w) = Ok (record {
+  needed = sized_part (needed_length s) v;
+  learned = sized_part (learned_length s) w;
+  count = batch_count s;
+})
+batch_from s (O.At v) (O.Refused n) = Err BatchNotValid
+batch_from s (O.Refused n) o = Err BatchNotValid
 
-unfoldable pub batch_if : Bool → OpenedBatch → OpenedBatch
+unfoldable pub batch_if : Bool → Result OpenBatch Refusal → Result OpenBatch Refusal
 batch_if true x = x
-batch_if false x = B.NotValid
+batch_if false x = Err BatchNotValid
 
-unfoldable pub batch_opened : Limits → List ℕ → OpenedBatch
+unfoldable pub batch_opened : Limits → List ℕ → Result OpenBatch Refusal
 batch_opened L s =
     batch_if (is_batch L s)
     (batch_from s (open_of (checked_by (any_id L) (needed_bytes s))) (open_of (checked_by (any_id L) (learned_bytes s))))

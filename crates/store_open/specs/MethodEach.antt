@@ -1,6 +1,6 @@
 -- The pass over the records of a store or batch, which asks a knowledge for their versions. Keys of replicas are guessed first, and the places
 -- of clock vectors are taken from a table. It is a method only: there is nothing to believe here.
-use Rattle.std.specs.Prelude.{ℕ, suc, ◌+◌, ◌*◌, ◌≤◌, ◌<◌, ◌≡◌, Bool, true, false, not, List, length, get_or}
+use Rattle.std.specs.Prelude.{ℕ, suc, ◌+◌, ◌*◌, ◌≤◌, ◌<◌, ◌≡◌, Bool, not, List, length, get_or}
 use Rattle.layout.specs.Knowledge.{Distinct, Knowledge}
 use Rattle.layout.specs.Permitted.{largest_ranges}
 use Rattle.layout.specs.Decode.{ids_at}
@@ -12,6 +12,8 @@ use Rattle.replication.specs.OpenBatch.{lacks_change}
 use Rattle.lookup.specs.declared.Cursor.{Cursor}
 use Rattle.lookup.specs.Method.{stepped}
 use Rattle.records_versions.specs.Method.{change_in, both_in}
+use Rattle.store_open.specs.declared.Wanted.{Wanted}
+use Rattle.store_open.specs.declared.Wanted.TheVariants.{Contained, Lacking}
 
 -- how many slots there are for guesses of keys, and for how many places of vectors there is room
 abbrev pub slot_count : ℕ
@@ -37,14 +39,14 @@ pub record CursorAt (k : List ℕ) (r : ℕ) (c : Cursor) : Type 0 where
 
 -- what is asked of the record at a place of s and of the clock vector at a place of k: that the change version is lacking, or that both
 -- versions are there
-unfoldable pub asked_in : Bool → List ℕ → ℕ → List ℕ → ℕ → ℕ → Bool
-asked_in true s at k r vector = not (change_in s at k r vector)
-asked_in false s at k r vector = both_in s at k r vector
+unfoldable pub asked_in : Wanted → List ℕ → ℕ → List ℕ → ℕ → ℕ → Bool
+asked_in Lacking s at k r vector = not (change_in s at k r vector)
+asked_in Contained s at k r vector = both_in s at k r vector
 
 -- the same of a record and of a knowledge
-unfoldable pub asked : Bool → Knowledge → Rec → Bool
-asked true k = lacks_change k
-asked false k = versions_in k
+unfoldable pub asked : Wanted → Knowledge → Rec → Bool
+asked Lacking k = lacks_change k
+asked Contained k = versions_in k
 
 -- both versions of a record contained in learned, and its change version not in needed
 unfoldable pub carried_by : Knowledge → Knowledge → Rec → Bool

@@ -4,15 +4,12 @@
 // functions go on from, so that nothing is checked again.
 #![tactic(auto)]
 
-ghost use Rattle.std.specs.Prelude.{◌≡◌, true, ℕ, ◌+◌, ◌*◌, ◌≤◌, ◌<◌, eqb, ltb, leb, length};
-ghost use Rattle.codec.specs.Number.{be_at};
+ghost use Rattle.std.specs.Prelude.{◌≡◌, true, ℕ, ◌+◌, ◌*◌, ◌≤◌, ◌<◌, ltb, length};
 ghost use Rattle.codec.specs.Total.{clamp};
-ghost use Rattle.codec.specs.Words.{words2};
 ghost use Rattle.codec.specs.Ids.{item_of, replica_of};
 ghost use Rattle.layout.specs.Permitted.{largest_records, within};
 ghost use Rattle.layout.specs.Decode.{decode};
 ghost use Rattle.layout.specs.MethodPlaces.{ids_place, vectors_place};
-ghost use Rattle.replication.specs.Reading.{both};
 ghost use Rattle.replication.specs.OpenStore.{versions_in};
 ghost use Rattle.replication.specs.OpenBatch.{first_id, last_id, batch_needed, lacks_change};
 ghost use Rattle.replication.specs.MethodRecords.{records_at, shaped_at, each, WholeAt};
@@ -22,8 +19,8 @@ ghost use Rattle.records_versions.specs.Method.{moved_to, tick_in};
 ghost use Rattle.store_open.specs.MethodEach.{slot_count, place_count, IdsOnce, VectorPlaces, CursorAt, asked_in, asked, carried_by};
 ghost use Rattle.store_open.specs.Method.{NormalOf, NormalityOf, StoreHeader, store_opened, BatchHeader, batch_opened};
 
-use codec::{Item, Replica, Span};
-use layout::{Checked, Limits, ReplicaKey, VectorIndex};
+use codec::{Item, Refusal, Replica, Span};
+use layout::{Limits, ReplicaKey, VectorIndex};
 use lookup::{Cursor, View};
 
 // the places of a store's own id, of the knowledge's length, of the count of records, and of the knowledge
@@ -33,7 +30,7 @@ const OWN_LENGTH: usize = 17;
 
 const STORE_COUNT: usize = 21;
 
-const STORE_KNOWLEDGE: usize = 25;
+pub const STORE_KNOWLEDGE: usize = 25;
 
 // the places of a batch's first and last id, of the lengths of its knowledges, of the count of records, and of the needed knowledge
 const FIRST: usize = 1;
@@ -46,7 +43,7 @@ const LEARNED_LENGTH: usize = 53;
 
 const BATCH_COUNT: usize = 57;
 
-const BATCH_NEEDED: usize = 61;
+pub const BATCH_NEEDED: usize = 61;
 
 // how many slots there are for guesses of keys, and the worth of a word's first byte
 const SLOTS: usize = 64;
@@ -63,82 +60,54 @@ pub struct KnowledgePart {
     pub view: View,
 }
 
-// What the check of a store comes to.
+// A store that was opened: its knowledge, and how many records it has.
 #[derive(Clone, Copy)]
-pub enum OpenedStore {
-    // its knowledge, and how many records it has
-    Valid { own: KnowledgePart, count: u32 },
-    NotValid,
+pub struct OpenStore {
+    pub own: KnowledgePart,
+    pub count: u32,
 }
 
-// What the check of a batch comes to.
+// A batch that was opened: its two knowledges, and how many records it has.
 #[derive(Clone, Copy)]
-pub enum OpenedBatch {
-    // its two knowledges, and how many records it has
-    Valid {
-        needed: KnowledgePart,
-        learned: KnowledgePart,
-        count: u32,
-    },
-    NotValid,
-}
-
-// What the check of a knowledge and of its normal form comes to.
-#[derive(Clone, Copy)]
-pub enum Normality {
-    Normal { part: KnowledgePart },
-    Other,
+pub struct OpenBatch {
+    pub needed: KnowledgePart,
+    pub learned: KnowledgePart,
+    pub count: u32,
 }
 
 // ---- what stores and batches share
 
-// The check of a knowledge's bytes, and then of their normal form.
-fn normal_part(k: &[u8], limits: Limits) -> Normality
+// The check of a knowledge's bytes, and then of their normal form; none where one of the two fails.
+fn normal_part(k: &[u8], limits: Limits) -> Option<KnowledgePart>
     ensures { (n : ℕ) → NormalityOf (within limits.replicas limits.ranges n) k.now result }
 {
-    let Checked::Accepted { r, v, e, g } = check_knowledge::check_within(
-        &k[..],
-        limits.replicas,
-        limits.ranges,
-    ) else {
-        return Normality::Other;
-    };
-    let r = r as u32;
-    let v = v as u32;
-    let e = e as u32;
-    let g = g as u32;
+    let counts = check_knowledge::check_within(&k[..], limits.replicas, limits.ranges).ok()?;
+    let r = counts.r as u32;
+    let v = counts.v as u32;
+    let e = counts.e as u32;
+    let g = counts.g as u32;
     if !normal_form::normal_in(k, r, v, e, g) {
-        return Normality::Other;
+        return None;
     }
-    let length = k.len();
     let start = lookup::start(r, v, e, g);
-    let view = View { r, start };
-    let part = KnowledgePart { length, view };
-    Normality::Normal { part }
+    Some(KnowledgePart {
+        length: k.len(),
+        view: View { r, start },
+    })
 }
 
 // ---- the pass over the records
 //
 // What is done for each record is in private functions here, most of them with one caller: they are inlined, and nothing goes through memory.
-// `pass` and `below` are as in lookup and leaves for this reason.
+// `pass` is as in lookup for this reason.
 
 // ---- keys, by a guess that is looked at first
 
-// The replica id at a place.
-fn replica_id(s: &[u8], at: usize) -> Replica
-    requires { at + 16 ≤ length s.now }
-    ensures { replica_of result ≡ be_at s.now 16 at }
-{
-    let high = leaves::eight(&s[at..at + 8]);
-    let low = leaves::eight(&s[at + 8..at + 8 + 8]);
-    Replica { high, low }
-}
-
 // The slot of a replica id, by its first and its last byte.
-fn slot_of(high: u64, low: u64) -> usize
+fn slot_of(p: Replica) -> usize
     ensures { result < slot_count }
 {
-    ((high / FIRST_BYTE + low % 256) % (SLOTS as u64)) as usize
+    ((p.high / FIRST_BYTE + p.low % 256) % (SLOTS as u64)) as usize
 }
 
 // Fills the slots with the keys of the ids that fall into them. These are guesses: nothing is promised of them.
@@ -146,23 +115,18 @@ fn fill_slots(k: &[u8], r: u32, slots: &mut [u8])
     requires { (ids_place + 16 * r ≤ length k.now) × (slot_count ≤ length slots.old) }
     ensures { slot_count ≤ length slots.new }
 {
-    let mut key: u32 = 0;
-    let mut at = layout::IDS_PLACE;
-    while key < r {
-        let p = replica_id(k, at);
-        slots[slot_of(p.high, p.low)] = (key % 256) as u8;
-        at += 16;
-        key += 1;
+    for key in 0..r {
+        let at = layout::IDS_PLACE + 16 * (key as usize);
+        slots[slot_of(Replica::from_bytes(&k[at..at + 16]))] = (key % 256) as u8;
     }
 }
 
 // The key of a replica id. Where the id of the guessed key is the one, no other is looked at: no id is there twice.
-fn key_by(k: &[u8], r: u32, slots: &[u8], high: u64, low: u64) -> ReplicaKey
+fn key_by(k: &[u8], r: u32, slots: &[u8], p: Replica) -> ReplicaKey
     requires { (IdsOnce k.now r) × (slot_count ≤ length slots.now) }
-    ensures { result ≡ key_at k.now r (words2 high low) }
+    ensures { result ≡ key_at k.now r (replica_of p) }
 {
-    let p = Replica { high, low };
-    let guess = slots[slot_of(high, low)] as u32;
+    let guess = slots[slot_of(p)] as u32;
     if r <= guess {
         return lookup::key_of(&k[..], r, p);
     }
@@ -179,13 +143,10 @@ fn key_by(k: &[u8], r: u32, slots: &[u8], high: u64, low: u64) -> ReplicaKey
 fn next_vector(k: &[u8], at: usize) -> usize
     ensures { result ≡ stepped k.now 1 at }
 {
-    if k.len() < 8 {
+    if codec::beyond(k.len(), at, 8) {
         return at;
     }
-    if k.len() - 8 < at {
-        return at;
-    }
-    at + 8 + 12 * (leaves::four(&k[at + 4..at + 4 + 4]) as usize)
+    at + 8 + 12 * (leaves::first::<4>(&k[at + 4..at + 4 + 4]) as usize)
 }
 
 // How many places the table gets, by the count of ranges: in normal form each vector but the first is used by a range.
@@ -203,12 +164,10 @@ fn fill_places(k: &[u8], r: u32, n: usize, places: &mut [usize])
     requires { n ≤ length places.old }
     ensures { VectorPlaces k.now r n places.new }
 {
-    let mut j: usize = 0;
     let mut at = layout::VECTORS_PLACE + 16 * (r as usize);
-    while j < n {
+    for j in 0..n {
         places[j] = at;
         at = next_vector(k, at);
-        j += 1;
     }
 }
 
@@ -233,62 +192,19 @@ fn place_by(
 
 // ---- the cursor
 
-// The item id at a place.
-fn item_id(s: &[u8], at: usize) -> Item
-    requires { at + 24 ≤ length s.now }
-    ensures { item_of result ≡ be_at s.now 24 at }
-{
-    let high = leaves::eight(&s[at..at + 8]);
-    let middle = leaves::eight(&s[at + 8..at + 8 + 8]);
-    let low = leaves::eight(&s[at + 16..at + 16 + 8]);
-    Item { high, middle, low }
-}
-
-// Is an item below the bound at a place.
-fn below(k: &[u8], at: usize, i: Item) -> bool
-    requires { at + 24 ≤ length k.now }
-    ensures { result ≡ ltb (item_of i) (be_at k.now 24 at) }
-{
-    let high = leaves::eight(&k[at..at + 8]);
-    if i.high != high {
-        return i.high < high;
-    }
-    let middle = leaves::eight(&k[at + 8..at + 8 + 8]);
-    if i.middle != middle {
-        return i.middle < middle;
-    }
-    i.low < leaves::eight(&k[at + 16..at + 16 + 8])
-}
-
 // Passes the ranges whose bounds are at or below the item. The place of the vector stays what it was.
 fn pass(k: &[u8], c: Cursor, i: Item) -> Cursor
     requires { c.next + 28 * c.left ≤ length k.now }
     ensures { result ≡ passed k.now (item_of i) c.left c }
 {
-    let mut left = c.left;
-    let mut next = c.next;
-    let mut index = c.index;
-    let vector = c.vector;
-    while 0 < left {
-        if below(k, next, i) {
-            return Cursor {
-                left,
-                next,
-                index,
-                vector,
-            };
-        }
-        let n = leaves::four(&k[next + 24..next + 24 + 4]) as u32;
-        index = VectorIndex(n);
-        next += 28;
-        left -= 1;
+    let mut d = c;
+    // a while: it ends at the first bound that is above the item
+    while 0 < d.left && !leaves::below(&k[d.next..d.next + 24], i) {
+        d.index = VectorIndex(leaves::first::<4>(&k[d.next + 24..d.next + 24 + 4]) as u32);
+        d.next += 28;
+        d.left -= 1;
     }
-    Cursor {
-        left,
-        next,
-        index,
-        vector,
-    }
+    d
 }
 
 // The cursor, moved on to the item of the whole record at a place.
@@ -296,43 +212,33 @@ fn move_on(s: &[u8], at: usize, k: &[u8], r: u32, c: Cursor, places: &[usize]) -
     requires { (WholeAt s.now at) × (CursorAt k.now r c) × (VectorPlaces k.now r (length places.now) places.now) }
     ensures { result ≡ moved_to s.now at k.now r c }
 {
-    let i = item_id(s, at + records::ITEM_PLACE);
-    let d = pass(k, c, i);
-    let from = c.index;
-    let to = d.index;
-    let vector = place_by(k, r, from, c.vector, to, places);
+    let p = at + records::ITEM_PLACE;
+    let d = pass(k, c, Item::from_bytes(&s[p..p + 24]));
     Cursor {
-        left: d.left,
-        next: d.next,
-        index: to,
-        vector,
+        vector: place_by(k, r, c.index, c.vector, d.index, places),
+        ..d
     }
 }
 
 // ---- the versions of a record
 
-// Is a tick at most the one that the clock vector at a place has for the replica of two words. The words come one by one: a struct would
-// go through memory.
-fn tick_by(k: &[u8], r: u32, slots: &[u8], vector: usize, high: u64, low: u64, tick: u64) -> bool
+// Is a tick at most the one that the clock vector at a place has for a replica.
+fn tick_by(k: &[u8], r: u32, slots: &[u8], vector: usize, p: Replica, tick: u64) -> bool
     requires { (IdsOnce k.now r) × (slot_count ≤ length slots.now) }
-    ensures { result ≡ tick_in k.now r vector (words2 high low) tick }
+    ensures { result ≡ tick_in k.now r vector (replica_of p) tick }
 {
-    let key = key_by(k, r, slots, high, low);
+    let key = key_by(k, r, slots, p);
     tick <= lookup::tick_at(&k[..], vector, key)
 }
 
-// Is the second version, its replica q and its tick t, one of the first's replica with no later tick.
-fn no_later(p: Replica, tick: u64, q: Replica, t: u64) -> bool
-    ensures { result ≡ both (eqb (replica_of p) (replica_of q)) (leb t tick) }
-{
-    if codec::same2(p.high, p.low, q.high, q.low) {
-        return t <= tick;
-    }
-    false
+// What is asked of a record and a knowledge: that it contains the change and the create version, or that it lacks the change version.
+#[derive(Clone, Copy)]
+enum Wanted {
+    Contained,
+    Lacking,
 }
 
-// What is asked of the whole record at a place and of the clock vector at a place: that the change version is not there, or that the
-// change and the create version are. A create version of the same replica with no later tick is there where the change version is, and is
+// The same of the whole record at a place and of the clock vector at a place. A create version of the same replica with no later tick is there where the change version is, and is
 // not looked for.
 fn asked_by(
     s: &[u8],
@@ -341,28 +247,30 @@ fn asked_by(
     r: u32,
     slots: &[u8],
     vector: usize,
-    lacking: bool,
+    what: Wanted,
 ) -> bool
     requires { (WholeAt s.now at) × (IdsOnce k.now r) × (slot_count ≤ length slots.now) }
-    ensures { result ≡ asked_in lacking s.now at k.now r vector }
+    ensures { result ≡ asked_in what s.now at k.now r vector }
 {
-    let p = replica_id(s, at + records::CHANGE_REPLICA_PLACE);
-    let c = at + records::CHANGE_TICK_PLACE;
-    let tick = leaves::eight(&s[c..c + 8]);
-    let there = tick_by(k, r, slots, vector, p.high, p.low, tick);
-    if lacking {
+    let a = at + records::CHANGE_REPLICA_PLACE;
+    let p = Replica::from_bytes(&s[a..a + 16]);
+    let b = at + records::CHANGE_TICK_PLACE;
+    let tick = leaves::first::<8>(&s[b..b + 8]);
+    let there = tick_by(k, r, slots, vector, p, tick);
+    if let Wanted::Lacking = what {
         return !there;
     }
     if !there {
         return false;
     }
-    let q = replica_id(s, at + records::CREATE_REPLICA_PLACE);
+    let c = at + records::CREATE_REPLICA_PLACE;
+    let q = Replica::from_bytes(&s[c..c + 16]);
     let d = at + records::CREATE_TICK_PLACE;
-    let t = leaves::eight(&s[d..d + 8]);
-    if no_later(p, tick, q, t) {
+    let t = leaves::first::<8>(&s[d..d + 8]);
+    if p == q && t <= tick {
         return true;
     }
-    tick_by(k, r, slots, vector, q.high, q.low, t)
+    tick_by(k, r, slots, vector, q, t)
 }
 
 // ---- the records of a table
@@ -376,38 +284,36 @@ fn each_by(
     v: View,
     slots: &[u8],
     places: &[usize],
-    lacking: bool,
+    what: Wanted,
 ) -> bool
     requires { (shaped_at s.now 0 n at ≡ true) × (Open k.now v.r v.start)
         × (VectorPlaces k.now v.r (length places.now) places.now) × (slot_count ≤ length slots.now) }
-    ensures { result ≡ each (asked lacking (decode k.now)) (records_at s.now n at) }
+    ensures { result ≡ each (asked what (decode k.now)) (records_at s.now n at) }
 {
     let r = v.r;
     let mut c = v.start;
-    let mut left = n;
     let mut p = at;
-    while 0 < left {
+    for _i in 0..n {
         c = move_on(s, p, k, r, c, places);
-        if !asked_by(s, p, k, r, slots, c.vector, lacking) {
+        if !asked_by(s, p, k, r, slots, c.vector, what) {
             return false;
         }
         p = records::behind(s, p);
-        left -= 1;
     }
     true
 }
 
 // The same, with the slots and the table filled here.
-fn each_asked(s: &[u8], n: u32, at: usize, k: &[u8], v: View, lacking: bool) -> bool
+fn each_asked(s: &[u8], n: u32, at: usize, k: &[u8], v: View, what: Wanted) -> bool
     requires { (shaped_at s.now 0 n at ≡ true) × (Open k.now v.r v.start) }
-    ensures { result ≡ each (asked lacking (decode k.now)) (records_at s.now n at) }
+    ensures { result ≡ each (asked what (decode k.now)) (records_at s.now n at) }
 {
     let mut slots = [0u8; SLOTS];
     let mut places = [0usize; PLACES];
     let m = how_many(v.start.left);
     fill_slots(k, v.r, &mut slots);
     fill_places(k, v.r, m, &mut places);
-    each_by(s, n, at, k, v, &slots, &places[..m], lacking)
+    each_by(s, n, at, k, v, &slots, &places[..m], what)
 }
 
 // Does a knowledge contain the change and the create version of each of the n records from a place on.
@@ -415,7 +321,7 @@ fn each_contained(s: &[u8], n: u32, at: usize, k: &[u8], v: View) -> bool
     requires { (shaped_at s.now 0 n at ≡ true) × (Open k.now v.r v.start) }
     ensures { result ≡ each (versions_in (decode k.now)) (records_at s.now n at) }
 {
-    each_asked(s, n, at, k, v, false)
+    each_asked(s, n, at, k, v, Wanted::Contained)
 }
 
 // Does it lack the change version of each.
@@ -423,52 +329,50 @@ fn each_lacking(s: &[u8], n: u32, at: usize, k: &[u8], v: View) -> bool
     requires { (shaped_at s.now 0 n at ≡ true) × (Open k.now v.r v.start) }
     ensures { result ≡ each (lacks_change (decode k.now)) (records_at s.now n at) }
 {
-    each_asked(s, n, at, k, v, true)
+    each_asked(s, n, at, k, v, Wanted::Lacking)
 }
 
 // ---- stores
 
 // The check of a store from its knowledge k on, with the count of records.
-fn store_from(s: &[u8], k: &[u8], count: u32, limits: Limits) -> OpenedStore
+fn store_from(s: &[u8], k: &[u8], count: u32, limits: Limits) -> Result<OpenStore, Refusal>
     requires { StoreHeader s.now k.now count }
     ensures { (m : ℕ) → count ≤ clamp m largest_records
         → result ≡ store_opened (within limits.replicas limits.ranges m) s.now }
 {
-    let Normality::Normal { part: own } = normal_part(k, limits) else {
-        return OpenedStore::NotValid;
+    let Some(own) = normal_part(k, limits) else {
+        return Err(Refusal::StoreNotValid);
     };
-    let high = codec::read8(s, OWN);
-    let low = codec::read8(s, OWN + 8);
-    if !lookup_ranges::own_alike(k, own.view, Replica { high, low }) {
-        return OpenedStore::NotValid;
+    if !lookup_ranges::own_alike(k, own.view, Replica::from_bytes(&s[OWN..OWN + 16])) {
+        return Err(Refusal::StoreNotValid);
     }
     if !each_contained(s, count, STORE_KNOWLEDGE + k.len(), k, own.view) {
-        return OpenedStore::NotValid;
+        return Err(Refusal::StoreNotValid);
     }
-    OpenedStore::Valid { own, count }
+    Ok(OpenStore { own, count })
 }
 
 // Checks a store, with the most replicas, ranges and records, each clamped to 1 to its largest.
-pub fn open_store(s: &[u8], limits: Limits) -> OpenedStore
+pub fn open_store(s: &[u8], limits: Limits) -> Result<OpenStore, Refusal>
     ensures { result ≡ store_opened (within limits.replicas limits.ranges limits.records) s.now }
 {
     if s.len() < STORE_KNOWLEDGE {
-        return OpenedStore::NotValid;
+        return Err(Refusal::StoreNotValid);
     }
-    if codec::read1(s, 0) != 3 {
-        return OpenedStore::NotValid;
+    if codec::read::<1>(s, 0) != 3 {
+        return Err(Refusal::StoreNotValid);
     }
-    let n = codec::read4(s, OWN_LENGTH) as usize;
+    let n = codec::read::<4>(s, OWN_LENGTH) as usize;
     if s.len() - STORE_KNOWLEDGE < n {
-        return OpenedStore::NotValid;
+        return Err(Refusal::StoreNotValid);
     }
-    let count = codec::read4(s, STORE_COUNT) as u32;
+    let count = codec::read::<4>(s, STORE_COUNT) as u32;
     let most = codec::clamp(limits.records, layout::LARGEST_RECORDS);
     if most < count {
-        return OpenedStore::NotValid;
+        return Err(Refusal::StoreNotValid);
     }
     if !records::shaped(&s[..], count, STORE_KNOWLEDGE + n) {
-        return OpenedStore::NotValid;
+        return Err(Refusal::StoreNotValid);
     }
     store_from(s, &s[STORE_KNOWLEDGE..STORE_KNOWLEDGE + n], count, limits)
 }
@@ -480,9 +384,9 @@ fn span_falls(s: &[u8]) -> bool
     requires { batch_needed ≤ length s.now }
     ensures { result ≡ ltb (last_id s.now) (first_id s.now) }
 {
-    let f = item_id(s, FIRST);
-    let l = item_id(s, LAST);
-    codec::less3(l.high, l.middle, l.low, f.high, f.middle, f.low)
+    let first = Item::from_bytes(&s[FIRST..FIRST + 24]);
+    let last = Item::from_bytes(&s[LAST..LAST + 24]);
+    last < first
 }
 
 // Do the ranges of a knowledge, but for those of vector 0, lie inside a batch's span.
@@ -490,9 +394,9 @@ fn inside_span(s: &[u8], k: &[u8], v: View) -> bool
     requires { batch_needed ≤ length s.now }
     ensures { result ≡ inside_of k.now v.start (first_id s.now) (last_id s.now) }
 {
-    let f = item_id(s, FIRST);
-    let l = item_id(s, LAST);
-    lookup_ranges::inside(k, v, Span { first: f, last: l })
+    let first = Item::from_bytes(&s[FIRST..FIRST + 24]);
+    let last = Item::from_bytes(&s[LAST..LAST + 24]);
+    lookup_ranges::inside(k, v, Span { first, last })
 }
 
 // Does learned, in l, contain both versions of each of the n records from a place on, and does needed, in k, lack its change version.
@@ -515,67 +419,73 @@ fn batch_learned(
     l: &[u8],
     count: u32,
     limits: Limits,
-) -> OpenedBatch
+) -> Result<OpenBatch, Refusal>
     requires { (BatchHeader s.now k.now l.now count)
         × ((n : ℕ) → NormalOf (within limits.replicas limits.ranges n) k.now needed) }
     ensures { (m : ℕ) → count ≤ clamp m largest_records
         → result ≡ batch_opened (within limits.replicas limits.ranges m) s.now }
 {
-    let Normality::Normal { part: learned } = normal_part(l, limits) else {
-        return OpenedBatch::NotValid;
+    let Some(learned) = normal_part(l, limits) else {
+        return Err(Refusal::BatchNotValid);
     };
     if !inside_span(s, l, learned.view) {
-        return OpenedBatch::NotValid;
+        return Err(Refusal::BatchNotValid);
     }
     let at = BATCH_NEEDED + k.len() + l.len();
     if !each_carried(s, count, at, k, needed.view, l, learned.view) {
-        return OpenedBatch::NotValid;
+        return Err(Refusal::BatchNotValid);
     }
-    OpenedBatch::Valid {
+    Ok(OpenBatch {
         needed,
         learned,
         count,
-    }
+    })
 }
 
 // The check of a batch from its needed knowledge k on, with the learned knowledge l and the count of records.
-fn batch_needed(s: &[u8], k: &[u8], l: &[u8], count: u32, limits: Limits) -> OpenedBatch
+fn batch_needed(
+    s: &[u8],
+    k: &[u8],
+    l: &[u8],
+    count: u32,
+    limits: Limits,
+) -> Result<OpenBatch, Refusal>
     requires { BatchHeader s.now k.now l.now count }
     ensures { (m : ℕ) → count ≤ clamp m largest_records
         → result ≡ batch_opened (within limits.replicas limits.ranges m) s.now }
 {
-    let Normality::Normal { part: needed } = normal_part(k, limits) else {
-        return OpenedBatch::NotValid;
+    let Some(needed) = normal_part(k, limits) else {
+        return Err(Refusal::BatchNotValid);
     };
     batch_learned(s, k, needed, l, count, limits)
 }
 
 // Checks a batch, with the most replicas, ranges and records, each clamped to 1 to its largest.
-pub fn open_batch(s: &[u8], limits: Limits) -> OpenedBatch
+pub fn open_batch(s: &[u8], limits: Limits) -> Result<OpenBatch, Refusal>
     ensures { result ≡ batch_opened (within limits.replicas limits.ranges limits.records) s.now }
 {
     if s.len() < BATCH_NEEDED {
-        return OpenedBatch::NotValid;
+        return Err(Refusal::BatchNotValid);
     }
-    if codec::read1(s, 0) != 4 {
-        return OpenedBatch::NotValid;
+    if codec::read::<1>(s, 0) != 4 {
+        return Err(Refusal::BatchNotValid);
     }
-    let n = codec::read4(s, NEEDED_LENGTH) as usize;
-    let m = codec::read4(s, LEARNED_LENGTH) as usize;
+    let n = codec::read::<4>(s, NEEDED_LENGTH) as usize;
+    let m = codec::read::<4>(s, LEARNED_LENGTH) as usize;
     if s.len() - BATCH_NEEDED < n + m {
-        return OpenedBatch::NotValid;
+        return Err(Refusal::BatchNotValid);
     }
-    let count = codec::read4(s, BATCH_COUNT) as u32;
+    let count = codec::read::<4>(s, BATCH_COUNT) as u32;
     if codec::clamp(limits.records, layout::LARGEST_RECORDS) < count {
-        return OpenedBatch::NotValid;
+        return Err(Refusal::BatchNotValid);
     }
     if span_falls(s) {
-        return OpenedBatch::NotValid;
+        return Err(Refusal::BatchNotValid);
     }
     let learned = BATCH_NEEDED + n;
     let table = learned + m;
     if !records::shaped(&s[..], count, table) {
-        return OpenedBatch::NotValid;
+        return Err(Refusal::BatchNotValid);
     }
     batch_needed(
         s,

@@ -4,13 +4,16 @@ use mathlib.Core.Path.{◌≡◌, refl, sym, ap, ap₂, ◌∙◌, subst}
 use mathlib.Core.List.{List}
 use native.Mathlib.Omega.{arith}
 use lib.ListN.{length}
+use Rattle.std.specs.Prelude.{Result, Ok, Err}
+use Rattle.codec.specs.declared.Refusal.{Refusal}
+use Rattle.codec.specs.Refusal.{number}
 use Rattle.codec.specs.Number.{Bytes}
 use Rattle.codec.specs.Parsed.{Parsed, accepted, refused}
 use Rattle.layout.specs.Knowledge.{Limits, base}
 use Rattle.layout.specs.Permitted.{within}
 use Rattle.layout.proofs.Within.{base_within}
-use Rattle.replication.specs.declared.Part.{Part}
-use Rattle.replication.specs.declared.Part.TheVariants as P
+use Rattle.replication.specs.Part.{Part}
+use Rattle.replication.specs.Part as P
 use Rattle.replication.specs.Formats.{Store}
 use Rattle.replication.specs.BatchFormat.{Batch}
 use Rattle.replication.specs.OpenStore.{knowledge_length, store_knowledge, open_store}
@@ -18,11 +21,8 @@ use Rattle.replication.specs.OpenBatch.{learned_length, batch_needed, batch_lear
 use Rattle.replication.specs.Queries.{learned_part, knowledge_part}
 use Rattle.replication.proofs.Queries.Winner.{learned_exact, learned_batch}
 use Rattle.replication.proofs.Queries.Knowledge.{knowledge_exact, knowledge_store}
-use Rattle.store_open.specs.declared.KnowledgePart.{KnowledgePart}
-use Rattle.store_open.specs.declared.OpenedStore.{OpenedStore}
-use Rattle.store_open.specs.declared.OpenedStore.TheVariants as S
-use Rattle.store_open.specs.declared.OpenedBatch.{OpenedBatch}
-use Rattle.store_open.specs.declared.OpenedBatch.TheVariants as B
+use Rattle.store_open.specs.declared.OpenStore.{OpenStore}
+use Rattle.store_open.specs.declared.OpenBatch.{OpenBatch}
 use Rattle.store_open.specs.Method.{store_opened, batch_opened}
 use Rattle.store_open.proofs.Opened.{BatchOpen, store_open, store_closed, batch_open, batch_closed}
 use Rattle.store_queries.specs.Method.{Inside}
@@ -30,22 +30,22 @@ use Rattle.store_queries.proofs.Winning.{inside_refused, inside_store, inside_ba
 
 -- ---- learned
 
-module _ (a b n : ℕ) (t : List ℕ) (q : OpenedBatch) (g : q ≡ batch_opened (within a b n) t) where
-  pub learned_not_batch : q ≡ B.NotValid → P.Refused 16 ≡ learned_part (within a b n) t
-  learned_not_batch h = sym (learned_batch (within a b n) t 16 (batch_closed a b n t (sym g ∙ h))).is
+module _ (a b n : ℕ) (t : List ℕ) (q : Result OpenBatch Refusal) (g : q ≡ batch_opened (within a b n) t) where
+  pub learned_not_batch : (d : Refusal) → q ≡ Err d → P.Refused (number d) ≡ learned_part (within a b n) t
+  learned_not_batch d h = sym (learned_batch (within a b n) t (number d) (batch_closed a b n t d (sym g ∙ h))).is
 
-  module _ (z : Bytes t) (l j : KnowledgePart) (c : ℕ) (h : q ≡ B.Valid l j c) where
-    opened_batch : BatchOpen (within a b n) t l j c
-    opened_batch = batch_open a b n t z l j c (sym g ∙ h)
+  module _ (z : Bytes t) (x : OpenBatch) (h : q ≡ Ok x) where
+    opened_batch : BatchOpen (within a b n) t x.needed x.learned x.count
+    opened_batch = batch_open a b n t z x (sym g ∙ h)
 
     -- its place is inside the bytes
-    pub learned_place : batch_needed + l.length ≤ length t
+    pub learned_place : batch_needed + x.needed.length ≤ length t
     learned_place = omega (arith, opened_batch.needed_size, opened_batch.tests.inside)
 
-    pub learned_is : P.OfBatch (batch_needed + l.length) j.length ≡ learned_part (within a b n) t
+    pub learned_is : P.OfBatch (batch_needed + x.needed.length) x.learned.length ≡ learned_part (within a b n) t
     learned_is =
-        let x : batch_needed + l.length ≡ batch_learned t = omega (arith, opened_batch.needed_size) in
-        ap₂ {C = Part} P.OfBatch x opened_batch.learned_size ∙ sym (learned_exact (within a b n) t _ opened_batch.value).part.is
+        let o : batch_needed + x.needed.length ≡ batch_learned t = omega (arith, opened_batch.needed_size) in
+        ap₂ {C = Part} P.OfBatch o opened_batch.learned_size ∙ sym (learned_exact (within a b n) t _ opened_batch.value).part.is
 
 pub learned_base : (t : List ℕ) (p : Part) → p ≡ learned_part (within base.replicas base.ranges base.records) t
     → p ≡ learned_part base t
@@ -62,14 +62,14 @@ learned_inside L t p is = subst (λ (q : Part). Inside q t t) (sym is) (go (open
 
 -- ---- a store's own knowledge
 
-module _ (a b n : ℕ) (s : List ℕ) (r : OpenedStore) (e : r ≡ store_opened (within a b n) s) where
-  pub knowledge_not_store : r ≡ S.NotValid → P.Refused 15 ≡ knowledge_part (within a b n) s
-  knowledge_not_store f = sym (knowledge_store (within a b n) s 15 (store_closed a b n s (sym e ∙ f))).is
+module _ (a b n : ℕ) (s : List ℕ) (r : Result OpenStore Refusal) (e : r ≡ store_opened (within a b n) s) where
+  pub knowledge_not_store : (d : Refusal) → r ≡ Err d → P.Refused (number d) ≡ knowledge_part (within a b n) s
+  knowledge_not_store d f = sym (knowledge_store (within a b n) s (number d) (store_closed a b n s d (sym e ∙ f))).is
 
-  module _ (y : Bytes s) (k : KnowledgePart) (m : ℕ) (f : r ≡ S.Valid k m) where
-    pub knowledge_is : P.OfStore store_knowledge k.length ≡ knowledge_part (within a b n) s
+  module _ (y : Bytes s) (x : OpenStore) (f : r ≡ Ok x) where
+    pub knowledge_is : P.OfStore store_knowledge x.own.length ≡ knowledge_part (within a b n) s
     knowledge_is =
-        let o = store_open a b n s y k m (sym e ∙ f) in
+        let o = store_open a b n s y x (sym e ∙ f) in
         ap (P.OfStore store_knowledge) o.length ∙ sym (knowledge_exact (within a b n) s _ o.value).part.is
 
 pub knowledge_base : (s : List ℕ) (p : Part) → p ≡ knowledge_part (within base.replicas base.ranges base.records) s

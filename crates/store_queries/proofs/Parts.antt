@@ -6,10 +6,35 @@ use mathlib.Core.List.{List, []}
 use native.Mathlib.Omega.{arith}
 use lib.ListN.{take, drop}
 use denote.Ref.{Bor}
-use Rattle.replication.specs.declared.Part.{Part}
-use Rattle.replication.specs.declared.Part.TheVariants as P
+use Rattle.std.specs.Prelude.{Option, Some, None, Result, Ok, Err}
+use Rattle.codec.specs.declared.Refusal.{Refusal}
+use Rattle.codec.specs.Refusal.{number}
+use Rattle.replication.specs.declared.Location.{Location}
+use Rattle.replication.specs.declared.Side.{Side}
+use Rattle.replication.specs.declared.Side.TheVariants.{Store, Batch}
+use Rattle.replication.specs.Part.{Part, located, part_of}
+use Rattle.replication.specs.Part as P
 use Rattle.replication.specs.Queries.{part_bytes, part_number}
 use Rattle.store_queries.specs.Lent.{PointsInto}
+
+-- what a call found, as the definitions' answer
+module _ (p : Result (Option Location) Refusal) where
+  pub found_none : (o : Option Location) → p ≡ Ok o → o ≡ None → part_of p ≡ P.Nothing
+  unfolding part_of
+  found_none o e g = ap part_of e ∙ ap (λ (x : Option Location). part_of (Ok x)) g
+
+  pub found_refused : (d : Refusal) → p ≡ Err d → part_of p ≡ P.Refused (number d)
+  unfolding part_of
+  found_refused d e = ap part_of e
+
+  module _ (o : Option Location) (e : p ≡ Ok o) (l : Location) (g : o ≡ Some l) where
+    pub found_in_store : l.side ≡ Store → part_of p ≡ P.OfStore l.at l.length
+    unfolding part_of located
+    found_in_store f = ap part_of e ∙ ap (λ (x : Option Location). part_of (Ok x)) g ∙ ap (λ (d : Side). located d l.at l.length) f
+
+    pub found_in_batch : l.side ≡ Batch → part_of p ≡ P.OfBatch l.at l.length
+    unfolding part_of located
+    found_in_batch f = ap part_of e ∙ ap (λ (x : Option Location). part_of (Ok x)) g ∙ ap (λ (d : Side). located d l.at l.length) f
 
 -- what `part_of` ensures
 abbrev pub Handed : Part → Bor (List ℕ) → Bor (List ℕ) → Bor (List ℕ) → ℕ → Type 0

@@ -9,6 +9,9 @@ use native.Mathlib.Omega.{arith}
 use lib.Dec.{eqb}
 use lib.ListN.{length}
 use borrow.Author.Tests.{eqb-true, eqb-false}
+use Rattle.std.specs.Prelude.{Result, Ok, Err}
+use Rattle.codec.specs.declared.Refusal.{Refusal}
+use Rattle.codec.specs.Refusal.{number}
 use Rattle.codec.specs.Number.{Bytes, be_at}
 use Rattle.codec.specs.Parsed.{Parsed, accepted, refused}
 use Rattle.codec.specs.Total.{read_at}
@@ -16,12 +19,11 @@ use Rattle.codec.specs.declared.Item.{Item}
 use Rattle.codec.specs.Ids.{item_of, item_read}
 use Rattle.codec.proofs.Ids.{item_there}
 use Rattle.codec.proofs.Numbers.{be_below}
-use Rattle.codec.proofs.Total.{read_id3}
 use Rattle.layout.specs.Knowledge.{Limits, base}
 use Rattle.layout.specs.Permitted.{within}
 use Rattle.layout.proofs.Within.{base_within}
-use Rattle.replication.specs.declared.Part.{Part}
-use Rattle.replication.specs.declared.Part.TheVariants as P
+use Rattle.replication.specs.Part.{Part}
+use Rattle.replication.specs.Part as P
 use Rattle.replication.specs.Formats.{Store}
 use Rattle.replication.specs.BatchFormat.{Batch}
 use Rattle.replication.specs.Reading.{rec_length, behind, rec_at, whole}
@@ -32,25 +34,21 @@ use Rattle.replication.specs.Queries.{places, place_of, of_store, of_batch, winn
 use Rattle.replication.proofs.Tables.InBytes.{whole_at}
 use Rattle.replication.proofs.Tables.Walked.{found_place_lem}
 use Rattle.replication.proofs.Queries.Winner.{winner_found, winner_store, winner_batch, winner_17}
-use Rattle.records.specs.declared.Found.{Found}
-use Rattle.records.specs.declared.Found.TheVariants as F
+use Rattle.std.specs.Prelude as R
 use Rattle.records.specs.Method.{found_place, read_rec}
 use Rattle.records.proofs.Fields.{kind_read, wins_whole}
 use Rattle.records.proofs.Finding.{found_at_lem, found_nothing}
-use Rattle.store_open.specs.declared.KnowledgePart.{KnowledgePart}
-use Rattle.store_open.specs.declared.OpenedStore.{OpenedStore}
-use Rattle.store_open.specs.declared.OpenedStore.TheVariants as S
-use Rattle.store_open.specs.declared.OpenedBatch.{OpenedBatch}
-use Rattle.store_open.specs.declared.OpenedBatch.TheVariants as B
+use Rattle.store_open.specs.declared.OpenStore.{OpenStore}
+use Rattle.store_open.specs.declared.OpenBatch.{OpenBatch}
 use Rattle.store_open.specs.Method.{store_opened, batch_opened}
 use Rattle.store_open.proofs.Opened.{StoreOpen, BatchOpen, store_open, store_closed, batch_open, batch_closed}
 use Rattle.store_queries.specs.Method.{Inside}
 
 -- ---- the record at a place
 
-module _ (s : List ℕ) (at kind n : ℕ) (e : kind ≡ read_at s 1 at) (f : n ≡ rec_length kind) where
+module _ (s : List ℕ) (at n : ℕ) (f : n ≡ rec_length (read_at s 1 at)) where
   size : n ≡ rec_length (be_at s 1 at)
-  size = f ∙ ap rec_length (e ∙ kind_read s at)
+  size = f ∙ ap rec_length (kind_read s at)
 
   pub store_record : P.OfStore at n ≡ of_store s at
   unfolding of_store
@@ -62,7 +60,7 @@ module _ (s : List ℕ) (at kind n : ℕ) (e : kind ≡ read_at s 1 at) (f : n �
 
 -- ---- by what was found on each side
 
-module _ (s t : List ℕ) (i x y : ℕ) (m n : Found) (e : found_place m ≡ place_of s i (places s x))
+module _ (s t : List ℕ) (i x y : ℕ) (m n : R.Option ℕ) (e : found_place m ≡ place_of s i (places s x))
     (f : found_place n ≡ place_of t i (places t y)) where
   -- the winner, among the records from x on in s and from y on in t
   abbrev Winner : Part
@@ -71,32 +69,32 @@ module _ (s t : List ℕ) (i x y : ℕ) (m n : Found) (e : found_place m ≡ pla
   on_both : (o q : Option ℕ) → found_place m ≡ o → found_place n ≡ q → Winner ≡ winner_at s t o q
   on_both o q g h = ap₂ {C = Part} (winner_at s t) (sym e ∙ g) (sym f ∙ h)
 
-  mine_none : m ≡ F.Nothing → found_place m ≡ none
+  mine_none : m ≡ R.None → found_place m ≡ none
   mine_none g = ap found_place g ∙ found_nothing
 
-  mine_at : (a : ℕ) → m ≡ F.At a → found_place m ≡ some a
+  mine_at : (a : ℕ) → m ≡ R.Some a → found_place m ≡ some a
   mine_at a g = ap found_place g ∙ found_at_lem a
 
-  theirs_none : n ≡ F.Nothing → found_place n ≡ none
+  theirs_none : n ≡ R.None → found_place n ≡ none
   theirs_none g = ap found_place g ∙ found_nothing
 
-  theirs_at : (b : ℕ) → n ≡ F.At b → found_place n ≡ some b
+  theirs_at : (b : ℕ) → n ≡ R.Some b → found_place n ≡ some b
   theirs_at b g = ap found_place g ∙ found_at_lem b
 
-  pub winner_nobody : m ≡ F.Nothing → n ≡ F.Nothing → P.Nothing ≡ Winner
+  pub winner_nobody : m ≡ R.None → n ≡ R.None → P.Nothing ≡ Winner
   unfolding winner_at
   winner_nobody g h = sym (on_both none none (mine_none g) (theirs_none h))
 
-  pub winner_theirs : m ≡ F.Nothing → (b : ℕ) → n ≡ F.At b → (p : Part) → p ≡ of_batch t b → p ≡ Winner
+  pub winner_theirs : m ≡ R.None → (b : ℕ) → n ≡ R.Some b → (p : Part) → p ≡ of_batch t b → p ≡ Winner
   unfolding winner_at
   winner_theirs g b h p q = q ∙ sym (on_both none (some b) (mine_none g) (theirs_at b h))
 
-  module _ (a : ℕ) (g : m ≡ F.At a) (p : Part) where
-    pub winner_mine : n ≡ F.Nothing → p ≡ of_store s a → p ≡ Winner
+  module _ (a : ℕ) (g : m ≡ R.Some a) (p : Part) where
+    pub winner_mine : n ≡ R.None → p ≡ of_store s a → p ≡ Winner
     unfolding winner_at
     winner_mine h q = q ∙ sym (on_both (some a) none (mine_at a g) (theirs_none h))
 
-    module _ (b : ℕ) (h : n ≡ F.At b) (w : Bool) (k : w ≡ wins (read_rec s a) (read_rec t b)) where
+    module _ (b : ℕ) (h : n ≡ R.Some b) (w : Bool) (k : w ≡ wins (read_rec s a) (read_rec t b)) where
       won : w ≡ wins (rec_at s a) (rec_at t b)
       won =
           let u = found_place_lem s i x a (sym e ∙ mine_at a g) in
@@ -117,42 +115,43 @@ module _ (s t : List ℕ) (i x y : ℕ) (m n : Found) (e : found_place m ≡ pla
 
 -- ---- the call, by what the checks answered
 
-module _ (a b n : ℕ) (s t item : List ℕ) (r : OpenedStore) (e : r ≡ store_opened (within a b n) s) where
-  pub winner_not_store : r ≡ S.NotValid → P.Refused 15 ≡ winner_part (within a b n) s t item
-  winner_not_store f = sym (winner_store (within a b n) s t item 15 (store_closed a b n s (sym e ∙ f))).is
+module _ (a b n : ℕ) (s t item : List ℕ) (r : Result OpenStore Refusal) (e : r ≡ store_opened (within a b n) s) where
+  pub winner_not_store : (d : Refusal) → r ≡ Err d → P.Refused (number d) ≡ winner_part (within a b n) s t item
+  winner_not_store d f = sym (winner_store (within a b n) s t item (number d) (store_closed a b n s d (sym e ∙ f))).is
 
-  module _ (y : Bytes s) (k : KnowledgePart) (m : ℕ) (f : r ≡ S.Valid k m) (q : OpenedBatch)
-      (g : q ≡ batch_opened (within a b n) t) where
-    opened : StoreOpen (within a b n) s k m
-    opened = store_open a b n s y k m (sym e ∙ f)
+  module _ (y : Bytes s) (x : OpenStore) (f : r ≡ Ok x) (q : Result OpenBatch Refusal) (g : q ≡ batch_opened (within a b n) t) where
+    opened : StoreOpen (within a b n) s x.own x.count
+    opened = store_open a b n s y x (sym e ∙ f)
 
-    pub winner_not_batch : q ≡ B.NotValid → P.Refused 16 ≡ winner_part (within a b n) s t item
-    winner_not_batch h = sym (winner_batch (within a b n) s t item _ 16 opened.value (batch_closed a b n t (sym g ∙ h))).is
+    pub winner_not_batch : (d : Refusal) → q ≡ Err d → P.Refused (number d) ≡ winner_part (within a b n) s t item
+    winner_not_batch d h =
+        sym (winner_batch (within a b n) s t item _ (number d) opened.value (batch_closed a b n t d (sym g ∙ h))).is
 
-    module _ (z : Bytes t) (l j : KnowledgePart) (c : ℕ) (h : q ≡ B.Valid l j c) where
-      opened_too : BatchOpen (within a b n) t l j c
-      opened_too = batch_open a b n t z l j c (sym g ∙ h)
+    module _ (z : Bytes t) (v : OpenBatch) (h : q ≡ Ok v) where
+      opened_too : BatchOpen (within a b n) t v.needed v.learned v.count
+      opened_too = batch_open a b n t z v (sym g ∙ h)
 
       pub winner_no_item : (length item ≡ 24 → ⊥) → P.Refused 17 ≡ winner_part (within a b n) s t item
       winner_no_item w = sym (winner_17 (within a b n) s t item _ _ opened.value opened_too.value w).is
 
       -- lengths are numbers of four bytes
-      pub winner_lengths : (k.length < 256 ^ 4) × ((l.length < 256 ^ 4) × (j.length < 256 ^ 4))
+      pub winner_lengths : (x.own.length < 256 ^ 4) × ((v.needed.length < 256 ^ 4) × (v.learned.length < 256 ^ 4))
       winner_lengths = (
         omega (arith, opened.length, be_below s 4 17 y),
         (omega (arith, opened_too.needed_size, be_below t 4 49 z), omega (arith, opened_too.learned_size, be_below t 4 53 z)),
       )
 
       pub winner_is : length item ≡ 24 → (h : Item) → h ≡ item_read item → (p : Part)
-          → p ≡ winner_at s t (place_of s (item_of h) (places s (store_knowledge + k.length)))
-          (place_of t (item_of h) (places t (batch_needed + l.length + j.length))) → p ≡ winner_part (within a b n) s t item
+          → p ≡ winner_at s t (place_of s (item_of h) (places s (store_knowledge + x.own.length)))
+          (place_of t (item_of h) (places t (batch_needed + v.needed.length + v.learned.length))) → p ≡ winner_part (within a b n) s t item
       winner_is w h d p is =
           let i = item_of h in
           let id : i ≡ be_at item 24 0 = ap (λ (x : Item). item_of x) d ∙ item_there item (omega arith) in
-          let x : store_knowledge + k.length ≡ store_table s = omega (arith, opened.length) in
-          let v : batch_needed + l.length + j.length ≡ batch_table t = omega (arith, opened_too.needed_size, opened_too.learned_size) in
+          let c : store_knowledge + x.own.length ≡ store_table s = omega (arith, opened.length) in
+          let o : batch_needed + v.needed.length + v.learned.length ≡ batch_table t =
+          omega (arith, opened_too.needed_size, opened_too.learned_size) in
           is
-          ∙ ap₂ {C = Part} (λ (x v : ℕ). winner_at s t (place_of s i (places s x)) (place_of t i (places t v))) x v
+          ∙ ap₂ {C = Part} (λ (c o : ℕ). winner_at s t (place_of s i (places s c)) (place_of t i (places t o))) c o
           ∙ sym (winner_found (within a b n) s t item _ _ opened.value opened_too.value w i id)
 
 -- document 01's limits

@@ -1,7 +1,7 @@
 -- A part that is inside the bytes that it is of, and the count of one record. There is nothing to believe here.
 use Rattle.std.specs.Prelude.{ℕ, ◌+◌, ◌≤◌, ◌≡◌, Bool, true, false, List, length}
-use Rattle.replication.specs.declared.Part.{Part}
-use Rattle.replication.specs.declared.Part.TheVariants as P
+use Rattle.replication.specs.Part.{Part}
+use Rattle.replication.specs.Part as P
 
 pub record Inside (p : Part) (s t : List ℕ) : Type 0 where
   pub of_store : (at n : ℕ) → p ≡ P.OfStore at n → at + n ≤ length s

@@ -11,11 +11,14 @@ use lib.Dec.{leb}
 use lib.ListN.{length, take, drop, length-take, length-drop, take-append-drop}
 use lib.Seq.{drop-append-le, drop-drop}
 use borrow.Author.Tests.{le-leb, lt-leb, lt-ltb, le-ltb, leb-true, leb-false}
+use Rattle.codec.specs.declared.Refusal.{Refusal}
+use Rattle.codec.specs.declared.Refusal.TheVariants.{BufferTooShort}
+use Rattle.codec.specs.Refusal.{number}
 use Rattle.codec.specs.Reply.{Reply, gives, refuses}
 use Rattle.codec.specs.Part.{placed}
 use Rattle.codec.specs.MethodEnded.{Ended}
-use Rattle.codec.specs.declared.Answer.{Answer}
-use Rattle.codec.specs.declared.Answer.TheVariants.{Written, Refused}
+use Rattle.codec.specs.Answer.{Answer}
+use Rattle.codec.specs.Answer.{Written, Refused}
 use Rattle.codec.proofs.Writing.{placed_in, placed-length}
 use Rattle.codec.proofs.Replies.{fault_first, fault_gives}
 use Rattle.codec.proofs.Calls.{short_answer, short_after, written_answer, written_after}
@@ -90,6 +93,16 @@ module _ (may : Bool) (room front size : ℕ) where
           (record { ordered = omega arith; inside = omega arith; only = λ l. absurd (omega arith); some = λ m l. absurd (omega arith) })
 
 -- ---- the answer and the buffer, by the knowledge's answer
+
+-- a refusal below 14, or not, by its number in the code
+module _ (e : Refusal) (x y : ℕ) (is : x ≡ number e) (short : y ≡ number BufferTooShort) where
+  pub small : x < y → number e < 14
+  unfolding number
+  small h = omega (arith, is, short)
+
+  pub large : y ≤ x → 14 ≤ number e
+  unfolding number
+  large h = omega (arith, is, short)
 
 -- 11 or 12
 answer_own : (may : Bool) (front size n room : ℕ) → n < 14 → Refused n ≡ answer_around may front size (Refused n) room

@@ -10,7 +10,7 @@ use borrow.Author.Tests.{leb-true, leb-false}
 use Rattle.codec.specs.Number.{Bytes}
 use Rattle.codec.specs.Total.{clamp}
 use Rattle.codec.specs.Part.{placed, part}
-use Rattle.codec.specs.declared.Answer.{Answer}
+use Rattle.codec.specs.Answer.{Answer}
 use Rattle.codec.proofs.Writing.{placed-length, placed_swap}
 use Rattle.codec.proofs.Total.{clamp_within}
 use Rattle.layout.specs.Knowledge.{Limits, encode}

@@ -8,7 +8,7 @@ use native.Mathlib.Omega.{arith}
 use lib.ListN.{length, take}
 use borrow.Author.Tests.{le-leb}
 use Rattle.codec.specs.Part.{placed, part}
-use Rattle.codec.specs.declared.Answer.{Answer}
+use Rattle.codec.specs.Answer.{Answer}
 use Rattle.codec.proofs.Writing.{placed-length, placed_swap}
 use Rattle.codec.proofs.Replies.{fault_gives}
 use Rattle.layout.specs.Knowledge.{Limits, encode}

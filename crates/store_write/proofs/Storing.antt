@@ -9,8 +9,8 @@ use borrow.Author.Tests.{le-leb, lt-leb}
 use Rattle.codec.specs.Number.{Bytes}
 use Rattle.codec.specs.Reply.{Reply, answer, after}
 use Rattle.codec.specs.MethodEnded.{Ended}
-use Rattle.codec.specs.declared.Answer.{Answer}
-use Rattle.codec.specs.declared.Answer.TheVariants.{Written, Refused}
+use Rattle.codec.specs.Answer.{Answer}
+use Rattle.codec.specs.Answer.{Written, Refused}
 use Rattle.layout.specs.Knowledge.{Limits, base}
 use Rattle.layout.specs.Permitted.{within}
 use Rattle.layout.proofs.Within.{base_within}

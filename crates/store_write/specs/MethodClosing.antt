@@ -4,8 +4,8 @@
 use Rattle.std.specs.Prelude.{ℕ, ◌+◌, ◌-◌, ◌≤◌, ◌<◌, ◌≡◌, Bool, true, false, List, [], ◌++◌, leb, ltb, length, take, drop}
 use Rattle.codec.specs.Reply.{Reply, gives, refuses, first_fault}
 use Rattle.codec.specs.Part.{placed}
-use Rattle.codec.specs.declared.Answer.{Answer}
-use Rattle.codec.specs.declared.Answer.TheVariants.{Written, Refused}
+use Rattle.codec.specs.Answer.{Answer}
+use Rattle.codec.specs.Answer.{Written, Refused}
 use Rattle.layout.specs.Knowledge.{Limits, Knowledge, encode}
 use Rattle.ticks.specs.Calls.{result_lines}
 use Rattle.replication.specs.Formats.{Store, put_recs}

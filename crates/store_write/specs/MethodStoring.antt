@@ -2,8 +2,8 @@
 -- nothing to believe here: the laws say that around a knowledge this is how the reply of a store or batch ends.
 use Rattle.std.specs.Prelude.{ℕ, ◌+◌, ◌≤◌, ◌≡◌, true, false, List, [], leb, length, take}
 use Rattle.codec.specs.Part.{placed}
-use Rattle.codec.specs.declared.Answer.{Answer}
-use Rattle.codec.specs.declared.Answer.TheVariants.{Written, Refused}
+use Rattle.codec.specs.Answer.{Answer}
+use Rattle.codec.specs.Answer.{Written, Refused}
 use Rattle.replication.specs.Record.{Rec}
 use Rattle.replication.specs.Formats.{put_recs}
 use Rattle.records_join.specs.MethodJoin.{copied}

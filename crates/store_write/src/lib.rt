@@ -5,6 +5,7 @@
 #![tactic(auto)]
 
 ghost use Rattle.std.specs.Prelude.{◌≡◌, ◌+◌, ◌≤◌, length, take};
+ghost use Rattle.codec.specs.Answer.{answer_of};
 ghost use Rattle.codec.specs.Part.{placed};
 ghost use Rattle.codec.specs.Total.{clamp};
 ghost use Rattle.codec.specs.Ids.{item_of, replica_of};
@@ -16,7 +17,7 @@ ghost use Rattle.store_headers.specs.MethodHeaders.{store_head, batch_head};
 ghost use Rattle.store_write.specs.MethodStoring.{ends_with, leaves};
 ghost use Rattle.store_write.specs.MethodClosing.{store_room, store_answer, store_after, batch_room, batch_answer, batch_after};
 
-use codec::{Answer, Item, Replica, Span};
+use codec::{Item, Refusal, Replica, Span};
 use records_join::Extent;
 
 // ---- a store around a knowledge that is written into its room
@@ -56,52 +57,52 @@ fn put_around(
     other: &[u8],
     picks: &[usize],
     e: Extent,
-) -> Answer
-    ensures value { result ≡ ends_with (store_knowledge + n + e.length) (length out.old) }
+) -> Result<usize, Refusal>
+    ensures value { answer_of result ≡ ends_with (store_knowledge + n + e.length) (length out.old) }
     ensures out_after { out.new ≡ leaves (store_knowledge + n + e.length) out.old
         (copied s.now other.now (placed out.old 0 (store_head (replica_of own) n e.count))
         (store_knowledge + n) (take e.count picks.now)) }
 {
     if codec::beyond(out.len(), store_headers::STORE, n) {
-        return Answer::Refused(14);
+        return Err(Refusal::BufferTooShort);
     }
     let end = store_headers::STORE + n;
     if codec::beyond(out.len(), end, e.length) {
-        return Answer::Refused(14);
+        return Err(Refusal::BufferTooShort);
     }
     let total = end + e.length;
     store_headers::write_store_header(out, own, n, e.count);
     records_join::copy_picked(s, other, picks, e.count, out, end);
-    Answer::Written(total)
+    Ok(total)
 }
 
-// Ends a call that writes a store, once its knowledge was written into its room or refused with `a`: with the number of that refusal, with 13
-// for too many records, or with the whole store.
+// Ends a call that writes a store, once its knowledge was written into its room or refused with `a`: with that refusal, with the one for too
+// many records where these left the knowledge no room, or with the whole store.
 pub fn close_store(
     out: &mut [u8],
     own: Replica,
-    a: Answer,
+    a: Result<usize, Refusal>,
     records: u32,
     s: &[u8],
     other: &[u8],
     picks: &[usize],
     e: Extent,
-) -> Answer
-    ensures value { result ≡ store_answer a (clamp records largest_records) e.count e.length (length out.old) }
-    ensures out_after { out.new ≡ store_after a (replica_of own) s.now other.now picks.now
+) -> Result<usize, Refusal>
+    ensures value { answer_of result ≡ store_answer (answer_of a) (clamp records largest_records) e.count e.length (length out.old) }
+    ensures out_after { out.new ≡ store_after (answer_of a) (replica_of own) s.now other.now picks.now
         e.count e.length out.old }
 {
     match a {
-        Answer::Written(n) => put_around(out, own, n, s, other, picks, e),
-        Answer::Refused(n) => {
+        Ok(n) => put_around(out, own, n, s, other, picks, e),
+        Err(r) => {
             let most = codec::clamp(records, layout::LARGEST_RECORDS) as usize;
             if e.count <= most {
-                return Answer::Refused(n);
+                return Err(r);
             }
-            if n < 14 {
-                return Answer::Refused(n);
+            if u32::from(r) < u32::from(Refusal::BufferTooShort) {
+                return Err(r);
             }
-            Answer::Refused(13)
+            Err(Refusal::TooManyRecords)
         }
     }
 }
@@ -137,8 +138,8 @@ fn put_batch_around(
     s: &[u8],
     picks: &[usize],
     e: Extent,
-) -> Answer
-    ensures value { result ≡ ends_with (batch_needed + length needed.now + n + e.length) (length out.old) }
+) -> Result<usize, Refusal>
+    ensures value { answer_of result ≡ ends_with (batch_needed + length needed.now + n + e.length) (length out.old) }
     ensures out_after { out.new ≡ leaves (batch_needed + length needed.now + n + e.length) out.old
         (copied s.now s.now
         (placed (placed out.old 0
@@ -147,41 +148,39 @@ fn put_batch_around(
 {
     let m = needed.len();
     if codec::beyond(out.len(), store_headers::BATCH, m) {
-        return Answer::Refused(14);
+        return Err(Refusal::BufferTooShort);
     }
     let middle = store_headers::BATCH + m;
     if codec::beyond(out.len(), middle, n) {
-        return Answer::Refused(14);
+        return Err(Refusal::BufferTooShort);
     }
     let end = middle + n;
     if codec::beyond(out.len(), end, e.length) {
-        return Answer::Refused(14);
+        return Err(Refusal::BufferTooShort);
     }
     let total = end + e.length;
     store_headers::write_batch_header(out, Span { first, last }, m, n, e.count);
     codec::copy_part(needed, 0, m, out, store_headers::BATCH);
     records_join::copy_picked(s, s, picks, e.count, out, end);
-    Answer::Written(total)
+    Ok(total)
 }
 
-// How a call ends that writes a batch, once its learned knowledge was written into its room or refused with `a`: with the number of that
-// refusal, or with the whole batch.
+// How a call ends that writes a batch, once its learned knowledge was written into its room or refused with `a`: with that refusal, or with
+// the whole batch.
 pub fn close_batch(
     out: &mut [u8],
     first: Item,
     last: Item,
-    a: Answer,
+    a: Result<usize, Refusal>,
     needed: &[u8],
     s: &[u8],
     picks: &[usize],
     e: Extent,
-) -> Answer
-    ensures value { result ≡ batch_answer a (length needed.now) e.length (length out.old) }
-    ensures out_after { out.new ≡ batch_after a (item_of first) (item_of last) needed.now s.now picks.now
+) -> Result<usize, Refusal>
+    ensures value { answer_of result ≡ batch_answer (answer_of a) (length needed.now) e.length (length out.old) }
+    ensures out_after { out.new ≡ batch_after (answer_of a) (item_of first) (item_of last) needed.now s.now picks.now
         e.count e.length out.old }
 {
-    match a {
-        Answer::Written(n) => put_batch_around(out, first, last, needed, n, s, picks, e),
-        Answer::Refused(n) => Answer::Refused(n),
-    }
+    let n = a?;
+    put_batch_around(out, first, last, needed, n, s, picks, e)
 }

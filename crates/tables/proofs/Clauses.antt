@@ -1,6 +1,6 @@
 -- The clauses of the definitions of the plan and of the numbers that stand in a list, one law each: others unfold these
 -- definitions nowhere. A test of a clause is a premise here.
-use Prim.Native.Nat.{ℕ, zero, suc, ◌+◌, ◌≤◌, ◌<◌}
+use Prim.Native.Nat.{ℕ, zero, suc, ◌+◌, ◌-◌, ◌≤◌, ◌<◌}
 use mathlib.Core.Path.{◌≡◌, refl, sym, ◌∙◌, ap, ap₂}
 use mathlib.Core.Bool.{Bool, true, false}
 use mathlib.Core.List.{List, [], ◌∷◌, ◌++◌}
@@ -227,6 +227,13 @@ numbers_at-zero l i = refl
 pub numbers_at-suc : (l : List ℕ) (i n : ℕ) → numbers_at l i (suc n) ≡ get_or l i 0 ∷ numbers_at l (i + 1) n
 unfolding numbers_at
 numbers_at-suc l i n = refl
+
+-- the numbers from a place on, of the first n
+pub numbers_left_more : (l : List ℕ) (i n : ℕ) → i < n → numbers_at l i (n - i) ≡ get_or l i 0 ∷ numbers_at l (i + 1) (n - (i + 1))
+numbers_left_more l i n h = let e : n - i ≡ suc (n - (i + 1)) = omega arith in ap (numbers_at l i) e ∙ numbers_at-suc l i (n - (i + 1))
+
+pub numbers_left_none : (l : List ℕ) (i n : ℕ) → n ≤ i → numbers_at l i (n - i) ≡ []
+numbers_left_none l i n h = let e : n - i ≡ 0 = omega arith in ap (numbers_at l i) e ∙ numbers_at-zero l i
 
 pub numbers_at-length : (l : List ℕ) (i n : ℕ) → length (numbers_at l i n) ≡ n
 numbers_at-length l i zero = ap length (numbers_at-zero l i)

@@ -8,7 +8,6 @@ use native.Mathlib.Omega.{arith}
 use lib.Dec.{eqb}
 use lib.ListN.{length, get_or}
 use borrow.Author.Tests.{eq-eqb, ne_eqb}
-use Rattle.layout.specs.Knowledge.{keys}
 use Rattle.ticks.specs.Meaning.{place, tick_at}
 use Rattle.ticks.specs.Table.{Row, get}
 use Rattle.ticks.specs.Written.{element_with, vector_from}

@@ -21,12 +21,12 @@ use Rattle.layout.specs.Parse.{parse}
 use Rattle.layout.proofs.Exact.{base_permitted}
 use Rattle.ticks.specs.Meaning.{known, contains}
 use Rattle.ticks.specs.Operations.{covers}
-use Rattle.ticks.specs.declared.Contain.{Contain}
-use Rattle.ticks.specs.declared.Contain.TheVariants as C
-use Rattle.ticks.specs.declared.Lead.{Lead}
-use Rattle.ticks.specs.declared.Lead.TheVariants as D
-use Rattle.ticks.specs.declared.Cover.{Cover}
-use Rattle.ticks.specs.declared.Cover.TheVariants as E
+use Rattle.ticks.specs.Contain.{Contain}
+use Rattle.ticks.specs.Contain as C
+use Rattle.ticks.specs.Lead.{Lead}
+use Rattle.ticks.specs.Lead as D
+use Rattle.ticks.specs.Cover.{Cover}
+use Rattle.ticks.specs.Cover as E
 use Rattle.ticks.specs.Calls.{contain_number, contain_value, lead_number, lead_value, cover_number, cover_value, id_of, read_as, wrong_length}
 use Rattle.ticks.specs.Calls.{wrong_ids, wrong_span, contain_found, cover_found, contain_answer, lead_of, lead_answer, cover_answer}
 use Rattle.ticks.specs.Demand2.{Decides}

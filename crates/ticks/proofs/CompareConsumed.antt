@@ -9,8 +9,8 @@ use mathlib.Core.List.{List, []}
 use native.Mathlib.Omega.{arith}
 use lib.ListN.{length, take, drop, replicate}
 use Rattle.codec.specs.Number.{Bytes, be_from, be_at, put}
-use Rattle.codec.specs.declared.Answer.{Answer}
-use Rattle.codec.specs.declared.Answer.TheVariants.{Written, Refused}
+use Rattle.codec.specs.Answer.{Answer}
+use Rattle.codec.specs.Answer.{Written, Refused}
 use Rattle.codec.specs.Parsed.{accepted, refused}
 use Rattle.codec.specs.Reply.{Reply, refuses, answer, after, number_of, written_of}
 use Rattle.codec.proofs.Numbers.{put_be, put-drop, be_drop, be_take}

@@ -10,8 +10,8 @@ use mathlib.Core.List.{List, [], ◌∷◌}
 use native.Mathlib.Omega.{arith}
 use lib.ListN.{length}
 use Rattle.codec.specs.Number.{put}
-use Rattle.codec.specs.declared.Answer.{Answer}
-use Rattle.codec.specs.declared.Answer.TheVariants.{Written, Refused}
+use Rattle.codec.specs.Answer.{Answer}
+use Rattle.codec.specs.Answer.{Written, Refused}
 use Rattle.codec.specs.Parsed.{Parsed, accepted, refused, own_fault, read_or}
 use Rattle.codec.specs.Reply.{Reply, gives, refuses, first_fault}
 use Rattle.codec.proofs.Numbers.{put-length}

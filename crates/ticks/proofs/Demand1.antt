@@ -12,21 +12,21 @@ use lib.ListN.{length, drop}
 use lib.Seq.{sets, sets-eq, drop-length}
 use borrow.Author.Tests.{leb-true, leb-false}
 use Rattle.codec.specs.Parsed.{Parsed, accepted, refused, line, own_fault}
-use Rattle.codec.specs.declared.Answer.{Answer}
-use Rattle.codec.specs.declared.Answer.TheVariants as A
+use Rattle.codec.specs.Answer.{Answer}
+use Rattle.codec.specs.Answer as A
 use Rattle.codec.specs.Reply.{Reply, gives, refuses, Line, first_fault, answer, after, number_of}
 use Rattle.codec.proofs.Replies.{fault_here, fault_later, answer_fits, answer_short, number_fits, number_short, number_refused, after_fits, after_short}
 use Rattle.layout.specs.Knowledge.{Limits, Rules, All, Knowledge}
 use Rattle.layout.specs.Permitted.{Permitted}
 use Rattle.layout.specs.Parse.{parse, checked_by}
 use Rattle.layout.specs.Answer.{checked_number, checked_sizes}
-use Rattle.layout.specs.declared.Checked.{Checked}
-use Rattle.layout.specs.declared.Checked.TheVariants.{Accepted, Refused}
+use Rattle.layout.specs.Checked.{Checked}
+use Rattle.layout.specs.Checked.{Accepted, Refused}
 use Rattle.layout.proofs.Answers.{answer_refused}
 use Rattle.layout.proofs.Exact.{refused_exact}
-use Rattle.ticks.specs.declared.Contain.TheVariants as C
-use Rattle.ticks.specs.declared.Lead.TheVariants as D
-use Rattle.ticks.specs.declared.Cover.TheVariants as E
+use Rattle.ticks.specs.Contain as C
+use Rattle.ticks.specs.Lead as D
+use Rattle.ticks.specs.Cover as E
 use Rattle.ticks.specs.Calls.{contain_number, contain_value, contain_found, contain_answer, lead_number, lead_value, lead_answer}
 use Rattle.ticks.specs.Calls.{cover_number, cover_value, cover_found, cover_answer, normalise_reply, merge_reply, project_reply, result_lines}
 use Rattle.ticks.specs.Calls.{read_as}

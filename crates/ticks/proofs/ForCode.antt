@@ -13,7 +13,7 @@ use borrow.Author.Tests.{lt-ltb, le-ltb, le-leb, lt-leb}
 use Rattle.codec.specs.Number.{be_at}
 use Rattle.codec.specs.Parsed.{accepted, refused}
 use Rattle.layout.specs.declared.VectorIndex.{VectorIndex}
-use Rattle.layout.specs.declared.Checked.TheVariants.{Refused}
+use Rattle.layout.specs.Checked.{Refused}
 use Rattle.layout.specs.Knowledge.{Rules, Element, Range, Knowledge, All, Distinct, keys, Lawful}
 use Rattle.layout.specs.Permitted.{Permitted}
 use Rattle.layout.specs.Decode.{decode}
@@ -22,8 +22,8 @@ use Rattle.layout.proofs.Exact.{refused_exact}
 use Rattle.layout.proofs.Places.{Reading, places}
 use Rattle.ticks.specs.Meaning.{place, tick_at, index_from, vector_found, vector_at, vector_of, known, contains}
 use Rattle.ticks.specs.MethodLookup.{index_at, first_index}
-use Rattle.ticks.specs.declared.Contain.TheVariants as C
-use Rattle.ticks.specs.declared.Lead.TheVariants as D
+use Rattle.ticks.specs.Contain as C
+use Rattle.ticks.specs.Lead as D
 use Rattle.ticks.specs.Calls.{contain_found, contain_answer, lead_of, lead_answer, wrong_ids}
 use Rattle.ticks.specs.Answers.{ProperIds}
 use Rattle.ticks.proofs.Lists.{Among, less, same, more, order, among?}

@@ -28,7 +28,7 @@ use Rattle.ticks.specs.Meaning.{known, tick_at, vector_at, vector_of}
 use Rattle.ticks.specs.MethodLookup.{key_of, index_at, first_index}
 use Rattle.ticks.specs.MethodRows.{lesser, least_with, least_of, top_tick, top_from, alike_rows}
 use Rattle.ticks.specs.Operations.{Lack, nowhere, here, lacking, is_nowhere, covers, largest_at, largest_from, largest, own_alike, alike_from}
-use Rattle.ticks.specs.declared.Cover.TheVariants as E
+use Rattle.ticks.specs.Cover as E
 use Rattle.ticks.specs.Calls.{wrong_span, cover_found, cover_answer}
 use Rattle.ticks.specs.Answers.{ProperSpan}
 use Rattle.codec.specs.Number.{be_at}

@@ -19,9 +19,9 @@ use Rattle.layout.proofs.Forward.{encode_bytes}
 use Rattle.ticks.specs.Meaning.{highest, known, contains}
 use Rattle.ticks.specs.Operations.{normalise, merge, project, known_inside, too_many_replicas, too_many_ranges}
 use Rattle.ticks.specs.Calls.{contain_number, contain_value, lead_number, lead_value, cover_number, cover_value, id_of, wrong_ids, wrong_span}
-use Rattle.ticks.specs.declared.Contain.{Contain}
-use Rattle.ticks.specs.declared.Lead.{Lead}
-use Rattle.ticks.specs.declared.Cover.{Cover}
+use Rattle.ticks.specs.Contain.{Contain}
+use Rattle.ticks.specs.Lead.{Lead}
+use Rattle.ticks.specs.Cover.{Cover}
 use Rattle.ticks.specs.Answers.{RefusedWith, ContainSays, Difference, LeadSays, AtLeast, ProperIds, ProperSpan, CoverSays}
 use Rattle.ticks.specs.Demand2.{SameVersions, NormalBytes, Normalised, Merged, Decides}
 use Rattle.ticks.specs.Results.{Projected}

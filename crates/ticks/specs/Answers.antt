@@ -6,9 +6,9 @@ use Rattle.layout.specs.Knowledge.{Rules, Knowledge}
 use Rattle.layout.specs.Parse.{parse}
 use Rattle.ticks.specs.Meaning.{known}
 use Rattle.ticks.specs.Demand2.{Decides}
-use Rattle.ticks.specs.declared.Contain.{Contain}
-use Rattle.ticks.specs.declared.Lead.{Lead}
-use Rattle.ticks.specs.declared.Cover.{Cover}
+use Rattle.ticks.specs.Contain.{Contain}
+use Rattle.ticks.specs.Lead.{Lead}
+use Rattle.ticks.specs.Cover.{Cover}
 use Rattle.ticks.specs.Calls.{contain_number, contain_value, lead_number, lead_value, cover_number, cover_value}
 use Rattle.ticks.specs.Calls.{contain_answer, lead_answer, cover_answer}
 use Rattle.codec.specs.Parsed.{accepted, refused}

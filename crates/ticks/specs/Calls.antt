@@ -9,12 +9,12 @@ use Rattle.layout.specs.Knowledge.{Limits, Rules, Knowledge, encode}
 use Rattle.layout.specs.Parse.{parse}
 use Rattle.ticks.specs.Meaning.{known, contains, empty_knowledge}
 use Rattle.ticks.specs.Operations.{normalise, merge, project, covers, too_many_replicas, too_many_ranges}
-use Rattle.ticks.specs.declared.Contain.{Contain}
-use Rattle.ticks.specs.declared.Contain.TheVariants as C
-use Rattle.ticks.specs.declared.Lead.{Lead}
-use Rattle.ticks.specs.declared.Lead.TheVariants as D
-use Rattle.ticks.specs.declared.Cover.{Cover}
-use Rattle.ticks.specs.declared.Cover.TheVariants as E
+use Rattle.ticks.specs.Contain.{Contain}
+use Rattle.ticks.specs.Contain as C
+use Rattle.ticks.specs.Lead.{Lead}
+use Rattle.ticks.specs.Lead as D
+use Rattle.ticks.specs.Cover.{Cover}
+use Rattle.ticks.specs.Cover as E
 
 -- the number of each answer, 0 where nothing is refused; and its value, from the value before the call, which stays on a
 -- refusal

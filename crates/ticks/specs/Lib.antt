@@ -3,6 +3,9 @@ pub mod Meaning
 pub mod Table
 pub mod Written
 pub mod Operations
+pub mod Contain
+pub mod Lead
+pub mod Cover
 pub mod Calls
 pub mod Answers
 pub mod Demand2

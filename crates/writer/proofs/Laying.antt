@@ -7,7 +7,7 @@ use mathlib.Core.Bool.{Bool, true, false}
 use mathlib.Core.List.{List, [], ◌∷◌, ◌++◌, append-nil, append_assoc}
 use native.Mathlib.Omega.{arith}
 use lib.Dec.{eqb}
-use lib.ListN.{length, get_or, get_or-eq_default}
+use lib.ListN.{length, get_or}
 use borrow.Author.Tests.{eq-eqb, ne_eqb}
 use Rattle.codec.specs.Number.{put}
 use Rattle.codec.specs.Part.{placed, bytes}
@@ -17,6 +17,7 @@ use Rattle.tables.specs.declared.Sizes.{Sizes}
 use Rattle.tables.specs.MethodWords.{cell, numbers_at}
 use Rattle.tables.specs.MethodPlan.{elements_from}
 use Rattle.tables.specs.MethodPieces.{laid, id_pieces, element_pieces, vector_pieces, vectors_pieces, range_pieces, ranges_pieces, page_pieces}
+use Rattle.tables.proofs.Clauses.{numbers_left_more, numbers_left_none}
 use Rattle.tables.proofs.Pieces.{laid_past, laid_behind}
 use Rattle.writer.specs.Method.{Left, Wrote, elements_of}
 
@@ -50,26 +51,6 @@ module _ (d : List ℕ) (at : ℕ) (ps : List (List ℕ)) where
       → (w : List ℕ) (q : ℕ) → w ≡ placed u p (bytes n x) → p + n ≡ q → Left d at ps w q rs
   left_number u p n x rs l w q e f = left_piece u p (bytes n x) rs l w n q e (bytes-length n x) f
 
--- ---- numbers of a list, one after the other
-
-pub past_end : (l : List ℕ) (i : ℕ) → length l ≤ i → 0 ≡ get_or l i 0
-past_end l i h = sym (get_or-eq_default l 0 {n = i} h)
-
-numbers_all : (l : List ℕ) (m : ℕ) → numbers_at l 0 m ≡ numbers_at l 0 (m - 0)
-numbers_all l m = ap (numbers_at l 0) (omega arith)
-
-numbers_next : (l : List ℕ) (i m : ℕ) → i < m → numbers_at l i (m - i) ≡ get_or l i 0 ∷ numbers_at l (i + 1) (m - (i + 1))
-unfolding numbers_at
-numbers_next l i m h =
-    let e : m - i ≡ suc (m - (i + 1)) = omega arith in
-    rw (e)
-
-numbers_none : (l : List ℕ) (i m : ℕ) → i ≡ m → numbers_at l i (m - i) ≡ []
-unfolding numbers_at
-numbers_none l i m h =
-    let e : m - i ≡ 0 = omega arith in
-    rw (e)
-
 -- ---- the ids of the replica map
 
 pub id_wrote : (d e f ids : List ℕ) (at c a b : ℕ) → a ≡ get_or ids (2 * c) 0 → b ≡ get_or ids (2 * c + 1) 0
@@ -84,9 +65,6 @@ id_wrote d e f ids at c a b ia ib p q =
     f (at + 16) (q ∙ ap (λ (v : ℕ). placed e (at + 8) (bytes 8 v)) ib) (omega arith)
 
 module _ (ids cols : List ℕ) (m : ℕ) (d : List ℕ) (at : ℕ) where
-  pub ids_begin : Left d at (id_pieces ids (numbers_at cols 0 m)) d at (id_pieces ids (numbers_at cols 0 (m - 0)))
-  ids_begin = rw (← numbers_all cols m) (left_all d at (id_pieces ids (numbers_at cols 0 m)))
-
   module _ (ps : List (List ℕ)) (u : List ℕ) (p i : ℕ) (l : Left d at ps u p (id_pieces ids (numbers_at cols i (m - i)))) where
     pub ids_more : (w : List ℕ) (q c : ℕ) → i < m → c ≡ get_or cols i 0 → Wrote u p (id_pieces ids (c ∷ [])) w q
         → Left d at ps w q (id_pieces ids (numbers_at cols (i + 1) (m - (i + 1))))
@@ -94,10 +72,10 @@ module _ (ids cols : List ℕ) (m : ℕ) (d : List ℕ) (at : ℕ) where
       where
         split : id_pieces ids (numbers_at cols i (m - i))
             ≡ id_pieces ids (c ∷ []) ++ id_pieces ids (numbers_at cols (i + 1) (m - (i + 1)))
-        split = unfold id_pieces in rw (numbers_next cols i m h, e)
+        split = unfold id_pieces in rw (numbers_left_more cols i m h, e)
 
     pub ids_end : i ≡ m → Wrote d at ps u p
-    ids_end h = left_none d at ps u p _ l (unfold id_pieces in ap (id_pieces ids) (numbers_none cols i m h))
+    ids_end h = left_none d at ps u p _ l (unfold id_pieces in ap (id_pieces ids) (numbers_left_none cols i m (omega arith)))
 
 -- ---- the elements of a vector
 
@@ -128,20 +106,17 @@ module _ (t : List ℕ) (k key c tick : ℕ) (d : List ℕ) (at : ℕ) (is : tic
   cell_some u p n w = rw (ne_eqb (cell t k c) 0 (λ e. n (is ∙ e)), element_pieces, ← is) w
 
 module _ (g : ℕ → ℕ) (cols : List ℕ) (m : ℕ) (d : List ℕ) (at : ℕ) where
-  pub elements_begin : Left d at (element_pieces g 0 (numbers_at cols 0 m)) d at (element_pieces g 0 (numbers_at cols 0 (m - 0)))
-  elements_begin = rw (← numbers_all cols m) (left_all d at (element_pieces g 0 (numbers_at cols 0 m)))
-
   module _ (ps : List (List ℕ)) (u : List ℕ) (p i : ℕ) (l : Left d at ps u p (element_pieces g i (numbers_at cols i (m - i)))) where
     pub elements_more : (w : List ℕ) (q c : ℕ) → i < m → c ≡ get_or cols i 0 → Wrote u p (element_pieces g i (c ∷ [])) w q
         → Left d at ps w q (element_pieces g (i + 1) (numbers_at cols (i + 1) (m - (i + 1))))
     elements_more w q c h e o =
         left_on d at ps u p _ (element_pieces g i (c ∷ [])) _ l
-        (ap (element_pieces g i) (numbers_next cols i m h ∙ ap (λ (v : ℕ). v ∷ numbers_at cols (i + 1) (m - (i + 1))) (sym e))
+        (ap (element_pieces g i) (numbers_left_more cols i m h ∙ ap (λ (v : ℕ). v ∷ numbers_at cols (i + 1) (m - (i + 1))) (sym e))
         ∙ elements_split g i c (numbers_at cols (i + 1) (m - (i + 1))))
         w q o
 
     pub elements_end : i ≡ m → Wrote d at ps u p
-    elements_end h = left_none d at ps u p _ l (unfold element_pieces in ap (element_pieces g i) (numbers_none cols i m h))
+    elements_end h = left_none d at ps u p _ l (unfold element_pieces in ap (element_pieces g i) (numbers_left_none cols i m (omega arith)))
 
 -- ---- how many they are: each takes twelve bytes
 
@@ -173,21 +148,18 @@ count_split g key c cs = go (eqb (g c) 0) refl
     go false e = unfold elements_from elements_of in rw (e, elements_from, elements_of) (omega arith)
 
 module _ (g : ℕ → ℕ) (cols : List ℕ) (m at : ℕ) where
-  pub places_begin : at + 12 * length (elements_from g 0 (numbers_at cols 0 (m - 0))) ≡ at + 12 * length (elements_from g 0 (numbers_at cols 0 m))
-  places_begin = ap (λ (v : List ℕ). at + 12 * length (elements_from g 0 v)) (sym (numbers_all cols m))
-
   module _ (whole i : ℕ) (l : at + 12 * length (elements_from g i (numbers_at cols i (m - i))) ≡ whole) where
     pub places_more : (c p : ℕ) → i < m → c ≡ get_or cols i 0 → p ≡ at + 12 * elements_of (g c)
         → p + 12 * length (elements_from g (i + 1) (numbers_at cols (i + 1) (m - (i + 1)))) ≡ whole
     places_more c p h e f =
         let s = ap (λ (v : List ℕ). length (elements_from g i v))
-        (numbers_next cols i m h ∙ ap (λ (v : ℕ). v ∷ numbers_at cols (i + 1) (m - (i + 1))) (sym e)) in
+        (numbers_left_more cols i m h ∙ ap (λ (v : ℕ). v ∷ numbers_at cols (i + 1) (m - (i + 1))) (sym e)) in
         omega (arith, l, s, f, count_split g i c (numbers_at cols (i + 1) (m - (i + 1))))
 
     pub places_end : i ≡ m → at ≡ whole
     places_end h =
         let s : length (elements_from g i (numbers_at cols i (m - i))) ≡ 0 =
-        unfold elements_from in ap (λ (v : List ℕ). length (elements_from g i v)) (numbers_none cols i m h) in
+        unfold elements_from in ap (λ (v : List ℕ). length (elements_from g i v)) (numbers_left_none cols i m (omega arith)) in
         omega (arith, l, s)
 
 -- ---- a fixed part, a count and what is counted
@@ -246,9 +218,6 @@ vector_wrote g cols d e f w at n q p o iq is r =
 -- ---- the vectors
 
 module _ (T : ℕ → ℕ → ℕ) (cs firsts : List ℕ) (v : ℕ) (d : List ℕ) (at : ℕ) where
-  pub vectors_begin : Left d at (vectors_pieces T cs (numbers_at firsts 0 v)) d at (vectors_pieces T cs (numbers_at firsts 0 (v - 0)))
-  vectors_begin = rw (← numbers_all firsts v) (left_all d at (vectors_pieces T cs (numbers_at firsts 0 v)))
-
   module _ (ps : List (List ℕ)) (u : List ℕ) (p i : ℕ) (l : Left d at ps u p (vectors_pieces T cs (numbers_at firsts i (v - i)))) where
     pub vectors_more : (w : List ℕ) (q k : ℕ) → i < v → k ≡ get_or firsts i 0 → Wrote u p (vector_pieces (T k) cs) w q
         → Left d at ps w q (vectors_pieces T cs (numbers_at firsts (i + 1) (v - (i + 1))))
@@ -256,10 +225,10 @@ module _ (T : ℕ → ℕ → ℕ) (cs firsts : List ℕ) (v : ℕ) (d : List �
       where
         split : vectors_pieces T cs (numbers_at firsts i (v - i))
             ≡ vector_pieces (T k) cs ++ vectors_pieces T cs (numbers_at firsts (i + 1) (v - (i + 1)))
-        split = unfold vectors_pieces in rw (numbers_next firsts i v h, e)
+        split = unfold vectors_pieces in rw (numbers_left_more firsts i v h, e)
 
     pub vectors_end : i ≡ v → Wrote d at ps u p
-    vectors_end h = left_none d at ps u p _ l (unfold vectors_pieces in ap (vectors_pieces T cs) (numbers_none firsts i v h))
+    vectors_end h = left_none d at ps u p _ l (unfold vectors_pieces in ap (vectors_pieces T cs) (numbers_left_none firsts i v (omega arith)))
 
 -- ---- the ranges
 
@@ -304,22 +273,18 @@ module _ (bounds : List ℕ) (k before x : ℕ) (d : List ℕ) (at : ℕ) where
   row_new u p n w = rw (ne_eqb x before n, ranges_pieces, append-nil (range_pieces bounds k x)) w
 
 module _ (bounds numbers : List ℕ) (n : ℕ) (d : List ℕ) (at : ℕ) where
-  pub ranges_begin : (k before : ℕ)
-      → Left d at (ranges_pieces bounds k before (numbers_at numbers 0 n)) d at (ranges_pieces bounds k before (numbers_at numbers 0 (n - 0)))
-  ranges_begin k before = rw (← numbers_all numbers n) (left_all d at (ranges_pieces bounds k before (numbers_at numbers 0 n)))
-
   module _ (ps : List (List ℕ)) (u : List ℕ) (p i k before : ℕ)
       (l : Left d at ps u p (ranges_pieces bounds k before (numbers_at numbers i (n - i)))) where
     pub ranges_more : (w : List ℕ) (q x : ℕ) → i < n → x ≡ get_or numbers i 0 → Wrote u p (ranges_pieces bounds k before (x ∷ [])) w q
         → Left d at ps w q (ranges_pieces bounds (k + 1) x (numbers_at numbers (i + 1) (n - (i + 1))))
     ranges_more w q x h e o =
         left_on d at ps u p _ (ranges_pieces bounds k before (x ∷ [])) _ l
-        (ap (ranges_pieces bounds k before) (numbers_next numbers i n h ∙ ap (λ (v : ℕ). v ∷ numbers_at numbers (i + 1) (n - (i + 1))) (sym e))
+        (ap (ranges_pieces bounds k before) (numbers_left_more numbers i n h ∙ ap (λ (v : ℕ). v ∷ numbers_at numbers (i + 1) (n - (i + 1))) (sym e))
         ∙ ranges_split bounds k before x (numbers_at numbers (i + 1) (n - (i + 1))))
         w q o
 
     pub ranges_end : i ≡ n → Wrote d at ps u p
-    ranges_end h = left_none d at ps u p _ l (unfold ranges_pieces in ap (ranges_pieces bounds k before) (numbers_none numbers i n h))
+    ranges_end h = left_none d at ps u p _ l (unfold ranges_pieces in ap (ranges_pieces bounds k before) (numbers_left_none numbers i n (omega arith)))
 
 -- ---- all of it
 

@@ -2,6 +2,12 @@
 -- the bytes in the buffer.
 use Rattle.std.specs.Prelude.{ℕ, ◌≡◌, true, false, List, [], ◌++◌, eqb}
 use Rattle.tables.specs.MethodPieces.{laid}
+use Rattle.tables.specs.MethodWords.{numbers_at}
+use Rattle.writer.specs.declared.Numbers.{Numbers}
+
+-- the first numbers of a list, 0 past its end
+abbrev pub listed : Numbers → List ℕ
+listed l = numbers_at l.list.now 0 l.count
 
 -- writing ps into d from a place on, and then anything, comes to writing qs into u from p on, and then that
 pub record Left (d : List ℕ) (at : ℕ) (ps : List (List ℕ)) (u : List ℕ) (p : ℕ) (qs : List (List ℕ)) : Type 0 where

@@ -9,8 +9,8 @@ use Rattle.store_write.proofs.Closing.{store_room_lem, close_store}
 use Rattle.apply.proofs.Applying.{apply_inside, own_and_learned}
 use Rattle.apply.proofs.write_applied.Goals as goal
 
-pub write_merged-a-requires : goal.write_merged-a-requires
-write_merged-a-requires c = own_and_learned c.args.limits _ _ _ _ _ _ _ _ c.requires
+pub write_merged-merged-requires : goal.write_merged-merged-requires
+write_merged-merged-requires c = own_and_learned c.args.limits _ _ _ _ _ _ _ _ c.requires
 
 pub returns : goal.returns
 returns c = let a = c.args in
@@ -21,5 +21,5 @@ returns c = let a = c.args in
     c.join-e.ensures.count_value.0 c.join-e.ensures.count_value.1 c.join-e.ensures.chosen_after
     (omega (arith, zeros-length largest_records)) _ _ _
     (store_room_lem _ c.room_in_store-room.ensures.value) _ _
-    c.write_merged-a.ensures)
+    c.write_merged-merged.ensures)
     (c.close_store.ensures.value, c.close_store.ensures.out_after)

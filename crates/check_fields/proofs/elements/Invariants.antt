@@ -1,15 +1,12 @@
 -- `check_fields::elements` meets its contract. The loop's invariant: the whole answer is the answer from here on, and the place is inside the bytes.
-use lib.ListN.{length}
-use mathlib.Core.Path.{◌≡◌}
-use Prim.Native.Nat.{◌+◌, ◌-◌, ◌*◌, ◌≤◌}
+use Rattle.std.proofs.Common.{◌≡◌, ◌+◌, ◌-◌, ◌*◌, ◌≤◌, length}
 use Rattle.layout.specs.Read.{repeat, element}
 use Rattle.check_fields.proofs.elements.Given as goal
 
 abbrev pub invariant-loop-k : goal.invariant-loop-k
-invariant-loop-k l = (repeat (element l.s l.r l.start) l.n 0 l.start ≡ repeat (element l.s l.r l.start) (l.n - l.k) l.k l.at)
-    × (l.k ≤ l.n)
-    × (l.at ≡ l.start + 12 * l.k)
-    × (l.at ≤ length l.s)
-
-abbrev pub decreases-loop-k : goal.decreases-loop-k
-decreases-loop-k l = l.n - l.k
+invariant-loop-k l = record {
+  rest : repeat (element l.s l.r l.start) l.n 0 l.start ≡ repeat (element l.s l.r l.start) (l.n - l.k) l.x.number l.x.next;
+  count : l.x.number ≡ l.k;
+  place : l.x.next ≡ l.start + 12 * l.k;
+  inside : l.x.next ≤ length l.s;
+}

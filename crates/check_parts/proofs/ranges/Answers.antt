@@ -1,28 +1,44 @@
--- `check_parts::ranges` meets its contract. The first range, then those after it.
-use Rattle.check_parts.proofs.Bound.{bound_words_lem, range_went, ranges_none, ranges_first_fault, ranges_first}
-use native.Mathlib.Omega.{arith}
+-- `check_parts::ranges` meets its contract.
+use Rattle.std.proofs.Common.{◌≡◌, ℕ, ◌+◌, ◌-◌, ◌*◌, ap, sym, ◌∙◌, arith, add-zero, Some}
+use Rattle.layout.specs.Got.{Got, Num, got_of}
+use Rattle.layout.specs.Read.{◌▷◌, repeat, range}
+use Rattle.check_fields.proofs.Steps.{passed_on}
+use Rattle.check_fields.proofs.Repeat.{repeat_all, repeat_refused, repeat_on, repeat_end}
+use Rattle.check_parts.specs.Method.{lowest, ranged, ranges_from}
+use Rattle.check_parts.proofs.Bound.{range_went}
 use Rattle.check_parts.proofs.ranges.Goals as goal
 
-pub returns-then-g-eq0 : goal.returns-then-g-eq0
-returns-then-g-eq0 c = ranges_none _ _ _ _ c.if-g-eq0.true
+pub loop-k-init : goal.loop-k-init
+unfolding lowest
+loop-k-init c =
+    let a = c.args in
+    record {
+      rest = repeat_all _ _ _ _ ∙ ap (λ (p : ℕ). repeat (range a.s.now a.v) (a.g - 0) 0 p) (sym (add-zero a.start));
+      inside = omega arith;
+    }
 
-pub returns-in_default : goal.returns-in_default
-returns-in_default c = ranges_first_fault _ _ _ _ c.if-g-eq0.false _ c.range_of_any_bound-f.ensures _
-    c.in_default.is
+pub returns-in_err-range : goal.returns-in_err-range
+unfolding got_of ranged ranges_from
+returns-in_err-range c =
+    passed_on _ _ c.from_residual.ensures.1 _
+    (repeat_refused _ _ _ _ _ _ c.loop-k.invariant.rest (omega arith) _ c.in_err-range.ensures) _
 
-pub eight-requires : goal.eight-requires
-eight-requires c = let w = range_went _ _ _ _ _ c.range_of_any_bound-f.ensures _ _ c.in-Num.is in omega arith
-
-pub eight-requires-2 : goal.eight-requires-2
-eight-requires-2 c = let w = range_went _ _ _ _ _ c.range_of_any_bound-f.ensures _ _ c.in-Num.is in omega arith
-
-pub eight-requires-3 : goal.eight-requires-3
-eight-requires-3 c = let w = range_went _ _ _ _ _ c.range_of_any_bound-f.ensures _ _ c.in-Num.is in omega arith
-
-pub more_ranges-requires : goal.more_ranges-requires
-more_ranges-requires c = let w = range_went _ _ _ _ _ c.range_of_any_bound-f.ensures _ _ c.in-Num.is in omega arith
+pub loop-k-preserved : goal.loop-k-preserved
+unfolding got_of ranged lowest
+loop-k-preserved c =
+    let a = c.args in
+    let p : a.start + 28 * c.loop-k.k + 28 ≡ a.start + 28 * (c.loop-k.k + 1) = omega arith in
+    let w = range_went _ _ _ _ _ _ c.in_ok-range.ensures in
+    record {
+      rest =
+          repeat_on _ _ _ _ _ _ c.loop-k.invariant.rest (omega arith) _ c.in_ok-range.ensures
+          ∙ ap (λ (b : ℕ). repeat (range a.s.now a.v) (a.g - (c.loop-k.k + 1)) (lowest (Some c.in_ok-range.field-0)) b) p;
+      inside = omega arith;
+    }
 
 pub returns : goal.returns
-returns c = ranges_first _ _ _ _ c.if-g-eq0.false _ c.range_of_any_bound-f.ensures _ _ c.in-Num.is _
-    (bound_words_lem _ _ _ _ _ c.eight.ensures.is c.eight-2.ensures.is
-    c.eight-3.ensures.is) _ c.more_ranges.ensures
+unfolding got_of ranges_from
+returns c =
+    let e : c.args.g ≡ c.loop-k.k = omega arith in
+    ap (λ (j : ℕ). Num c.args.g (c.args.start + 28 * j)) e
+    ∙ ap (λ (h : Got). h ▷ λ low next. Num c.args.g next) (repeat_end _ _ _ _ _ _ c.loop-k.invariant.rest (omega arith))

@@ -1,4 +1,4 @@
--- `compare::alike_below` meets its contract: where the ids are the same it is as far as `alike_from_lem` came, and else item 0.
+-- `compare::alike_below` meets its contract: where the ids are the same it is as far as `alike_from` came, and else item 0.
 use Rattle.compare.proofs.HowFar.{same_room, maps_same, reached_none}
 use Rattle.compare.proofs.alike_below.Goals as goal
 
@@ -10,11 +10,5 @@ pub alike_from-requires : goal.alike_from-requires
 alike_from-requires c = let pre = c.requires in
     (pre.0, pre.1, maps_same _ _ _ _ _ _ pre.0 pre.1 c.if-v-w.true (c.same_ids.ensures c.if-same_ids.true))
 
-pub returns-then-same_ids : goal.returns-then-same_ids
-returns-then-same_ids c = c.alike_from.ensures
-
-pub returns-else-same_ids : goal.returns-else-same_ids
-returns-else-same_ids c = (reached_none _ _, reached_none _ _)
-
-pub returns-else-v-w : goal.returns-else-v-w
-returns-else-v-w c = (reached_none _ _, reached_none _ _)
+pub returns : goal.returns
+returns c = (reached_none _ _, reached_none _ _)

@@ -1,20 +1,13 @@
 -- `compare::alike_from` meets its contract. The loop's invariant: both cursors have come to an item, and nothing lacks below it.
-use mathlib.Core.Path.{refl}
-use Rattle.compare.proofs.HowFar.{going_starts, going_stops, going_done, going_on, going_less}
+use Rattle.compare.proofs.HowFar.{going_starts, going_done, going_on, going_less}
 use Rattle.compare.proofs.alike_from.Goals as goal
 
 pub loop-n-init : goal.loop-n-init
 loop-n-init c = let pre = c.requires in
     going_starts _ _ _ _ _ _ _ _ pre.0 pre.1 pre.2 c.advance-x.ensures c.advance-y.ensures
 
-pub next_alike-requires : goal.next_alike-requires
-next_alike-requires c = (c.loop-n.invariant.first.room, c.loop-n.invariant.second.room)
-
 pub returns-in-Done : goal.returns-in-Done
 returns-in-Done c = going_done _ _ _ _ _ _ _ c.loop-n.invariant _ c.next_alike.ensures c.in-Done.is
-
-pub returns-in-Unlike : goal.returns-in-Unlike
-returns-in-Unlike c = going_stops _ _ _ _ _ _ _ c.loop-n.invariant _ refl
 
 pub loop-n-smaller : goal.loop-n-smaller
 loop-n-smaller c = going_less _ _ _ _ _ _ _ c.loop-n.invariant _ c.next_alike.ensures _ c.in-At.is _ _

@@ -2,9 +2,9 @@
 use Rattle.compare.proofs.Calls.{place_nowhere, place_found}
 use Rattle.compare.proofs.lacking_place.Goals as goal
 
-pub returns-in_default : goal.returns-in_default
-returns-in_default c = place_nowhere _ _ _ c.requires.2 c.in_default.is
+pub returns-in_err-first : goal.returns-in_err-first
+returns-in_err-first c = rw c.from_residual.ensures (place_nowhere _ _ _ c.requires.2 c.in_err-first.was)
 
 pub returns : goal.returns
 returns c = let pre = c.requires in
-    place_found _ _ _ _ _ _ _ pre.2 _ _ c.lacking.ensures pre.0 pre.1 c.in-Below.is
+    place_found _ _ _ _ _ _ _ pre.2 _ _ c.lacking.ensures pre.0 pre.1 c.in_ok-first.was

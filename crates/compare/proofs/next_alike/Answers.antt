@@ -1,19 +1,17 @@
--- `compare::next_alike` meets its contract, in each of the five ways that it goes.
-use Rattle.compare.proofs.HowFar.{goes_nowhere, goes_done, goes_bound}
+-- `compare::next_alike` meets its contract: the bounds of both are the same item.
+use Rattle.std.proofs.Common.{◌∙◌, sym, arith}
+use Rattle.std.proofs.lemmas.Bool.{not-false}
+use borrow.Author.Tests.{eqb-true}
+use Rattle.codec.proofs.Ids.{item_eq}
+use Rattle.lacking.proofs.Ids.{item_part}
+use Rattle.compare.proofs.HowFar.{goes_at}
 use Rattle.compare.proofs.next_alike.Goals as goal
 
-pub returns-then-y-eq0 : goal.returns-then-y-eq0
-returns-then-y-eq0 c = goes_done _ _ _ _ (c.same_vector.ensures c.if-same_vector.true) c.if-x-eq0.true c.if-y-eq0.true
-
-pub returns-then-x-eq0 : goal.returns-then-x-eq0
-returns-then-x-eq0 c = goes_nowhere _ _ _ _
-
-pub returns-then-y-eq0-2 : goal.returns-then-y-eq0-2
-returns-then-y-eq0-2 c = goes_nowhere _ _ _ _
-
-pub returns-then-same_vector : goal.returns-then-same_vector
-returns-then-same_vector c = goes_bound _ _ _ _ _ (c.same_vector.ensures c.if-same_vector.true) c.if-x-eq0.false c.if-y-eq0-2.false
-    c.same_bound.ensures
-
-pub returns : goal.returns
-returns c = goes_nowhere _ _ _ _
+pub returns-else-ne : goal.returns-else-ne
+returns-else-ne c =
+    let one = c.from_bytes-bound.ensures in
+    let other = c.from_bytes.ensures in
+    let same = eqb-true _ _ (sym (item_eq _ _ one.in_words other.in_words) ∙ not-false _ (sym c.ne.ensures ∙ c.if-ne.false)) in
+    goes_at _ _ _ _ _ (c.same_vector.ensures c.if-not-same_vector.false) (omega arith) (omega arith)
+    (sym (item_part _ _ _ one.value (omega (arith, c.requires.0))))
+    (sym (item_part _ _ _ other.value (omega (arith, c.requires.1))) ∙ sym same)

@@ -2,14 +2,14 @@
 use Rattle.compare.proofs.Calls.{order_alike, order_behind, order_ahead, order_apart}
 use Rattle.compare.proofs.order_of.Goals as goal
 
-pub returns-in_default-y : goal.returns-in_default-y
-returns-in_default-y c = order_alike _ _ c.in_default.is c.in_default-y.is
+pub returns-in-None-None : goal.returns-in-None-None
+returns-in-None-None c = order_alike _ _ c.in-None-None.is-0 c.in-None-None.is-1
 
-pub returns-in_default : goal.returns-in_default
-returns-in_default c = order_ahead _ _ _ c.in_default.is c.in-Here-y.is
+pub returns-in-None-Some : goal.returns-in-None-Some
+returns-in-None-Some c = order_ahead _ _ _ c.in-None-Some.is-0 c.in-None-Some.is-1
 
-pub returns-in_default-y-2 : goal.returns-in_default-y-2
-returns-in_default-y-2 c = order_behind _ _ _ c.in-Here.is c.in_default-y-2.is
+pub returns-in-Some-None : goal.returns-in-Some-None
+returns-in-Some-None c = order_behind _ _ _ c.in-Some-None.is-0 c.in-Some-None.is-1
 
-pub returns : goal.returns
-returns c = order_apart _ _ _ _ c.in-Here.is c.in-Here-y-2.is
+pub returns-in-Some-Some : goal.returns-in-Some-Some
+returns-in-Some-Some c = order_apart _ _ _ _ c.in-Some-Some.is-0 c.in-Some-Some.is-1

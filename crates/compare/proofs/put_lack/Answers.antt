@@ -7,7 +7,7 @@ returns-in_default c = let a = c.args in
     lack_nothing a.s.now a.v.r a.v.start a.t.now a.w.r a.w.start _ _ _ c.in_default.is
 
 pub returns : goal.returns
-returns c = lack_wrote _ _ _ _ _ _ _ _ _ _ _ _ _ _ _ _ c.in-Here.is c.requires.0 c.requires.1 c.known_tick-a.ensures
+returns c = lack_wrote _ _ _ _ _ _ _ _ _ _ _ _ _ _ _ _ c.in-Some.is c.requires.0 c.requires.1 c.known_tick-a.ensures
     c.known_tick-b.ensures c.write_item.ensures
     c.write_replica.ensures
-    c.write8.ensures c.write8-2.ensures
+    c.write.ensures c.write-2.ensures

@@ -2,8 +2,8 @@
 use Rattle.compare.proofs.Calls.{size_none, size_some}
 use Rattle.compare.proofs.size_of.Goals as goal
 
-pub returns-in_default : goal.returns-in_default
-returns-in_default c = size_none _ c.in_default.is
+pub returns-in-Some : goal.returns-in-Some
+returns-in-Some c = size_some _ _ c.in-Some.is
 
-pub returns : goal.returns
-returns c = size_some _ _ c.in-Here.is
+pub returns-in-None : goal.returns-in-None
+returns-in-None c = size_none _ c.in-None.is

@@ -16,7 +16,7 @@ use lib.ListN.{length, take}
 use borrow.Author.Tests.{leb-true, leb-false, le-leb}
 use Rattle.codec.specs.Number.{be_at, Bytes}
 use Rattle.codec.specs.Reply.{Reply, gives, refuses, answer, after}
-use Rattle.codec.specs.declared.Answer.TheVariants.{Written, Refused}
+use Rattle.codec.specs.Answer.{Written, Refused}
 use Rattle.codec.proofs.Replies.{answer_fits, answer_short, after_front, after_refused}
 use Rattle.layout.specs.Knowledge.{Rules, largest_tick, basic, All, any_id}
 use Rattle.layout.specs.Permitted.{Permitted}

@@ -2,6 +2,7 @@
 use Rattle.lacking.proofs.Walking.{laid_parts}
 use Rattle.cover.proofs.Steps.{covers_first, covers_second, covers_whole}
 use Rattle.cover.proofs.covers.Goals as goal
+use Rattle.cover.proofs.covers.Goals.{else-laid_out-via-then-laid_out+else-laid_out-2, else-laid_out-via-else-laid_out}
 
 pub search-requires : goal.search-requires
 search-requires c = (
@@ -13,9 +14,10 @@ pub returns-then-laid_out-2 : goal.returns-then-laid_out-2
 returns-then-laid_out-2 c = covers_whole _ _ _ _ _ _ _ _ _ c.laid_out.ensures c.if-laid_out.true _
     c.laid_out-then-laid_out.ensures _ c.if-laid_out-2.true c.search.ensures
 
-pub returns-else-laid_out-2 : goal.returns-else-laid_out-2
-returns-else-laid_out-2 c = covers_second _ _ _ _ _ _ _ _ _ c.laid_out.ensures c.if-laid_out.true _
-    c.laid_out-then-laid_out.ensures c.if-laid_out-2.false
-
-pub returns-else-laid_out : goal.returns-else-laid_out
-returns-else-laid_out c = covers_first _ _ _ _ _ _ _ _ _ c.laid_out.ensures c.if-laid_out.false
+pub returns : goal.returns
+returns c =
+    elim c.else-laid_out.branch [
+      | else-laid_out-via-then-laid_out+else-laid_out-2 w ↦
+          covers_second _ _ _ _ _ _ _ _ _ c.laid_out.ensures w.if-laid_out.true _ w.laid_out-then-laid_out.ensures w.if-laid_out-2.false
+      | else-laid_out-via-else-laid_out w ↦ covers_first _ _ _ _ _ _ _ _ _ c.laid_out.ensures w.if-laid_out.false
+    ]

@@ -1,27 +1,37 @@
 -- `cover::turn` meets its contract: by which of the two has a bound up to the last item.
-use Rattle.cover.proofs.Steps.{bound_left, bound_some, bound_not, turn_both, turn_first_only, turn_second_only, turn_neither}
-use native.Mathlib.Omega.{arith}
+use Rattle.std.proofs.Common.{◌∙◌, ap, sym, arith}
+use Rattle.codec.specs.Ids.{item_of}
+use Rattle.lacking.specs.Method.{stop_at}
+use Rattle.lacking.proofs.Ids.{item_cmp}
+use Rattle.cover.proofs.Steps.{turn_both, turn_first_only, turn_second_only, turn_neither}
 use Rattle.cover.proofs.turn.Goals as goal
 
-pub order-requires : goal.order-requires
-order-requires c = (
-  omega (arith, c.requires.0, bound_left _ _ _ _ c.comes-f.ensures c.if-f.true),
-  omega
-      (arith, c.requires.1, bound_left _ _ _ _ c.comes-g.ensures c.if-g.true),
-)
+pub returns-in-Some-Some : goal.returns-in-Some-Some
+unfolding stop_at
+returns-in-Some-Some c =
+    turn_both _ _ (item_of c.in-Some-Some.a) (item_of c.in-Some-Some.b) _
+    (sym (c.bound_of.ensures.stop (omega arith)) ∙ ap stop_at c.in-Some-Some.is-0)
+    (sym (c.bound_of-2.ensures.stop (omega arith)) ∙ ap stop_at c.in-Some-Some.is-1)
+    (c.cmp.ensures ∙ item_cmp _ _ (c.bound_of.ensures.in_words _ c.in-Some-Some.is-0)
+    (c.bound_of-2.ensures.in_words _ c.in-Some-Some.is-1))
 
-pub returns-then-g : goal.returns-then-g
-returns-then-g c = turn_both _ _ _ _ _ (bound_some _ _ _ _ c.comes-f.ensures c.if-f.true)
-    (bound_some _ _ _ _ c.comes-g.ensures c.if-g.true) c.order.ensures
+pub returns-in-Some-None : goal.returns-in-Some-None
+unfolding stop_at
+returns-in-Some-None c =
+    turn_first_only _ _ (item_of c.in-Some-None.field-0-0)
+    (sym (c.bound_of.ensures.stop (omega arith)) ∙ ap stop_at c.in-Some-None.is-0)
+    (sym (c.bound_of-2.ensures.stop (omega arith)) ∙ ap stop_at c.in-Some-None.is-1)
 
-pub returns-then-f : goal.returns-then-f
-returns-then-f c = turn_first_only _ _ _ (bound_some _ _ _ _ c.comes-f.ensures c.if-f.true)
-    (bound_not _ _ _ _ c.comes-g.ensures c.if-g.false)
+pub returns-in-None-Some : goal.returns-in-None-Some
+unfolding stop_at
+returns-in-None-Some c =
+    turn_second_only _ _ (item_of c.in-None-Some.field-0-1)
+    (sym (c.bound_of.ensures.stop (omega arith)) ∙ ap stop_at c.in-None-Some.is-0)
+    (sym (c.bound_of-2.ensures.stop (omega arith)) ∙ ap stop_at c.in-None-Some.is-1)
 
-pub returns-then-g-2 : goal.returns-then-g-2
-returns-then-g-2 c = turn_second_only _ _ _ (bound_not _ _ _ _ c.comes-f.ensures c.if-f.false)
-    (bound_some _ _ _ _ c.comes-g.ensures c.if-g-2.true)
-
-pub returns : goal.returns
-returns c = turn_neither _ _ (bound_not _ _ _ _ c.comes-f.ensures c.if-f.false)
-    (bound_not _ _ _ _ c.comes-g.ensures c.if-g-2.false)
+pub returns-in-None-None : goal.returns-in-None-None
+unfolding stop_at
+returns-in-None-None c =
+    turn_neither _ _
+    (sym (c.bound_of.ensures.stop (omega arith)) ∙ ap stop_at c.in-None-None.is-0)
+    (sym (c.bound_of-2.ensures.stop (omega arith)) ∙ ap stop_at c.in-None-None.is-1)

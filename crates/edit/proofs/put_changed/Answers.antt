@@ -8,4 +8,4 @@ use Rattle.edit.proofs.put_changed.Goals as goal
 pub returns : goal.returns
 returns c = let a = c.args in
     λ st b. c.write_changed.ensures st
-    (put_becomes a.store.now a.k.now a.new (replicate rec_size 0) _ st (zeros-length rec_size) c.write_record.ensures b)
+    (put_becomes a.store.now a.k.now a.new (replicate rec_size 0) _ st (zeros-length rec_size) c.write.ensures b)

@@ -3,4 +3,4 @@ use Rattle.edit.proofs.Changing.{tag_is}
 use Rattle.edit.proofs.tag_words.Goals as goal
 
 pub returns : goal.returns
-returns c = tag_is _ _ _ c.requires c.read8-high.ensures.value c.read8-low.ensures.value
+returns c = tag_is _ _ _ c.requires c.read.ensures.value c.read-2.ensures.value

@@ -1,8 +1,8 @@
 -- `filling::add_ids` meets its contract. The loop's invariant: the columns of the keys that are left are still to be added.
 use native.Mathlib.Omega.{arith}
-use Prim.Native.Nat.{◌-◌}
 use mathlib.Core.Path.{refl}
 use lib.ListN.{length-set}
+use Rattle.sampling.proofs.Parts.{high_read, low_read}
 use Rattle.sampling.proofs.Columns.{map-starts, map-ends, map_next}
 use Rattle.filling.proofs.add_ids.Goals as goal
 
@@ -15,7 +15,7 @@ join_id-joined-requires c = (omega arith, omega arith, omega arith)
 pub loop-key-preserved : goal.loop-key-preserved
 loop-key-preserved c = let j = c.join_id-joined.ensures in (
   map_next _ _ _ _ _ _ _ _ c.loop-key.invariant.0 c.loop-key-test.true _ _
-      c.eight.ensures.0 c.eight-in-loop-key.ensures.0 _ _ _ j.0,
+      (high_read _ _ _ c.from_bytes.ensures.value (omega arith)) (low_read _ _ _ c.from_bytes.ensures.value (omega arith)) _ _ _ j.0,
   omega arith,
   omega (arith, j.2),
   omega (arith, j.3),

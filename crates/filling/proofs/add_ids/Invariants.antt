@@ -7,9 +7,6 @@ use Rattle.sampling.specs.MethodColumns.{columns_of, mapped_from, mapped}
 use Rattle.filling.proofs.add_ids.Given as goal
 
 abbrev pub invariant-loop-key : goal.invariant-loop-key
-invariant-loop-key l = (mapped l.s l.r l.initial.ids l.n l.initial.keys ≡ mapped_from l.s l.n (l.r - l.key.0) l.key.0 (columns_of l.ids l.m l.keys)) × (l.key.0 ≤ l.r) × (l.n ≤ l.m) × (l.m ≤ l.n + l.key.0)
+invariant-loop-key l = (mapped l.s l.r l.initial.ids l.n l.initial.keys ≡ mapped_from l.s l.n (l.r - l.key) l.key (columns_of l.ids l.m l.keys)) × (l.key ≤ l.r) × (l.n ≤ l.m) × (l.m ≤ l.n + l.key)
     × (length l.ids ≡ length l.initial.ids) × (length l.keys ≡ length l.initial.keys) × (ids_place + 16 * l.r ≤ length l.s) × (l.r ≤ length l.initial.keys)
     × (2 * (l.n + l.r) ≤ length l.initial.ids) × (l.n + l.r < 2 ^ 32)
-
-abbrev pub decreases-loop-key : goal.decreases-loop-key
-decreases-loop-key l = l.r - l.key.0

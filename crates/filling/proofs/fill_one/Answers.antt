@@ -7,7 +7,7 @@ use Rattle.filling.proofs.fill_one.Goals as goal
 
 pub filled_one-requires : goal.filled_one-requires
 filled_one-requires c = let a = c.args in
-    fits_tells a.s.now a.r a.start a.r (a.start.left + 1) (length a.ids.now) (length a.bounds.now)
+    fits_tells a.s.now a.v.r a.v.start a.v.r (a.v.start.left + 1) (length a.ids.now) (length a.bounds.now)
     (length a.t.now) _ c.fits.ensures c.if-fits.true
 
 pub returns-then-fits : goal.returns-then-fits

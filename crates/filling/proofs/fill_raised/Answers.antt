@@ -8,20 +8,20 @@ use Rattle.filling.proofs.fill_raised.Goals as goal
 
 pub filled_one-q-requires : goal.filled_one-q-requires
 filled_one-q-requires c = let a = c.args in
-    let f = fits_tells a.s.now a.r a.start (a.r + 1) (a.start.left + 1) (length a.ids.now) (length a.bounds.now)
+    let f = fits_tells a.s.now a.v.r a.v.start (a.v.r + 1) (a.v.start.left + 1) (length a.ids.now) (length a.bounds.now)
     (length a.t.now) _ c.fits.ensures c.if-fits.true in
-    fits_fewer _ _ _ _ _ _ _ _ f a.r (omega arith)
+    fits_fewer _ _ _ _ _ _ _ _ f a.v.r (omega arith)
 
 pub join_id-own-requires : goal.join_id-own-requires
 join_id-own-requires c = let a = c.args in
-    let f = fits_tells a.s.now a.r a.start (a.r + 1) (a.start.left + 1) (length a.ids.now) (length a.bounds.now)
+    let f = fits_tells a.s.now a.v.r a.v.start (a.v.r + 1) (a.v.start.left + 1) (length a.ids.now) (length a.bounds.now)
     (length a.t.now) _ c.fits.ensures c.if-fits.true in
     let x = c.filled_one-q.ensures in
     (omega arith, omega (arith, f.id_words, x.1, x.3), omega (arith, f.small, x.1))
 
 pub raise_column-requires : goal.raise_column-requires
 raise_column-requires c = let a = c.args in
-    let f = fits_tells a.s.now a.r a.start (a.r + 1) (a.start.left + 1) (length a.ids.now) (length a.bounds.now)
+    let f = fits_tells a.s.now a.v.r a.v.start (a.v.r + 1) (a.v.start.left + 1) (length a.ids.now) (length a.bounds.now)
     (length a.t.now) _ c.fits.ensures c.if-fits.true in
     let x = c.filled_one-q.ensures in (
       omega (arith, f.small, x.1, c.join_id-own.ensures.1),

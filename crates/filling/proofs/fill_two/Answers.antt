@@ -7,9 +7,9 @@ use Rattle.filling.proofs.fill_two.Goals as goal
 
 pub filled_two-requires : goal.filled_two-requires
 filled_two-requires c = let a = c.args in (
-  fits_tells a.s.now a.r a.start (a.r + a.m) (a.start.left + a.begin.left + 1) (length a.ids.now)
+  fits_tells a.s.now a.v.r a.v.start (a.v.r + a.w.r) (a.v.start.left + a.w.start.left + 1) (length a.ids.now)
       (length a.bounds.now) (length a.t.now) _ c.fits.ensures c.if-fits.true,
-  fits_tells a.other.now a.m a.begin (a.r + a.m) (a.start.left + a.begin.left + 1) (length a.ids.now)
+  fits_tells a.other.now a.w.r a.w.start (a.v.r + a.w.r) (a.v.start.left + a.w.start.left + 1) (length a.ids.now)
       (length a.bounds.now) (length a.t.now) _ c.fits-then-fits.ensures c.if-fits-2.true,
 )
 

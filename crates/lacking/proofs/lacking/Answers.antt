@@ -1,6 +1,7 @@
 -- `lacking::lacking` meets its contract: both are laid out, or it is nowhere.
 use Rattle.lacking.proofs.Walking.{laid_parts, lacks_first, lacks_second, lacks_whole}
 use Rattle.lacking.proofs.lacking.Goals as goal
+use Rattle.lacking.proofs.lacking.Goals.{else-laid_out-via-then-laid_out+else-laid_out-2, else-laid_out-via-else-laid_out}
 
 pub search-requires : goal.search-requires
 search-requires c = (
@@ -12,9 +13,10 @@ pub returns-then-laid_out-2 : goal.returns-then-laid_out-2
 returns-then-laid_out-2 c = lacks_whole _ _ _ _ _ _ _ _ _ c.laid_out.ensures c.if-laid_out.true _
     c.laid_out-then-laid_out.ensures _ c.if-laid_out-2.true c.search.ensures
 
-pub returns-else-laid_out-2 : goal.returns-else-laid_out-2
-returns-else-laid_out-2 c = lacks_second _ _ _ _ _ _ _ _ _ c.laid_out.ensures c.if-laid_out.true _
-    c.laid_out-then-laid_out.ensures c.if-laid_out-2.false
-
-pub returns-else-laid_out : goal.returns-else-laid_out
-returns-else-laid_out c = lacks_first _ _ _ _ _ _ _ _ _ c.laid_out.ensures c.if-laid_out.false
+pub returns : goal.returns
+returns c =
+    elim c.else-laid_out.branch [
+      | else-laid_out-via-then-laid_out+else-laid_out-2 w ↦
+          lacks_second _ _ _ _ _ _ _ _ _ c.laid_out.ensures w.if-laid_out.true _ w.laid_out-then-laid_out.ensures w.if-laid_out-2.false
+      | else-laid_out-via-else-laid_out w ↦ lacks_first _ _ _ _ _ _ _ _ _ c.laid_out.ensures w.if-laid_out.false
+    ]

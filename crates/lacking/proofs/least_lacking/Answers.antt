@@ -1,32 +1,17 @@
 -- `lacking::least_lacking` meets its contract. The loop's invariant: the whole answer is the answer from the least id so far
 -- and the elements that are left.
-use Prim.Native.Nat.{◌-◌}
-use Rattle.lacking.proofs.Cells.{least_none_above, least_nothing, least_begins, least_next, least_end}
+use Rattle.lacking.proofs.Cells.{least_none_above, least_begins, least_next, least_end}
 use native.Mathlib.Omega.{arith}
 use Rattle.lacking.proofs.least_lacking.Goals as goal
 
 pub returns-then-none_above : goal.returns-then-none_above
 returns-then-none_above c = least_none_above _ (c.none_above.ensures c.if-none_above.true)
 
-pub returns-then-n-eq0 : goal.returns-then-n-eq0
-returns-then-n-eq0 c = least_nothing _ _ _ _ _ c.elements_at-n.ensures c.if-n-eq0.true
-
-pub overflow_add-at : goal.overflow_add-at
-overflow_add-at c = omega (arith, c.elements_at-n.ensures.room (omega arith))
-
 pub loop-i-init : goal.loop-i-init
-loop-i-init c = (
-  least_begins _ _ _ _ _ c.elements_at-n.ensures,
-  omega arith,
-  omega (arith, c.elements_at-n.ensures.room (omega arith)),
-)
+loop-i-init c = least_begins _ _ _ _ _ _ c.elements_at-n.ensures (omega arith)
 
 pub loop-i-preserved : goal.loop-i-preserved
-loop-i-preserved c = (
-  least_next _ _ _ _ _ _ _ _ c.loop-i.invariant.0 _ c.least_with-best.ensures c.loop-i-test.true,
-  omega arith,
-  omega arith,
-)
+loop-i-preserved c = least_next _ _ _ _ _ _ _ _ c.loop-i.invariant _ _ c.least_with-best.ensures c.loop-i-test.true (omega arith)
 
 pub returns : goal.returns
-returns c = least_end _ _ _ _ _ _ _ _ c.loop-i.invariant.0 (omega arith)
+returns c = least_end _ _ _ _ _ _ _ _ c.loop-i.invariant (omega arith)

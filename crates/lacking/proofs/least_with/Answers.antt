@@ -5,11 +5,11 @@ use native.Mathlib.Omega.{arith}
 use Rattle.lacking.proofs.least_with.Goals as goal
 
 pub returns-then-tick-level : goal.returns-then-tick-level
-returns-then-tick-level c = with_not_above _ _ _ _ _ _ _ _ (part_is _ _ _ _ c.four-n.ensures.0 (omega arith)) (part_is _ _ _ _ c.eight-tick.ensures.0 (omega arith))
+returns-then-tick-level c = with_not_above _ _ _ _ _ _ _ _ (part_is _ _ _ _ c.first-n.ensures.0 (omega arith)) (part_is _ _ _ _ c.first-tick.ensures.0 (omega arith))
     c.level.ensures c.if-tick-level.true
 
 pub returns : goal.returns
-returns c = with_above _ _ _ _ _ _ _ _ (part_is _ _ _ _ c.four-n.ensures.0 (omega arith))
-    (part_is _ _ _ _ c.eight-tick.ensures.0 (omega arith))
+returns c = with_above _ _ _ _ _ _ _ _ (part_is _ _ _ _ c.first-n.ensures.0 (omega arith))
+    (part_is _ _ _ _ c.first-tick.ensures.0 (omega arith))
     c.level.ensures c.if-tick-level.false _ _
-    c.read8-high.ensures.value c.read8-low.ensures.value _ c.lesser.ensures
+    c.read-high.ensures.value c.read-low.ensures.value _ c.lesser.ensures

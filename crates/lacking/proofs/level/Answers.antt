@@ -1,13 +1,17 @@
 -- `lacking::level` meets its contract: the cell of the other key, 0 where there is none.
-use Rattle.lacking.proofs.Cells.{level_none, level_short, level_is}
+use mathlib.Core.Path.{◌∙◌, ap}
 use native.Mathlib.Omega.{arith}
+use lib.ListN.{get_or}
+use Rattle.std.specs.Prelude as Std
+use Rattle.std.specs.Option.{unwrap_or}
+use Prim.Native.Nat.{ℕ}
+use Rattle.lacking.proofs.Cells.{level_none, level_is}
 use Rattle.lacking.proofs.level.Goals as goal
 
-pub returns-then-keys-k : goal.returns-then-keys-k
-returns-then-keys-k c = level_none _ _ _ (omega arith)
-
-pub returns-then-row-c : goal.returns-then-row-c
-returns-then-row-c c = level_short _ _ _ (omega arith) (omega arith)
+pub returns-in_default : goal.returns-in_default
+returns-in_default c = level_none _ _ _ c.in_default.ensures.lookup.3
 
 pub returns : goal.returns
-returns c = level_is _ _ _ (omega arith)
+returns c = let there = c.in-Some.ensures.lookup in
+    c.unwrap_or.ensures ∙ ap (λ (o : Std.Option ℕ). unwrap_or o 0) c.copied.ensures ∙ c.get-2.ensures.lookup.4 (omega arith) 0
+    ∙ ap (λ (k : ℕ). get_or c.args.row.now k 0) (there.3.1 0) ∙ level_is _ _ _ there.3.0

@@ -5,53 +5,38 @@ use Rattle.lacking.proofs.Walking.{walk_starts, walk_whole, walk_here, walk_past
 use native.Mathlib.Omega.{arith}
 use Rattle.lacking.proofs.walk.Goals as goal
 
-pub write_row-requires : goal.write_row-requires
-write_row-requires c = c.requires.4
-
-pub loop-p-init : goal.loop-p-init
-loop-p-init c = let p = c.requires in (
+pub loop-replica-init : goal.loop-replica-init
+loop-replica-init c = let p = c.requires in (
   walk_starts _ _ _ _ _ _ _ _ _ _ c.advance-x.ensures
       c.advance-y.ensures _ _ _ p.0 p.1 p.2 p.3 p.5
       c.write_row.ensures,
   refl,
 )
 
-pub shape_of-row-in-Id : goal.shape_of-row-in-Id
-shape_of-row-in-Id c = omega (arith, c.loop-p.invariant.1, c.write_row.ensures.size)
+pub returns-in-Some : goal.returns-in-Some
+returns-in-Some c = walk_whole _ _ _ _ _ _ _ _ _ _ c.advance-x.ensures c.advance-y.ensures _
+    (walk_here _ _ _ _ _ _ _ _ _ _ _ c.loop-replica.invariant.0 _ c.least_lacking.ensures _ _ refl
+    c.in-Some.is)
 
-pub returns-in-Id : goal.returns-in-Id
-returns-in-Id c = walk_whole _ _ _ _ _ _ _ _ _ _ c.advance-x.ensures c.advance-y.ensures _
-    (walk_here _ _ _ _ _ _ _ _ _ _ _ c.loop-p.invariant.0 _ c.least_lacking-least.ensures _ _ refl
-    c.in-Id.is)
-
-pub bound_of-requires : goal.bound_of-requires
-bound_of-requires c = c.loop-p.invariant.0.first
-
-pub bound_of-requires-in-loop-p : goal.bound_of-requires-in-loop-p
-bound_of-requires-in-loop-p c = c.loop-p.invariant.0.second
-
-pub shape_of-row-in_default-stop : goal.shape_of-row-in_default-stop
-shape_of-row-in_default-stop c = omega (arith, c.loop-p.invariant.1, c.write_row.ensures.size)
-
-pub returns-in_default-stop : goal.returns-in_default-stop
-returns-in_default-stop c = walk_whole _ _ _ _ _ _ _ _ _ _ c.advance-x.ensures
+pub returns-in_err-n : goal.returns-in_err-n
+returns-in_err-n c = rw c.from_residual.ensures (walk_whole _ _ _ _ _ _ _ _ _ _ c.advance-x.ensures
     c.advance-y.ensures _
-    (walk_past _ _ _ _ _ _ _ _ _ _ _ c.loop-p.invariant.0 _
-    c.least_lacking-least.ensures c.in_default.is _ _ _
-    c.bound_of.ensures c.bound_of-in-loop-p.ensures
-    c.nearer-stop.ensures c.in_default-stop.is)
+    (walk_past _ _ _ _ _ _ _ _ _ _ _ c.loop-replica.invariant.0 _
+    c.least_lacking.ensures c.in_default.is _ _ _
+    (c.bound_of.ensures.stop (omega arith)) (c.bound_of-in-loop-replica.ensures.stop (omega arith))
+    c.nearer.ensures c.in_err-n.was))
 
-pub loop-p-smaller : goal.loop-p-smaller
-loop-p-smaller c = walk_less _ _ _ _ _ _ _ _ _ _ _ c.loop-p.invariant.0 _ c.least_lacking-least.ensures
-    c.in_default.is _ _ _ c.bound_of.ensures c.bound_of-in-loop-p.ensures
-    c.nearer-stop.ensures _ c.in-At.is _ _ c.advance-x-in-loop-p.ensures
-    c.advance-y-in-loop-p.ensures
+pub loop-replica-smaller : goal.loop-replica-smaller
+loop-replica-smaller c = walk_less _ _ _ _ _ _ _ _ _ _ _ c.loop-replica.invariant.0 _ c.least_lacking.ensures
+    c.in_default.is _ _ _ (c.bound_of.ensures.stop (omega arith)) (c.bound_of-in-loop-replica.ensures.stop (omega arith))
+    c.nearer.ensures _ c.in_ok-n.was _ _ c.advance-x-in-loop-replica.ensures
+    c.advance-y-in-loop-replica.ensures
 
-pub loop-p-preserved : goal.loop-p-preserved
-loop-p-preserved c = (
-  walk_on _ _ _ _ _ _ _ _ _ _ _ c.loop-p.invariant.0 _ c.least_lacking-least.ensures
-      c.in_default.is _ _ _ c.bound_of.ensures c.bound_of-in-loop-p.ensures
-      c.nearer-stop.ensures _ c.in-At.is _ _ c.advance-x-in-loop-p.ensures
-      c.advance-y-in-loop-p.ensures _ c.fill.ensures,
-  omega (arith, c.loop-p.invariant.1, c.fill.ensures.size),
+pub loop-replica-preserved : goal.loop-replica-preserved
+loop-replica-preserved c = (
+  walk_on _ _ _ _ _ _ _ _ _ _ _ c.loop-replica.invariant.0 _ c.least_lacking.ensures
+      c.in_default.is _ _ _ (c.bound_of.ensures.stop (omega arith)) (c.bound_of-in-loop-replica.ensures.stop (omega arith))
+      c.nearer.ensures _ c.in_ok-n.was _ _ c.advance-x-in-loop-replica.ensures
+      c.advance-y-in-loop-replica.ensures _ c.refill.ensures,
+  omega (arith, c.loop-replica.invariant.1, c.refill.ensures.size),
 )

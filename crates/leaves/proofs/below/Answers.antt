@@ -1,26 +1,16 @@
--- `leaves::below` meets its contract: the first words that differ decide.
-use native.Mathlib.Omega.{arith}
-use Rattle.codec.specs.Number.{Bytes}
-use Rattle.leaves.proofs.Compare.{bound_first, bound_second, bound_third, below_missing, below_there}
+-- `leaves::below` meets its contract: ids are compared as numbers.
+use Rattle.std.proofs.Common.{ap, ◌∙◌, nat_lt, arith}
+use Rattle.codec.specs.Ids.{InWords, item_of}
+use Rattle.codec.proofs.Ids.{item_lt, item_there}
+use Rattle.leaves.proofs.Compare.{below_missing, below_there}
 use Rattle.leaves.proofs.below.Goals as goal
 
-pub returns-then-w-lt24 : goal.returns-then-w-lt24
-returns-then-w-lt24 c = below_missing _ _ (omega arith)
+pub returns-then-w-ge24 : goal.returns-then-w-ge24
+returns-then-w-ge24 c =
+    let i : InWords c.args.i = record { high = omega arith; middle = omega arith; low = omega arith } in
+    below_there _ _ c.if-w-ge24.true _
+    (c.lt.ensures ∙ item_lt _ _ i c.from_bytes.ensures.in_words
+    ∙ ap (nat_lt (item_of c.args.i)) (ap item_of c.from_bytes.ensures.value ∙ item_there _ c.if-w-ge24.true))
 
-pub returns-then-i-high : goal.returns-then-i-high
-returns-then-i-high c = let b : Bytes c.args.w.now =
-    record { below = λ i. omega (arith, c.type_inv.w i) } in
-    below_there _ _ (omega arith) _
-    (bound_first _ 0 _ _ _ _ c.octet-high.ensures.0 b (omega arith) (omega arith) c.if-i-high.true)
-
-pub returns-then-i-middle : goal.returns-then-i-middle
-returns-then-i-middle c = let b : Bytes c.args.w.now =
-    record { below = λ i. omega (arith, c.type_inv.w i) } in
-    below_there _ _ (omega arith) _
-    (bound_second _ 0 _ _ _ _ c.octet-high.ensures.0 _ c.octet-middle.ensures.0 b (omega arith) c.if-i-high.false
-    c.if-i-middle.true)
-
-pub returns : goal.returns
-returns c = below_there _ _ (omega arith) _
-    (bound_third _ 0 _ _ _ _ c.octet-high.ensures.0 _ _ c.octet-middle.ensures.0 c.octet.ensures.0
-    c.if-i-high.false c.if-i-middle.false)
+pub returns-else-w-ge24 : goal.returns-else-w-ge24
+returns-else-w-ge24 c = grind (arith, below_missing c.args.w.now (item_of c.args.i) c.if-w-ge24.false)

@@ -1,4 +1,4 @@
--- `lookup::start` meets its contract: the places are those that the sizes give.
+-- `lookup::start` meets its contract: the fields are those of the definition.
 use Rattle.lookup.proofs.Calls.{start_is}
 use Rattle.lookup.proofs.start.Goals as goal
 

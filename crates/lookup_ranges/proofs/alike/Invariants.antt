@@ -5,8 +5,10 @@ use lib.ListN.{length}
 use Rattle.lookup_ranges.specs.Method.{alike_by}
 use Rattle.lookup_ranges.proofs.alike.Given as goal
 
-abbrev pub invariant-loop-left : goal.invariant-loop-left
-invariant-loop-left l = (alike_by l.s l.r l.key l.own l.initial.left l.initial.next l.initial.index l.initial.vector ≡ alike_by l.s l.r l.key l.own l.left l.next l.index l.vector) × (l.next + 28 * l.left ≤ length l.s)
-
-abbrev pub decreases-loop-left : goal.decreases-loop-left
-decreases-loop-left l = l.left
+abbrev pub invariant-loop : goal.invariant-loop
+invariant-loop l = record {
+  whole : alike_by l.s l.v.r l.key l.own l.initial.c.left l.initial.c.next l.initial.c.index l.initial.c.vector
+      ≡ alike_by l.s l.v.r l.key l.own l.c.left l.c.next l.c.index l.c.vector;
+  room : l.c.next + 28 * l.c.left ≤ length l.s;
+  left : l.c.left + l.counter ≡ l.v.start.left;
+}

@@ -6,8 +6,10 @@ use lib.ListN.{length}
 use Rattle.lookup_ranges.specs.Method.{top_by}
 use Rattle.lookup_ranges.proofs.largest_from.Given as goal
 
-abbrev pub invariant-loop-left : goal.invariant-loop-left
-invariant-loop-left l = (top_by l.s l.r l.initial.left l.initial.next l.initial.index l.initial.vector 0 ≡ top_by l.s l.r l.left l.next l.index l.vector l.top) × (l.next + 28 * l.left ≤ length l.s)
-
-abbrev pub decreases-loop-left : goal.decreases-loop-left
-decreases-loop-left l = l.left
+abbrev pub invariant-loop : goal.invariant-loop
+invariant-loop l = record {
+  whole : top_by l.s l.v.r l.initial.c.left l.initial.c.next l.initial.c.index l.initial.c.vector 0
+      ≡ top_by l.s l.v.r l.c.left l.c.next l.c.index l.c.vector l.top;
+  room : l.c.next + 28 * l.c.left ≤ length l.s;
+  left : l.c.left + l.counter ≡ l.v.start.left;
+}

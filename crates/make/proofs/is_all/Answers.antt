@@ -1,9 +1,24 @@
--- `make::is_all` meets its contract: the first id is 0, and the last the highest.
+-- `make::is_all` meets its contract: ids are compared as numbers.
+use Rattle.std.proofs.Common.{◌∙◌, arith}
+use Rattle.codec.proofs.Ids.{item_eq}
 use Rattle.make.proofs.Learned.{not_first, from_first_lem}
 use Rattle.make.proofs.is_all.Goals as goal
 
-pub returns-then-same3 : goal.returns-then-same3
-returns-then-same3 c = from_first_lem c.args.span _ c.same3.ensures _ c.if-same3.true c.same3-then-same3.ensures
+pub returns-then-eq : goal.returns-then-eq
+returns-then-eq c =
+    from_first_lem _ _
+    (c.eq.ensures
+    ∙ item_eq _ _ (record { high = omega arith; middle = omega arith; low = omega arith })
+    (record { high = omega arith; middle = omega arith; low = omega arith }))
+    _ c.if-eq.true
+    (c.eq-then-eq.ensures
+    ∙ item_eq _ _ (record { high = omega arith; middle = omega arith; low = omega arith })
+    (record { high = omega arith; middle = omega arith; low = omega arith }))
 
-pub returns : goal.returns
-returns c = not_first c.args.span _ c.same3.ensures c.if-same3.false
+pub returns-else-eq : goal.returns-else-eq
+returns-else-eq c =
+    c.if-eq.false
+    ∙ not_first c.args.span _
+    (c.eq.ensures
+    ∙ item_eq _ _ (record { high = omega arith; middle = omega arith; low = omega arith })
+    (record { high = omega arith; middle = omega arith; low = omega arith })) c.if-eq.false

@@ -14,5 +14,5 @@ returns c = let a = c.args in
     close_batch (limits_of a.w.limits) (made_of a.store.now a.knowledge.now a.w) a.out.now
     (made_inside a.store.now a.mine.now a.knowledge.now a.w c.requires.0 a.needed.now c.requires.1 _ _ _ _
     x.count_value.0 x.count_value.1 x.picks_after (omega (arith, zeros-length largest_records)) a.out.now _ _ (batch_room_lem _ c.room_in_batch-room.ensures.value) _ _
-    c.write_learned-a.ensures)
+    c.write_learned-learned.ensures)
     (c.close_batch.ensures.value, c.close_batch.ensures.out_after)

@@ -1,6 +1,5 @@
 -- `raising::fill_rows` meets its contract. The loop's invariant: the rows that are left are still to be raised, from the cursor on.
 use native.Mathlib.Omega.{arith}
-use Prim.Native.Nat.{◌-◌}
 use mathlib.Core.Path.{ap, ◌∙◌}
 use lib.ListN.{length}
 use Rattle.tables.specs.MethodWords.{bound_at}
@@ -13,7 +12,7 @@ loop-k-init c = (fill_starts _ _ _ _ _ _ _ _, omega arith, omega arith)
 pub loop-k-preserved : goal.loop-k-preserved
 unfolding bound_at
 loop-k-preserved c = (
-  fill_next _ _ _ _ _ _ _ _ _ c.loop-k.invariant.0 c.loop-k-test.true _ c.advance-c.ensures _
+  fill_next _ _ _ _ _ _ _ _ _ c.loop-k.invariant.0 (omega arith) _ c.advance-c.ensures _
       c.raise_row.ensures,
   omega arith,
   omega arith,

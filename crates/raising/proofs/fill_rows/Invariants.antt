@@ -6,8 +6,5 @@ use Rattle.sampling.specs.MethodCells.{filled_from, filled}
 use Rattle.raising.proofs.fill_rows.Given as goal
 
 abbrev pub invariant-loop-k : goal.invariant-loop-k
-invariant-loop-k l = (filled l.s l.r l.initial.c l.keys l.bounds l.from l.top l.initial.t ≡ filled_from l.s l.r l.keys l.bounds (suc l.top - l.k) l.c l.k l.t) × (3 * (l.top + 1) ≤ length l.bounds) ×
+invariant-loop-k l = (filled l.s l.v.r l.initial.c l.keys l.bounds l.from l.top l.initial.t ≡ filled_from l.s l.v.r l.keys l.bounds (suc l.top - l.k) l.c l.k l.t) × (3 * (l.top + 1) ≤ length l.bounds) ×
     (l.top + 1 < 2 ^ 32)
-
-abbrev pub decreases-loop-k : goal.decreases-loop-k
-decreases-loop-k l = suc l.top - l.k

@@ -1,9 +1,9 @@
 -- `raising::raise_row` meets its contract. The loop's invariant: the whole row is what the elements that are left raise.
 use native.Mathlib.Omega.{arith}
-use Prim.Native.Nat.{◌-◌}
 use mathlib.Core.Path.{ap, ◌∙◌}
 use lib.ListN.{length}
-use Rattle.sampling.proofs.Cells.{by_size, rest_starts, rest_ends, rest_next}
+use Rattle.leaves.proofs.Part.{part_is}
+use Rattle.sampling.proofs.Cells.{by_size, rest_starts, rest_ends, rest_room, rest_next}
 use Rattle.raising.proofs.raise_row.Goals as goal
 
 pub loop-i-init : goal.loop-i-init
@@ -12,21 +12,13 @@ loop-i-init c = rest_starts _ _ _ _ _ _ c.elements_at-n.ensures
 pub overflow_add-at : goal.overflow_add-at
 overflow_add-at c = omega (arith, c.loop-i.invariant.there c.loop-i-test.true)
 
-pub four-x-requires : goal.four-x-requires
-four-x-requires c = omega (arith, c.loop-i.invariant.there c.loop-i-test.true)
-
-pub overflow_add-at-in-loop-i : goal.overflow_add-at-in-loop-i
-overflow_add-at-in-loop-i c = omega (arith, c.loop-i.invariant.there c.loop-i-test.true)
-
-pub eight-tick-requires : goal.eight-tick-requires
-eight-tick-requires c = omega (arith, c.loop-i.invariant.there c.loop-i-test.true)
-
-pub overflow_add-at-in-loop-i-2 : goal.overflow_add-at-in-loop-i-2
-overflow_add-at-in-loop-i-2 c = omega (arith, c.loop-i.invariant.there c.loop-i-test.true)
-
 pub loop-i-preserved : goal.loop-i-preserved
-loop-i-preserved c = rest_next _ _ _ _ _ _ _ _ c.loop-i.invariant c.loop-i-test.true _ _ _
-    c.four-x.ensures.0 c.eight-tick.ensures.0 c.raise_cell.ensures
+loop-i-preserved c =
+    let r = rest_room _ _ _ _ _ _ _ _ c.loop-i.invariant c.loop-i-test.true in
+    rest_next _ _ _ _ _ _ _ _ c.loop-i.invariant c.loop-i-test.true _ _ _
+    (part_is _ _ _ _ c.first.ensures.0 (omega (arith, r)))
+    (part_is _ _ _ _ c.first-tick.ensures.0 (omega (arith, r)))
+    c.raise_cell.ensures
 
 pub shape_of-t : goal.shape_of-t
 shape_of-t c = ap length (rest_ends _ _ _ _ _ _ _ _ c.loop-i.invariant (omega arith)) ∙ by_size _ _ _ _

@@ -1,65 +1,52 @@
 -- `records::in_order` meets its contract. The loop's invariant: the check of all records is the check of those that are left, above
--- the last item, and these take all bytes that are left.
+-- the last item. Their places follow from their number, as all have one length.
+use Prim.Native.Nat.{◌+◌, ◌-◌, ◌*◌, ◌<◌}
+use mathlib.Core.Path.{◌≡◌}
+use lib.ListN.{length}
 use native.Mathlib.Omega.{arith}
 use borrow.Author.Tests.{not-true, not-false}
-use Rattle.records.proofs.Lengths.{left-length, left_whole, left_next}
+use Rattle.records.proofs.Fields.{item_part_there}
+use Rattle.records.proofs.Lengths.{left-length, left_whole, left-size}
 use Rattle.records.proofs.Shape.{shape_all, shape_end, shape_stop, shape_low, shape_invalid, shape_on}
 use Rattle.records.proofs.in_order.Goals as goal
 
-pub loop-left-init : goal.loop-left-init
-loop-left-init c = (shape_all _ _ _ _ _ _, c.requires)
+pub loop-k-init : goal.loop-k-init
+loop-k-init c = shape_all _ _ _ _ _ (omega arith) (omega arith)
 
-pub one-kind-requires : goal.one-kind-requires
-one-kind-requires c = omega (arith, c.loop-left.invariant.1)
-
-pub returns-then-k-eq0 : goal.returns-then-k-eq0
-returns-then-k-eq0 c = let took = c.loop-left-test.true in
-    let l = c.loop-left in
-    let k = left-length _ l.p l.left l.invariant.1 took _ _ c.one-kind.ensures.0 c.record_length-k.ensures in
-    shape_stop _ _ _ _ _ _ l.invariant.0 took _ k c.if-k-eq0.true
-
-pub overflow_add-p : goal.overflow_add-p
-overflow_add-p c = omega (arith, c.loop-left.invariant.1)
-
-pub item_there-i-requires : goal.item_there-i-requires
-item_there-i-requires c = omega (arith, c.loop-left.invariant.1)
+pub returns-then-size-eq0 : goal.returns-then-size-eq0
+returns-then-size-eq0 c =
+    let m = left-length c.args.s.now (c.args.at + 89 * c.loop-k.k) (c.args.n - c.loop-k.k) (omega (arith, c.requires)) (omega (arith, c.loop-k-test.true))
+    _ _ c.from.ensures c.record_length-size.ensures in
+    shape_stop _ _ _ _ _ _ c.loop-k.invariant (omega (arith, c.loop-k-test.true)) _ m c.if-size-eq0.true
 
 pub returns-then-not-rises : goal.returns-then-not-rises
-returns-then-not-rises c = let took = c.loop-left-test.true in
-    let l = c.loop-left in
-    let k = left-length _ l.p l.left l.invariant.1 took _ _ c.one-kind.ensures.0 c.record_length-k.ensures in
-    shape_low _ _ _ _ _ _ l.invariant.0 took _ k c.if-k-eq0.false _ _ _ c.item_there-i.ensures _ c.rises.ensures
+returns-then-not-rises c =
+    let m = left-length c.args.s.now (c.args.at + 89 * c.loop-k.k) (c.args.n - c.loop-k.k) (omega (arith, c.requires)) (omega (arith, c.loop-k-test.true))
+    _ _ c.from.ensures c.record_length-size.ensures in
+    shape_low _ _ _ _ _ _ c.loop-k.invariant (omega (arith, c.loop-k-test.true)) _ m c.if-size-eq0.false _ (item_part_there _ _ (omega (arith, c.requires, c.loop-k-test.true)) _ c.from_bytes-i.ensures.value) _ c.rises.ensures
     (not-true _ c.if-not-rises.true-raw)
 
 pub valid-requires : goal.valid-requires
-valid-requires c = let l = c.loop-left in
-    left_whole _ l.p l.left l.invariant.1 c.loop-left-test.true _ _ c.one-kind.ensures.0 c.record_length-k.ensures
-    c.if-k-eq0.false
+valid-requires c =
+    left_whole c.args.s.now (c.args.at + 89 * c.loop-k.k) (c.args.n - c.loop-k.k) (omega (arith, c.requires)) (omega (arith, c.loop-k-test.true))
+    _ _ c.from.ensures c.record_length-size.ensures c.if-size-eq0.false
 
 pub returns-then-not-valid : goal.returns-then-not-valid
-returns-then-not-valid c = let took = c.loop-left-test.true in
-    let l = c.loop-left in
-    let k = left-length _ l.p l.left l.invariant.1 took _ _ c.one-kind.ensures.0 c.record_length-k.ensures in
-    shape_invalid _ _ _ _ _ _ l.invariant.0 took _ k c.if-k-eq0.false _ _ _ c.item_there-i.ensures _
-    c.rises.ensures (not-false _ c.if-not-rises.false-raw) _ c.valid.ensures (not-true _ c.if-not-valid.true-raw)
+returns-then-not-valid c =
+    let m = left-length c.args.s.now (c.args.at + 89 * c.loop-k.k) (c.args.n - c.loop-k.k) (omega (arith, c.requires)) (omega (arith, c.loop-k-test.true))
+    _ _ c.from.ensures c.record_length-size.ensures in
+    shape_invalid _ _ _ _ _ _ c.loop-k.invariant (omega (arith, c.loop-k-test.true)) _ m c.if-size-eq0.false _ (item_part_there _ _ (omega (arith, c.requires, c.loop-k-test.true)) _ c.from_bytes-i.ensures.value) _ c.rises.ensures
+    (not-false _ c.if-not-rises.false-raw) _ c.valid.ensures (not-true _ c.if-not-valid.true-raw)
 
-pub overflow_add-p-in-loop-left : goal.overflow_add-p-in-loop-left
-overflow_add-p-in-loop-left c = let l = c.loop-left in
-    omega (
-      arith,
-      left_next c.args.s.now l.p l.left l.invariant.1 c.loop-left-test.true _ _
-          c.one-kind.ensures.0 c.record_length-k.ensures c.if-k-eq0.false,
-    )
-
-pub loop-left-preserved : goal.loop-left-preserved
-loop-left-preserved c = let took = c.loop-left-test.true in
-    let l = c.loop-left in
-    let n = c.record_length-k.ensures in
-    let k = left-length _ l.p l.left l.invariant.1 took _ _ c.one-kind.ensures.0 n in (
-      shape_on _ _ _ _ _ _ l.invariant.0 took _ k c.if-k-eq0.false _ _ _ c.item_there-i.ensures _
-          c.rises.ensures (not-false _ c.if-not-rises.false-raw) _ c.valid.ensures (not-false _ c.if-not-valid.false-raw),
-      left_next c.args.s.now l.p l.left l.invariant.1 took _ _ c.one-kind.ensures.0 n c.if-k-eq0.false,
-    )
+pub loop-k-preserved : goal.loop-k-preserved
+loop-k-preserved c =
+    let room : c.args.at + 89 * c.loop-k.k + 89 * (c.args.n - c.loop-k.k) ≡ length c.args.s.now = omega (arith, c.requires, c.loop-k-test.true) in
+    let took : 0 < c.args.n - c.loop-k.k = omega (arith, c.loop-k-test.true) in
+    let m = left-length c.args.s.now (c.args.at + 89 * c.loop-k.k) (c.args.n - c.loop-k.k) room took _ _ c.from.ensures c.record_length-size.ensures in
+    let size = left-size c.args.s.now (c.args.at + 89 * c.loop-k.k) (c.args.n - c.loop-k.k) room took _ _ c.from.ensures c.record_length-size.ensures
+    c.if-size-eq0.false in
+    shape_on _ _ _ _ _ _ c.loop-k.invariant took _ m c.if-size-eq0.false _ (item_part_there _ _ (omega (arith, c.requires, c.loop-k-test.true)) _ c.from_bytes-i.ensures.value) _ c.rises.ensures
+    (not-false _ c.if-not-rises.false-raw) _ c.valid.ensures (not-false _ c.if-not-valid.false-raw) _ _ (omega arith) (omega (arith, size))
 
 pub returns : goal.returns
-returns c = shape_end _ _ _ _ _ _ c.loop-left.invariant.0 (omega arith) c.loop-left.invariant.1
+returns c = shape_end _ _ _ _ _ _ c.loop-k.invariant (omega (arith, c.loop-k-test.false)) (omega (arith, c.requires, c.loop-k-test.false))

@@ -1,6 +1,5 @@
 -- `records::place_of` meets its contract. The loop's invariant: the place of the item's record among all records is the one among those
 -- that are left.
-use Prim.Native.Nat.{◌-◌}
 use mathlib.Core.Path.{refl}
 use native.Mathlib.Omega.{arith}
 use Rattle.records.proofs.Finding.{length-at, length-inside, search_past, search_end, search_found, search_on}

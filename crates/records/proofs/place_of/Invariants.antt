@@ -3,12 +3,12 @@
 use Prim.Native.Nat.{◌-◌}
 use lib.ListN.{length}
 use mathlib.Core.Path.{◌≡◌}
-use Rattle.codec.specs.Words.{words3}
+use Rattle.codec.specs.Ids.{item_of}
 use Rattle.replication.specs.Queries.{places, place_of}
 use Rattle.records.proofs.place_of.Given as goal
 
 abbrev pub invariant-loop-p : goal.invariant-loop-p
-invariant-loop-p l = place_of l.s (words3 l.i0 l.i1 l.i2) (places l.s l.at) ≡ place_of l.s (words3 l.i0 l.i1 l.i2) (places l.s l.p)
+invariant-loop-p l = place_of l.s (item_of l.item) (places l.s l.at) ≡ place_of l.s (item_of l.item) (places l.s l.p)
 
 abbrev pub decreases-loop-p : goal.decreases-loop-p
 decreases-loop-p l = length l.s - l.p

@@ -18,9 +18,9 @@ overflow_add-at-2 c = omega (arith, c.beyond.ensures.1 c.if-beyond.false)
 pub overflow_add-at-3 : goal.overflow_add-at-3
 overflow_add-at-3 c = omega (arith, c.beyond.ensures.1 c.if-beyond.false)
 
-pub slice_bounds-eight-end : goal.slice_bounds-eight-end
-slice_bounds-eight-end c = omega (arith, c.beyond.ensures.1 c.if-beyond.false)
+pub slice_bounds-first-end : goal.slice_bounds-first-end
+slice_bounds-first-end c = omega (arith, c.beyond.ensures.1 c.if-beyond.false)
 
 pub returns : goal.returns
 returns c = tick_total _ _ (omega (arith, c.beyond.ensures.1 c.if-beyond.false)) _
-    (part_is _ _ _ _ c.eight.ensures.0 (omega (arith, c.beyond.ensures.1 c.if-beyond.false)))
+    (part_is _ _ _ _ c.first.ensures.0 (omega (arith, c.beyond.ensures.1 c.if-beyond.false)))

@@ -3,4 +3,4 @@ use Rattle.records.proofs.Fields.{deleted_read}
 use Rattle.records.proofs.tombstone.Goals as goal
 
 pub returns : goal.returns
-returns c = deleted_read _ _ _ c.read1-kind.ensures.value
+returns c = deleted_read _ _ _ c.read.ensures.value

@@ -1,22 +1,22 @@
 -- `records_join::copy_all` meets its contract. The loop's invariant: copying all is writing the pending run and copying what is left behind
 -- it. The loop ends behind the last address, or where a record has no room: there no later one has.
-use Prim.Native.Nat.{◌-◌}
 use mathlib.Core.Path.{refl, ap, ◌∙◌}
 use native.Mathlib.Omega.{arith}
+use Rattle.std.proofs.Common.{rules}
 use lib.ListN.{length}
 use Rattle.codec.proofs.Writing.{placed-length}
 use Rattle.records_join.proofs.Runs.{copied_empty, pending_none, pending_longer, pending_begun, pending_end, pending_full}
 use Rattle.records_join.proofs.copy_all.Goals as goal
-use Rattle.records_join.proofs.copy_all.Goals.{then-goes_on, else-goes_on, else-loop-i-test, then-loop-i-test+then-beyond}
+use Rattle.records_join.proofs.copy_all.Goals.{then-goes_on, else-goes_on, else-loop-y-test, then-loop-y-test+then-beyond}
 
-pub returns-then-chosen-eq0 : goal.returns-then-chosen-eq0
-returns-then-chosen-eq0 c = copied_empty _ _ _ _ _ c.if-chosen-eq0.true
+pub returns-then-is_empty : goal.returns-then-is_empty
+returns-then-is_empty c = copied_empty _ _ _ _ _ (search rules)
 
-pub loop-i-init : goal.loop-i-init
-loop-i-init c = pending_none _ _ _ _ _ _ (omega arith)
+pub loop-y-init : goal.loop-y-init
+loop-y-init c = pending_none _ _ _ _ _ _ (omega arith)
 
-pub loop-i-preserved : goal.loop-i-preserved
-loop-i-preserved c = let l = c.loop-i in
+pub loop-y-preserved : goal.loop-y-preserved
+loop-y-preserved c = let l = c.loop-y in
     let e = c.beyond.ensures.1 c.if-beyond.false in
     elim c.if-goes_on.branch [
       | then-goes_on w ↦
@@ -28,13 +28,13 @@ loop-i-preserved c = let l = c.loop-i in
     ]
 
 pub shape_of-out : goal.shape_of-out
-shape_of-out c = ap length c.copy_run-2.ensures ∙ (placed-length _ _ _ ∙ c.loop-i.invariant.kept)
+shape_of-out c = ap length c.copy_run-2.ensures ∙ (placed-length _ _ _ ∙ c.loop-y.invariant.kept)
 
 pub returns : goal.returns
-returns c = let l = c.loop-i in
-    elim c.loop-i-test.branch [
-      | else-loop-i-test w ↦ pending_end _ _ _ _ _ _ _ _ _ _ l.invariant (omega (arith, w.loop-i-test.false)) _ c.copy_run-2.ensures
-      | then-loop-i-test+then-beyond w ↦
-          pending_full _ _ _ _ _ _ _ _ _ _ l.invariant (omega (arith, w.loop-i-test.true)) _ _ refl w.length_from-k.ensures
+returns c = let l = c.loop-y in
+    elim c.loop-y-test.branch [
+      | else-loop-y-test w ↦ pending_end _ _ _ _ _ _ _ _ _ _ l.invariant (omega (arith, w.loop-y-test.false)) _ c.copy_run-2.ensures
+      | then-loop-y-test+then-beyond w ↦
+          pending_full _ _ _ _ _ _ _ _ _ _ l.invariant (omega (arith, w.loop-y-test.true)) _ _ refl w.length_from-k.ensures
           (w.beyond.ensures.0 w.if-beyond.true) _ c.copy_run-2.ensures
     ]

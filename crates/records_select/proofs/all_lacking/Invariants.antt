@@ -7,8 +7,8 @@ use Rattle.codec.specs.Ids.{item_of}
 use Rattle.records_select.proofs.Picking.{Selecting}
 use Rattle.records_select.proofs.all_lacking.Given as goal
 
-abbrev pub invariant-loop-last : goal.invariant-loop-last
-invariant-loop-last l = (Selecting l.s l.at l.k l.r l.initial.c (item_of l.last) l.initial.picks l.p l.c l.count l.size l.picks) × (length l.picks ≡ length l.initial.picks)
+abbrev pub invariant-loop-x : goal.invariant-loop-x
+invariant-loop-x l = (Selecting l.s l.at l.k l.r l.initial.c (item_of l.last) l.initial.picks l.p l.c l.count l.size l.picks) × (length l.picks ≡ length l.initial.picks)
 
-abbrev pub decreases-loop-last : goal.decreases-loop-last
-decreases-loop-last l = length l.s - l.p
+abbrev pub decreases-loop-x : goal.decreases-loop-x
+decreases-loop-x l = length l.s - l.p

@@ -3,4 +3,4 @@ use Rattle.records_versions.proofs.Versions.{moved_is}
 use Rattle.records_versions.proofs.move_to.Goals as goal
 
 pub returns : goal.returns
-returns c = moved_is _ _ _ _ _ _ _ _ _ c.item_of.ensures c.advance.ensures
+returns c = moved_is _ _ _ _ _ _ _ _ _ c.item_of.ensures.value c.advance.ensures

@@ -25,8 +25,8 @@ use Rattle.replication.specs.Formats.{Store}
 use Rattle.replication.specs.OpenStore.{open_store}
 use Rattle.replication.specs.Calls.{store_or}
 use Rattle.replication.specs.Queries.{coverage_number, coverage_contained, coverage_all, coverage_thousandths, count_in, thousandths, coverage_answer}
-use Rattle.replication.specs.declared.Coverage.{Coverage}
-use Rattle.replication.specs.declared.Coverage.TheVariants as G
+use Rattle.replication.specs.Coverage.{Coverage}
+use Rattle.replication.specs.Coverage as G
 use Rattle.replication.specs.Record.{Rec}
 use Rattle.codec.specs.Parsed.{own_fault, read_or, Parsed, accepted, refused}
 

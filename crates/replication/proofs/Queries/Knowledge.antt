@@ -17,8 +17,8 @@ use Rattle.layout.proofs.Exact.{exact}
 use Rattle.replication.specs.Formats.{Store}
 use Rattle.replication.specs.OpenStore.{knowledge_length, store_knowledge, open_store}
 use Rattle.replication.specs.Queries.{part_bytes, knowledge_part}
-use Rattle.replication.specs.declared.Part.{Part}
-use Rattle.replication.specs.declared.Part.TheVariants as P
+use Rattle.replication.specs.Part.{Part}
+use Rattle.replication.specs.Part as P
 use Rattle.replication.proofs.Bytes.Part.{part_bytes_lem}
 use Rattle.replication.proofs.Bytes.Store.{store_read_lem}
 use Rattle.replication.proofs.Queries.Winner.{StorePart, NoPartBut, store_part, part_refused}

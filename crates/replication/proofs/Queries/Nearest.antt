@@ -20,7 +20,7 @@ use Rattle.replication.specs.Record.{Rec}
 use Rattle.replication.specs.Formats.{Store}
 use Rattle.replication.specs.OpenStore.{open_store}
 use Rattle.replication.specs.Queries.{thousandths, coverage_thousandths, coverage_answer}
-use Rattle.replication.specs.declared.Coverage.{Coverage}
+use Rattle.replication.specs.Coverage.{Coverage}
 use Rattle.replication.proofs.Contents.Valid.{store_exact}
 use Rattle.replication.proofs.Queries.Coverage.{ContainsChange, Counts, counts-nil, counts_in, counts_out, CoverageIs, coverage_exact}
 use Rattle.replication.proofs.Queries.Coverage.{twice_times, thousandths_none, thousandths_low, thousandths_high}

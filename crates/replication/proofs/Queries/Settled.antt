@@ -20,8 +20,8 @@ use Rattle.replication.specs.BatchFormat.{Batch}
 use Rattle.replication.specs.Reading.{rec_length, behind, whole}
 use Rattle.replication.specs.Queries.{part_bytes, part_number, part_side, part_at_place, part_length, to_give}
 use Rattle.replication.specs.Queries.{coverage_number, coverage_contained, coverage_all, coverage_thousandths}
-use Rattle.replication.specs.declared.Part.{Part}
-use Rattle.replication.specs.declared.Coverage.{Coverage}
+use Rattle.replication.specs.Part.{Part}
+use Rattle.replication.specs.Coverage.{Coverage}
 use Rattle.replication.proofs.Tables.Rising.{rising_low, rising_rest}
 use Rattle.replication.proofs.Bytes.Record.{KnownKind, kind-length, whole_exact}
 use Rattle.replication.proofs.Broken.Records.{OneOf, behind_all}

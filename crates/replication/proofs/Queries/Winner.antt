@@ -38,8 +38,8 @@ use Rattle.replication.proofs.Bytes.Store.{store_read_lem}
 use Rattle.replication.proofs.Bytes.Batch.{batch_read}
 use Rattle.replication.proofs.Broken.Records.{OneOf, behind_all}
 use Rattle.codec.specs.Parsed.{accepted, refused, Parsed, own_fault, line}
-use Rattle.replication.specs.declared.Part.{Part}
-use Rattle.replication.specs.declared.Part.TheVariants as P
+use Rattle.replication.specs.Part.{Part}
+use Rattle.replication.specs.Part as P
 use Rattle.replication.specs.Record.{Rec}
 use Rattle.layout.specs.Parse.{parse}
 use lib.Dec.{eqb}

@@ -2,35 +2,21 @@
 -- where the key is below their number; it has the key, or the search writes what the definition says.
 use native.Mathlib.Omega.{arith}
 use Rattle.leaves.proofs.Part.{part_is}
-use Rattle.results_copied.proofs.Loops.{there_inside, written_beyond, written_other, written_guessed}
+use Rattle.results_copied.proofs.Loops.{written_beyond, written_other, written_guessed}
 use Rattle.results_copied.proofs.write_tick.Goals as goal
+use Rattle.results_copied.proofs.write_tick.Goals.{then-guess-n+else-first-from, else-guess-n}
 
-pub returns-then-n-guess : goal.returns-then-n-guess
-returns-then-n-guess c = written_beyond _ _ _ _ _ _ _ c.requires c.write_first.ensures c.if-n-guess.true
-
-pub overflow_add-at : goal.overflow_add-at
-overflow_add-at c = omega (arith, there_inside _ _ _ _ c.requires c.if-n-guess.false)
-
-pub overflow_add-at-2 : goal.overflow_add-at-2
-overflow_add-at-2 c = omega (arith, there_inside _ _ _ _ c.requires c.if-n-guess.false)
-
-pub overflow_add-at-3 : goal.overflow_add-at-3
-overflow_add-at-3 c = omega (arith, there_inside _ _ _ _ c.requires c.if-n-guess.false)
-
-pub slice_bounds-four-end : goal.slice_bounds-four-end
-slice_bounds-four-end c = omega (arith, there_inside _ _ _ _ c.requires c.if-n-guess.false)
-
-pub overflow_add-at-then-four-key : goal.overflow_add-at-then-four-key
-overflow_add-at-then-four-key c = omega (arith, there_inside _ _ _ _ c.requires c.if-n-guess.false)
-
-pub returns-then-four-key : goal.returns-then-four-key
-returns-then-four-key c = let there = c.requires in
-    let room = there_inside _ _ _ _ there c.if-n-guess.false in
-    written_guessed _ _ _ _ _ _ _ there c.if-n-guess.false _ (part_is _ _ _ _ c.four.ensures.0 (omega (arith, room)))
-    c.if-four-key.true c.write8.ensures
+pub returns-then-first-from : goal.returns-then-first-from
+returns-then-first-from c = let there = c.requires in
+    let room = there.room (omega arith) in
+    written_guessed _ _ _ _ _ _ _ there c.if-guess-n.true _ (part_is _ _ _ _ c.first.ensures.0 (omega arith))
+    (omega arith) c.write.ensures
 
 pub returns : goal.returns
 returns c = let there = c.requires in
-    let room = there_inside _ _ _ _ there c.if-n-guess.false in
-    written_other _ _ _ _ _ _ _ there c.write_first-2.ensures c.if-n-guess.false _
-    (part_is _ _ _ _ c.four.ensures.0 (omega (arith, room))) c.if-four-key.false
+    elim c.if-guess-n.branch [
+      | then-guess-n+else-first-from w ↦ let room = there.room (omega (arith, w.if-guess-n.true)) in
+          written_other _ _ _ _ _ _ _ there c.write_first.ensures w.if-guess-n.true _
+          (part_is _ _ _ _ w.first.ensures.0 (omega arith)) (λ e. w.if-first-from.false (omega arith))
+      | else-guess-n w ↦ written_beyond _ _ _ _ _ _ _ there c.write_first.ensures w.if-guess-n.false
+    ]

@@ -6,9 +6,6 @@ use lib.ListN.{length}
 use Rattle.results_copied.specs.MethodRaised.{vectors_written}
 use Rattle.results_copied.proofs.write_ticks.Given as goal
 
-abbrev pub invariant-loop-k : goal.invariant-loop-k
-invariant-loop-k l = (vectors_written l.key.0 l.tick l.s l.initial.out l.n l.start ≡ vectors_written l.key.0 l.tick l.s l.out (l.n - l.k) l.at) × (length l.out ≡ length l.initial.out)
-    × (l.at ≤ l.start + length l.s + 8 * l.k)
-
-abbrev pub decreases-loop-k : goal.decreases-loop-k
-decreases-loop-k l = l.n - l.k
+abbrev pub invariant-loop : goal.invariant-loop
+invariant-loop l = (vectors_written l.key.0 l.tick l.s l.initial.out l.n l.start ≡ vectors_written l.key.0 l.tick l.s l.out (l.n - l.counter) l.at) × (length l.out ≡ length l.initial.out)
+    × (l.at ≤ l.start + length l.s + 8 * l.counter)

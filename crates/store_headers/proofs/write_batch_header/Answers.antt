@@ -6,5 +6,5 @@ pub returns-then-out-lt-BATCH : goal.returns-then-out-lt-BATCH
 returns-then-out-lt-BATCH c = batch_head_short _ _ _ _ _ _ c.if-out-lt-BATCH.true
 
 pub returns : goal.returns
-returns c = batch_head_wrote _ _ _ _ _ _ _ _ _ _ c.if-out-lt-BATCH.false c.write1.ensures c.write_span.ensures
-    c.write_sizes.ensures c.write4.ensures
+returns c = batch_head_wrote _ _ _ _ _ _ _ _ _ _ c.if-out-lt-BATCH.false c.write.ensures c.write_span.ensures
+    c.write_sizes.ensures c.write-2.ensures

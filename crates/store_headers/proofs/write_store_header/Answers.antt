@@ -6,5 +6,5 @@ pub returns-then-out-lt-STORE : goal.returns-then-out-lt-STORE
 returns-then-out-lt-STORE c = store_head_short _ _ _ _ c.if-out-lt-STORE.true
 
 pub returns : goal.returns
-returns c = store_head_wrote _ _ _ _ _ _ _ c.if-out-lt-STORE.false c.write1.ensures c.write_replica.ensures
+returns c = store_head_wrote _ _ _ _ _ _ _ c.if-out-lt-STORE.false c.write.ensures c.write_replica.ensures
     c.write_sizes.ensures

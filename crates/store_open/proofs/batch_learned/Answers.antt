@@ -16,7 +16,7 @@ inside_span-requires c = c.requires.0.header
 pub returns-then-not-inside_span : goal.returns-then-not-inside_span
 returns-then-not-inside_span c = λ m few.
     batch_outside _ _ m _ _ _ _ c.requires.0 few _ _ (c.requires.1 m)
-    ((c.normal_part.ensures m).normal _ c.in-Normal.is) _
+    ((c.normal_part.ensures m).normal _ c.in-Some.is) _
     c.inside_span.ensures (not-true _ c.if-not-inside_span.true-raw)
 
 pub overflow_add-at : goal.overflow_add-at
@@ -30,19 +30,19 @@ each_carried-requires c = let a = c.args in (
   batch_ordered _ _ _ _ c.requires.0,
   normal_open (within a.limits.replicas a.limits.ranges 0) _ _ (c.requires.1 0),
   normal_open (within a.limits.replicas a.limits.ranges 0) _ _ ((c.normal_part.ensures 0).normal _
-      c.in-Normal.is),
+      c.in-Some.is),
 )
 
 pub returns-then-not-each_carried : goal.returns-then-not-each_carried
 returns-then-not-each_carried c = λ m few.
     batch_lacks _ _ m _ _ _ _ c.requires.0 few _ _ (c.requires.1 m)
-    ((c.normal_part.ensures m).normal _ c.in-Normal.is) _
+    ((c.normal_part.ensures m).normal _ c.in-Some.is) _
     c.inside_span.ensures (not-false _ c.if-not-inside_span.false-raw) _ c.each_carried.ensures
     (not-true _ c.if-not-each_carried.true-raw)
 
 pub returns : goal.returns
 returns c = λ m few.
     batch_valid _ _ m _ _ _ _ c.requires.0 few _ _ (c.requires.1 m)
-    ((c.normal_part.ensures m).normal _ c.in-Normal.is) _
+    ((c.normal_part.ensures m).normal _ c.in-Some.is) _
     c.inside_span.ensures (not-false _ c.if-not-inside_span.false-raw) _ c.each_carried.ensures
     (not-false _ c.if-not-each_carried.false-raw)

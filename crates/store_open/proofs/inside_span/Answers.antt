@@ -1,13 +1,10 @@
--- `store_open::inside_span` meets its contract: the words are those of the two ids.
+-- `store_open::inside_span` meets its contract: the ids are those of the span.
 use native.Mathlib.Omega.{arith}
+use Rattle.store_open.proofs.Ids.{item_at}
 use Rattle.store_open.proofs.Batch.{span_inside}
 use Rattle.store_open.proofs.inside_span.Goals as goal
 
-pub item_id-f-requires : goal.item_id-f-requires
-item_id-f-requires c = omega (arith, c.requires)
-
-pub item_id-l-requires : goal.item_id-l-requires
-item_id-l-requires c = omega (arith, c.requires)
-
 pub returns : goal.returns
-returns c = span_inside _ _ _ _ _ _ _ c.item_id-f.ensures c.item_id-l.ensures _ _ _ c.inside.ensures
+returns c =
+    span_inside _ _ _ (item_at _ 1 _ c.from_bytes-first.ensures.value (omega (arith, c.requires)))
+    (item_at _ 25 _ c.from_bytes-last.ensures.value (omega (arith, c.requires))) _ _ _ c.inside.ensures

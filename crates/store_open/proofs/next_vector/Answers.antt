@@ -4,11 +4,10 @@ use Rattle.leaves.proofs.Part.{part_is}
 use Rattle.store_open.proofs.Places.{next_stays, next_on}
 use Rattle.store_open.proofs.next_vector.Goals as goal
 
-pub returns-then-k-lt8 : goal.returns-then-k-lt8
-returns-then-k-lt8 c = next_stays _ _ (omega arith)
-
-pub returns-then-k-at : goal.returns-then-k-at
-returns-then-k-at c = next_stays _ _ (omega arith)
+pub returns-then-beyond : goal.returns-then-beyond
+returns-then-beyond c = next_stays _ _ (c.beyond.ensures.0 c.if-beyond.true)
 
 pub returns : goal.returns
-returns c = next_on _ _ _ (omega arith) (part_is _ _ _ _ c.four.ensures.0 (omega arith))
+returns c =
+    let l = c.beyond.ensures.1 c.if-beyond.false in
+    next_on _ _ _ l (part_is _ _ _ _ c.first.ensures.0 (omega (arith, l)))

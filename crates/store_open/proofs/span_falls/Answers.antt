@@ -1,13 +1,13 @@
--- `store_open::span_falls` meets its contract: the words are those of the two ids.
+-- `store_open::span_falls` meets its contract: the ids are those of the span.
+use mathlib.Core.Path.{◌∙◌}
 use native.Mathlib.Omega.{arith}
+use Rattle.codec.proofs.Ids.{item_lt}
+use Rattle.store_open.proofs.Ids.{item_at}
 use Rattle.store_open.proofs.Batch.{span_less}
 use Rattle.store_open.proofs.span_falls.Goals as goal
 
-pub item_id-f-requires : goal.item_id-f-requires
-item_id-f-requires c = omega (arith, c.requires)
-
-pub item_id-l-requires : goal.item_id-l-requires
-item_id-l-requires c = omega (arith, c.requires)
-
 pub returns : goal.returns
-returns c = span_less _ _ _ _ _ _ _ c.item_id-f.ensures c.item_id-l.ensures _ c.less3.ensures
+returns c =
+    span_less _ _ _ (item_at _ 1 _ c.from_bytes-first.ensures.value (omega (arith, c.requires)))
+    (item_at _ 25 _ c.from_bytes-last.ensures.value (omega (arith, c.requires))) _
+    (c.lt.ensures ∙ item_lt _ _ c.from_bytes-last.ensures.in_words c.from_bytes-first.ensures.in_words)

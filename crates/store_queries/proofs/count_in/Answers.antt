@@ -1,24 +1,26 @@
 -- `store_queries::count_in` meets its contract. The loop's invariant: the cursor has passed just the ranges below the next record, and
 -- those contained in all are those counted and those among the records that are left.
 use native.Mathlib.Omega.{arith}
-use Rattle.records_versions.proofs.Passing.{follows_start, follows_next}
-use Rattle.store_queries.proofs.Counting.{count_ends, count_next}
+use Rattle.store_queries.proofs.Counting.{counted_start, counted_end, counted_yes, counted_no}
 use Rattle.store_queries.proofs.count_in.Goals as goal
+use Rattle.store_queries.proofs.count_in.Goals.{then-change_in, else-change_in}
 
-pub loop-left-init : goal.loop-left-init
-loop-left-init c = (follows_start _ _ _ _ _ _ c.requires.0 c.requires.1, omega arith, omega arith)
+pub loop-i-init : goal.loop-i-init
+loop-i-init c = counted_start _ _ _ _ _ _ c.requires.0 c.requires.1
 
 pub overflow_add-contained : goal.overflow_add-contained
-overflow_add-contained c = omega (arith, c.counted-contained.ensures.1, c.loop-left.invariant.2)
+overflow_add-contained c = omega (arith, c.loop-i.invariant.few, c.loop-i-test.true)
 
-pub loop-left-preserved : goal.loop-left-preserved
-loop-left-preserved c = let moved = c.move_to-c.ensures in
-    let inv = c.loop-left.invariant in (
-      follows_next _ _ _ _ _ _ inv.0 c.loop-left-test.true _ moved _ c.behind-p.ensures,
-      count_next _ _ _ _ _ _ _ inv.1 c.loop-left-test.true _ _ inv.0 _ moved _ c.counted-contained.ensures.0 _
-          c.behind-p.ensures,
-      omega (arith, c.counted-contained.ensures.1, inv.2),
-    )
+pub loop-i-preserved : goal.loop-i-preserved
+loop-i-preserved c =
+    elim c.if-change_in.branch [
+      | then-change_in w ↦
+          counted_yes _ _ _ _ _ _ _ _ _ c.loop-i.invariant (omega (arith, c.loop-i-test.true)) _ c.move_to-c.ensures _ c.behind-p.ensures
+          _ c.change_in.ensures w.if-change_in.true _ w.contained-is
+      | else-change_in w ↦
+          counted_no _ _ _ _ _ _ _ _ _ c.loop-i.invariant (omega (arith, c.loop-i-test.true)) _ c.move_to-c.ensures _ c.behind-p.ensures
+          _ c.change_in.ensures w.if-change_in.false _ w.contained-is
+    ]
 
 pub returns : goal.returns
-returns c = count_ends _ _ _ _ _ _ _ c.loop-left.invariant.1 (omega arith)
+returns c = counted_end _ _ _ _ _ _ _ _ _ c.loop-i.invariant (omega (arith, c.loop-i-test.false))

@@ -4,12 +4,12 @@ use Rattle.writer.proofs.write_cell.Goals as goal
 
 pub returns-then-tick-eq0 : goal.returns-then-tick-eq0
 returns-then-tick-eq0 c = (
-  cell_none _ _ _ _ _ _ _ c.tick_at-tick.ensures c.if-tick-eq0.true,
-  none_after _ _ _ _ _ c.tick_at-tick.ensures c.if-tick-eq0.true,
+  cell_none _ _ _ _ _ _ _ c.tick-tick.ensures c.if-tick-eq0.true,
+  none_after _ _ _ _ _ c.tick-tick.ensures c.if-tick-eq0.true,
 )
 
 pub returns : goal.returns
 returns c = (
-  cell_some _ _ _ _ _ _ _ c.tick_at-tick.ensures _ _ c.if-tick-eq0.false c.write_element.ensures,
-  some_after _ _ _ _ _ c.tick_at-tick.ensures c.if-tick-eq0.false,
+  cell_some _ _ _ _ _ _ _ c.tick-tick.ensures _ _ c.if-tick-eq0.false c.write_element.ensures,
+  some_after _ _ _ _ _ c.tick-tick.ensures c.if-tick-eq0.false,
 )

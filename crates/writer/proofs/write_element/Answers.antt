@@ -3,4 +3,4 @@ use Rattle.writer.proofs.Laying.{element_wrote}
 use Rattle.writer.proofs.write_element.Goals as goal
 
 pub returns : goal.returns
-returns c = element_wrote _ _ _ _ _ _ c.write4.ensures c.write8.ensures
+returns c = element_wrote _ _ _ _ _ _ c.write.ensures c.write-2.ensures

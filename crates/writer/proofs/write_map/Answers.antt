@@ -6,5 +6,5 @@ pub returns-then-out-at : goal.returns-then-out-at
 returns-then-out-at c = left_past _ _ _ c.if-out-at.true
 
 pub returns : goal.returns
-returns c = map-wrote _ _ _ _ _ _ _ _ c.write_opening.ensures c.write4.ensures
+returns c = map-wrote _ _ _ _ _ _ _ _ c.write_opening.ensures c.write.ensures
     c.write_ids.ensures

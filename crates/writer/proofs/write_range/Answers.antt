@@ -4,5 +4,5 @@ use Rattle.writer.proofs.write_range.Goals as goal
 
 pub returns : goal.returns
 returns c = range_wrote _ _ _ _ _ _ _ _ _ _ _ _ c.word.ensures c.word-2.ensures c.word-3.ensures
-    c.write8.ensures c.write8-2.ensures c.write8-3.ensures
-    c.write4.ensures
+    c.write.ensures c.write-2.ensures c.write-3.ensures
+    c.write-4.ensures

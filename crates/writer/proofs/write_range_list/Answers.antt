@@ -6,5 +6,5 @@ pub returns-then-out-at : goal.returns-then-out-at
 returns-then-out-at c = left_past _ _ _ c.if-out-at.true
 
 pub returns : goal.returns
-returns c = range_list_wrote _ _ _ _ _ _ _ _ c.write_before_ranges.ensures c.write4.ensures
+returns c = range_list_wrote _ _ _ _ _ _ _ _ c.write_before_ranges.ensures c.write.ensures
     c.write_ranges.ensures

@@ -7,5 +7,5 @@ pub returns-then-out-at : goal.returns-then-out-at
 returns-then-out-at c = left_past _ _ _ c.if-out-at.true
 
 pub returns : goal.returns
-returns c = vector_wrote _ _ _ _ _ _ _ _ _ c.write4.ensures c.write_elements-end.ensures.0
-    c.write_elements-end.ensures.1 refl c.write4-2.ensures
+returns c = vector_wrote _ _ _ _ _ _ _ _ _ c.write.ensures c.write_elements-end.ensures.0
+    c.write_elements-end.ensures.1 refl c.write-2.ensures

@@ -1,9 +1,0 @@
--- `check_fields::opening_by_fields` meets its contract. The fields are read one after the other, in the order of the definition's list, then the count.
-use Rattle.layout.specs.Knowledge.{opening}
-use Rattle.check_fields.proofs.Run.{run_count, runs}
-use Rattle.check_fields.proofs.opening_by_fields.Goals as goal
-
-pub returns : goal.returns
-unfolding opening
-returns c = run_count c.args.s.now opening 0 c.args.at c.fixed-g-7.result _ (search runs depth 12)
-    c.read.ensures

@@ -1,7 +1,0 @@
--- `leaves::octet` meets its contract: eight bytes are four and four.
-use native.Mathlib.Omega.{arith}
-use Rattle.codec.proofs.Reading.{be_eight}
-use Rattle.leaves.proofs.octet.Goals as goal
-
-pub returns : goal.returns
-returns c = simp be_eight (omega arith)

@@ -1,7 +1,0 @@
--- `lookup_ranges::four` meets its contract: the sum is the number that the four bytes make.
-use native.Mathlib.Omega.{arith}
-use Rattle.codec.proofs.Reading.{be_four}
-use Rattle.lookup_ranges.proofs.four.Goals as goal
-
-pub returns : goal.returns
-returns c = simp be_four (omega arith)
