@@ -1,6 +1,6 @@
 -- Reading a number byte by byte: one byte more makes 256 times the number of those before it, and that byte. A number of at most eight
 -- bytes stays below 2 ^ 64 on the way. What is read of a part is what is read at its place.
-use Rattle.std.proofs.Common.{◌≡◌, ℕ, zero, suc, ◌+◌, ◌-◌, ◌*◌, ◌^◌, ◌<◌, ◌≤◌, List, length, take, drop, get_or, refl, ap, ◌∙◌, sym, add-one, add-zero, zero-add, mul_comm, arith, pow-add, length-take, length-drop}
+use Rattle.std.proofs.Common.{◌≡◌, ℕ, zero, suc, ◌+◌, ◌-◌, ◌*◌, ◌^◌, ◌<◌, ◌≤◌, List, length, take, drop, get_or, refl, ap, ◌∙◌, sym, add-one, add-zero, add_assoc, zero-add, mul_comm, arith, pow-add, length-take, length-drop}
 use native.Mathlib.Nat.{pow-succ'}
 use Rattle.std.proofs.Math.Pow.{pow_mono}
 use lib.Arith.{digits_lt}
@@ -13,6 +13,13 @@ module _ (s : List ℕ) (at : ℕ) where
   pub be_one : be_at s 1 at ≡ get_or s at 0
   unfolding be_at be_from
   be_one = omega arith
+
+  pub be_four : be_at s 4 at ≡ get_or s at 0 * 16777216 + get_or s (at + 1) 0 * 65536 + get_or s (at + 2) 0 * 256 + get_or s (at + 3) 0
+  unfolding be_at be_from
+  be_four = simp add_assoc (omega arith)
+
+  pub be_eight : be_at s 8 at ≡ be_at s 4 at * 4294967296 + be_at s 4 (at + 4)
+  be_eight = be_add s 4 4 at
 
 pub be_more : (s : List ℕ) (n : ℕ) → be_at s (n + 1) 0 ≡ be_at s n 0 * 256 + get_or s n 0
 be_more s n =
@@ -55,3 +62,19 @@ be_of_part s n at h =
 
     whole : length (take (at + n - at) (drop at s)) ≡ n
     whole = rw (length-take, length-drop) (omega arith)
+
+-- a number of four bytes, and one of eight in halves
+pub four_read : (s : List ℕ) (at n x : ℕ) → n ≡ 4 → at + n ≤ length s → x ≡ be_at s 4 at → x ≡ read_at s n at
+four_read s at n x e h f = rw e (f ∙ sym (read_there s 4 at (omega arith)))
+
+pub eight_read :
+    (s : List ℕ) (at n x y : ℕ)
+    → n ≡ 8
+    → at + n ≤ length s
+    → x ≡ be_at s 4 at
+    → y ≡ be_at s 4 (at + 4)
+    → x * 4294967296 + y ≡ read_at s n at
+eight_read s at n x y e h f g = rw e (whole ∙ sym (read_there s 8 at (omega arith)))
+  where
+    whole : x * 4294967296 + y ≡ be_at s 8 at
+    whole = rw (f, g) (sym (be_eight s at))

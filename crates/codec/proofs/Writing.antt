@@ -1,8 +1,6 @@
 -- Writing into a buffer: stores one after the other from a place on leave what `placed` says, where the place has
--- room for all of them, and a buffer that has no room stays as it was. Copying a part is the same.
-use Rattle.std.proofs.Common.{◌≡◌, ℕ, zero, suc, ◌+◌, ◌-◌, ◌*◌, ◌/◌, ◌%◌, ◌^◌, ◌<◌, ◌≤◌, Bool, true, false, leb, List, [], ◌∷◌, ◌++◌, length, get_or, take, drop, set, replicate, sym, refl, ap, ◌∙◌, append_assoc, add-zero, add-one, arith, length-append, length-drop, take-append-drop, length-take, le-leb, leb-false, leb-true}
-use borrow.Rule.Slice.PartMut.{put_mid}
-use Rattle.std.proofs.lemmas.List.{drop-drop}
+-- room for all of them, and a buffer that has no room stays as it was. Copying a part byte by byte is the same.
+use Rattle.std.proofs.Common.{◌≡◌, ℕ, zero, suc, ◌+◌, ◌-◌, ◌*◌, ◌/◌, ◌%◌, ◌^◌, ◌<◌, ◌≤◌, Bool, true, false, leb, List, [], ◌∷◌, ◌++◌, length, get_or, take, drop, set, replicate, sym, refl, ap, ◌∙◌, append_assoc, add-zero, add-one, arith, length-append, length-drop, take-append-drop, length-take, get_or-drop, get_or-take, le-leb, leb-false, leb-true}
 use borrow.Author.Tests.{lt-leb}
 use lib.Seq.{sets, sets-eq, length-sets, take-length, paste, paste-zero, paste-suc}
 use Rattle.codec.specs.Number.{put}
@@ -135,16 +133,7 @@ module _ (d s : List ℕ) (at from n : ℕ) where
   pub no_place : from + n ≤ length s → length d < at + n → d ≡ placed d at (part s from n)
   no_place h k = placed_out d at (part s from n) (rw (part_length_lem s from n h) k)
 
--- a part that is copied into a place that has room for it
-module _ (d s : List ℕ) (at from n : ℕ) (h : from + n ≤ length s) (k : at + n ≤ length d) where
-  pub part_copied : (ys : List ℕ) → ys ≡ take (from + n - from) (drop from s) → put_mid at (at + n - at) d ys ≡ placed d at (part s from n)
-  part_copied ys e =
-      let z : ys ≡ part s from n = e ∙ ap (λ (m : ℕ). take m (drop from s)) (omega arith) ∙ sym (part_in s from n h) in
-      let w : at + length (part s from n) ≤ length d = rw (part_length_lem s from n h) k in
-      rw (z, placed_in d at (part s from n) w, part_length_lem s from n h, drop-drop)
-      (ap (λ (m : ℕ). take at d ++ (part s from n ++ drop m d)) (omega arith))
-
--- ---- writing a number byte by byte
+-- ---- writing a number and copying a part, byte by byte
 
 -- a byte of a number, by its place
 byte_at : (n x i : ℕ) → i < n → get_or (put n x []) i 0 ≡ x / 256 ^ (n - 1 - i) % 256
@@ -160,6 +149,27 @@ copying d at vs i = paste d at vs i
 pub copying_none : (d : List ℕ) (at : ℕ) (vs : List ℕ) → d ≡ copying d at vs 0
 unfolding copying
 copying_none d at vs = paste-zero d at vs
+
+-- a part that is copied byte by byte into a place that has room for it
+module _ (d s : List ℕ) (at from n : ℕ) (h : from + n ≤ length s) (k : at + n ≤ length d) where
+  part_at : (i : ℕ) → i < n → get_or (part s from n) i 0 ≡ get_or s (from + i) 0
+  part_at i l = rw (part_in s from n h, get_or-take, get_or-drop)
+
+  pub part_more :
+      (e : List ℕ) (i : ℕ)
+      → i < n
+      → e ≡ copying d at (part s from n) i
+      → set e (at + i) (get_or s (from + i) 0) ≡ copying d at (part s from n) (i + 1)
+  unfolding copying
+  part_more e i l c =
+      let v : i < length (part s from n) = rw (part_length_lem s from n h) l in
+      rw (c, ← part_at i l, add-one i) (paste-suc d at (part s from n) i 0 (omega arith) v)
+
+  pub part_all : (e : List ℕ) (i : ℕ) → i ≡ n → e ≡ copying d at (part s from n) i → e ≡ placed d at (part s from n)
+  unfolding copying
+  part_all e i l c =
+      let z : length (part s from n) ≡ i = part_length_lem s from n h ∙ sym l in
+      c ∙ rw (placed_in d at (part s from n) (omega arith), ← z, take-length, append_assoc)
 
 module _ (d : List ℕ) (at n x : ℕ) (k : at + n ≤ length d) where
   pub copying_more :

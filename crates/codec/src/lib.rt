@@ -76,6 +76,18 @@ pub fn beyond(end: usize, at: usize, n: usize) -> bool
     end < n || end - n < at
 }
 
+// The number in the four bytes from `at` on, all there. A sum and not `big_endian`: this is one load and an exchange of bytes also where
+// only a part of the number is asked for, as whether it is 0.
+fn four(s: &[u8], at: usize) -> u64
+    requires { at + 4 ≤ length s.now }
+    ensures { (result ≡ be_at s.now 4 at) × (result < 2 ^ 32) }
+{
+    u64::from(s[at]) * 16777216
+        + u64::from(s[at + 1]) * 65536
+        + u64::from(s[at + 2]) * 256
+        + u64::from(s[at + 3])
+}
+
 // The number that at most eight bytes make, the highest first.
 fn big_endian(w: &[u8]) -> u64
     requires { length w.now ≤ 8 }
@@ -89,6 +101,7 @@ fn big_endian(w: &[u8]) -> u64
 }
 
 // The big-endian number in the N bytes from `at` on, 0 where one of them is missing. No more than eight bytes are read.
+#[inline(always)]
 pub fn read<const N: usize>(s: &[u8], at: usize) -> u64
     ensures value { result ≡ read_at s.now (min N 8) at }
     ensures upper_bound { result < 256 ^ min N 8 }
@@ -97,7 +110,11 @@ pub fn read<const N: usize>(s: &[u8], at: usize) -> u64
     if beyond(s.len(), at, n) {
         return 0;
     }
-    big_endian(&s[at..at + n])
+    match n {
+        8 => four(s, at) * 4294967296 + four(s, at + 4),
+        4 => four(s, at),
+        _ => big_endian(&s[at..at + n]),
+    }
 }
 
 // The N lowest bytes of x, big-endian, from `at` on, where there is room for all of them. No more than eight bytes are written.
@@ -120,11 +137,15 @@ pub fn copy_part(src: &[u8], from: usize, n: usize, dst: &mut [u8], at: usize)
     if beyond(src.len(), from, n) || beyond(dst.len(), at, n) {
         return;
     }
-    dst[at..at + n].copy_from_slice(&src[from..from + n]);
+    // a loop: `copy_from_slice` would need the C library's memmove
+    for k in 0..n {
+        dst[at + k] = src[from + k];
+    }
 }
 
 impl Item {
     // The id in the first 24 bytes; a word that is not all there is 0.
+    #[inline(always)]
     pub fn from_bytes(id: &[u8]) -> Item
         ensures value { result ≡ item_read id.now }
         ensures in_words { InWords result }
@@ -139,6 +160,7 @@ impl Item {
 
 impl Replica {
     // The id in the first 16 bytes; a word that is not all there is 0.
+    #[inline(always)]
     pub fn from_bytes(id: &[u8]) -> Replica
         ensures value { result ≡ replica_read id.now }
         ensures high_bound { (result.high < 2 ^ 64) × (result.low < 2 ^ 64) }

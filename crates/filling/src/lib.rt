@@ -18,6 +18,7 @@ ghost use Rattle.sampling.specs.MethodCells.{column_set};
 ghost use Rattle.sampling.specs.MethodTables.{Fits, table_of, one_filled, one_table, two_filled, two_table, span_table, raised_table};
 
 use codec::{Replica, Span};
+use layout::ReplicaKey;
 use lookup::View;
 use sampling::Filled;
 
@@ -32,26 +33,27 @@ const NOTHING: Filled = Filled {
 // The column of an id, and how many columns there are then.
 #[derive(Clone, Copy)]
 struct Joined {
-    column: u32,
+    column: ReplicaKey,
     count: u32,
 }
 
 // ---- columns
 
 // The column of an id among the first n.
-fn find_id(ids: &[u64], n: u32, p: Replica) -> Option<u32>
+fn find_id(ids: &[u64], n: u32, p: Replica) -> Option<ReplicaKey>
     requires { 2 * n ≤ length ids.now }
     ensures { MatchOption result (column_of ids.now n (words2 p.high p.low) ≡ n)
-        (λ c. (c ≡ column_of ids.now n (words2 p.high p.low)) × (c < n)) }
+        (λ c. (c.0 ≡ column_of ids.now n (words2 p.high p.low)) × (c.0 < n)) }
 {
     for c in 0..n {
-        let i = 2 * (c as usize);
+        let column = ReplicaKey(c);
+        let i = 2 * (column.0 as usize);
         let id = Replica {
             high: ids[i],
             low: ids[i + 1],
         };
         if id == p {
-            return Some(c);
+            return Some(column);
         }
     }
     None
@@ -60,8 +62,8 @@ fn find_id(ids: &[u64], n: u32, p: Replica) -> Option<u32>
 // The column of an id among the first n of m, or a new one after the m.
 fn join_id(ids: &mut [u64], n: u32, m: u32, p: Replica) -> Joined
     requires { (n ≤ m) × (2 * m + 2 ≤ length ids.old) × (m + 1 < 2 ^ 32) }
-    ensures { (join_of ids.new result.column result.count ≡ joined ids.old n m p.high p.low)
-        × (result.column ≤ m) × (m ≤ result.count) × (result.count ≤ m + 1) × (length ids.new ≡ length ids.old) }
+    ensures { (join_of ids.new result.column.0 result.count ≡ joined ids.old n m p.high p.low)
+        × (result.column.0 ≤ m) × (m ≤ result.count) × (result.count ≤ m + 1) × (length ids.new ≡ length ids.old) }
 {
     match find_id(ids, n, p) {
         Some(column) => Joined { column, count: m },
@@ -70,7 +72,7 @@ fn join_id(ids: &mut [u64], n: u32, m: u32, p: Replica) -> Joined
             ids[i] = p.high;
             ids[i + 1] = p.low;
             Joined {
-                column: m,
+                column: ReplicaKey(m),
                 count: m + 1,
             }
         }
@@ -85,10 +87,11 @@ fn add_ids(s: &[u8], r: u32, ids: &mut [u64], n: u32, keys: &mut [u32]) -> u32
         × (result ≤ n + r) × (length ids.new ≡ length ids.old) × (length keys.new ≡ length keys.old) }
 {
     let mut m = n;
-    for key in 0..r {
-        let at = layout::IDS_PLACE + 16 * (key as usize);
+    for k in 0..r {
+        let key = ReplicaKey(k);
+        let at = layout::IDS_PLACE + 16 * (key.0 as usize);
         let joined = join_id(ids, n, m, Replica::from_bytes(&s[at..at + 16]));
-        keys[key as usize] = joined.column;
+        keys[key.0 as usize] = joined.column.0;
         m = joined.count;
     }
     m
@@ -97,12 +100,12 @@ fn add_ids(s: &[u8], r: u32, ids: &mut [u64], n: u32, keys: &mut [u32]) -> u32
 // ---- the tick of one replica
 
 // Sets the ticks of a column in the rows from the first to the last.
-fn raise_column(t: &mut [u64], c: u32, from: u32, top: u32, tick: u64)
-    requires { (c < stride) × (stride * (top + 1) ≤ length t.old) × (top + 1 < 2 ^ 32) }
-    ensures { t.new ≡ column_set c tick from top t.old }
+fn raise_column(t: &mut [u64], c: ReplicaKey, from: u32, top: u32, tick: u64)
+    requires { (c.0 < stride) × (stride * (top + 1) ≤ length t.old) × (top + 1 < 2 ^ 32) }
+    ensures { t.new ≡ column_set c.0 tick from top t.old }
 {
     for k in from..top + 1 {
-        t[tables::STRIDE * (k as usize) + c as usize] = tick;
+        t[tables::STRIDE * (k as usize) + c.0 as usize] = tick;
     }
 }
 

@@ -49,6 +49,7 @@ pub fn keys_of(s: &[u8], r: u32, t: &[u8], m: u32, keys: &mut [u32])
 // ---- the range of an item
 
 // The next bound, where it is not above the last item; none where it is not there.
+#[inline(always)]
 pub fn bound_of(s: &[u8], c: Cursor, last: Item) -> Option<Item>
     ensures stop { c.next + 28 * c.left ≤ length s.now → stop_at result ≡ bound_of s.now c (item_of last) }
     ensures in_words { (i : Item) → result ≡ Some i → InWords i }

@@ -14,6 +14,7 @@ ghost use Rattle.codec.specs.Part.{placed, bytes};
 use codec::{Item, Replica};
 
 // The number in the first N bytes of a part; 0 where the part is shorter. No more than eight bytes are read.
+#[inline(always)]
 pub fn first<const N: usize>(w: &[u8]) -> u64
     ensures { (result ≡ read_at w.now (min N 8) 0) × (result < 256 ^ min N 8) }
 {
@@ -21,6 +22,7 @@ pub fn first<const N: usize>(w: &[u8]) -> u64
 }
 
 // Is an item below the one in the first 24 bytes of a part; a part that is shorter is 0.
+#[inline(always)]
 pub fn below(w: &[u8], i: Item) -> bool
     ensures { result ≡ nat_lt (item_of i) (read_at w.now 24 0) }
 {
@@ -28,13 +30,18 @@ pub fn below(w: &[u8], i: Item) -> bool
 }
 
 // Is a replica the one in the first 16 bytes of a part; a part that is shorter is 0.
+#[inline(always)]
 pub fn is_replica(w: &[u8], p: Replica) -> bool
     ensures { result ≡ nat_eq (read_at w.now 16 0) (replica_of p) }
 {
     if w.len() < 16 {
         return Replica { high: 0, low: 0 } == p;
     }
-    Replica::from_bytes(w) == p
+    // word by word: most ids differ in the first one
+    if first::<8>(w) != p.high {
+        return false;
+    }
+    first::<8>(&w[8..8 + 8]) == p.low
 }
 
 // A replica id, and an item id, from `at` on, where there is room for all of it.

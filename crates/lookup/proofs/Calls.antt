@@ -35,10 +35,8 @@ use Rattle.layout.proofs.Within.{within_permitted, basic_within, few_replicas}
 use Rattle.ticks.specs.Meaning.{known, contains}
 use Rattle.ticks.specs.MethodLookup.{first_index}
 use Rattle.ticks.specs.Contain.{Contain, contain_of}
-use Rattle.ticks.specs.Contain as C
 use Rattle.ticks.specs.Lead.{Lead, lead_given}
 use Rattle.ticks.specs.Lead as D
-use Rattle.ticks.specs.Answers.{ProperIds}
 use Rattle.ticks.specs.Calls.{contain_found, contain_answer, lead_answer}
 use Rattle.ticks.proofs.Lists.{less, same, more, order}
 use Rattle.ticks.proofs.Answers.{sub-ahead, sub-behind}
@@ -84,15 +82,14 @@ unfolding opened_of
 opened_refusal e = refl
 
 -- the same of what the check finds
-pub counts_opened :
-    (k : Checked) (n : Counts) (c : Cursor)
-    → checked_of (Ok n) ≡ k
-    → c ≡ start_at (in_four n.r) (in_four n.v) (in_four n.e) (in_four n.g)
-    → opened_of (Ok (view (in_four n.r) c)) ≡ open_of k
-counts_opened k n c is from = opened_view _ ∙ opened_at k n.r n.v n.e n.g c (sym is ∙ checked_counts n) from
+module _ (c : Result Counts Refusal) where
+  pub counts_opened : (n : Counts) (d : Cursor) → c ≡ Ok n → d ≡ start_at (in_four n.r) (in_four n.v) (in_four n.e) (in_four n.g)
+      → opened_of (Ok (view (in_four n.r) d)) ≡ open_of (checked_of c)
+  counts_opened n d is from =
+      opened_view _ ∙ opened_at (checked_of c) n.r n.v n.e n.g d (ap checked_of is ∙ checked_counts n) from
 
-pub fault_opened : (k : Checked) (e : Refusal) → checked_of (Err e) ≡ k → opened_of (Err e) ≡ open_of k
-fault_opened k e is = opened_refusal e ∙ opened_refused k (number e) (sym is ∙ checked_refusal e)
+  pub fault_opened : (e : Refusal) → c ≡ Err e → opened_of (Err e) ≡ open_of (checked_of c)
+  fault_opened e is = opened_refusal e ∙ opened_refused (checked_of c) (number e) (ap checked_of is ∙ checked_refusal e)
 
 module _ (R : Rules) (permitted : Permitted R.limits) (s : List ℕ) where
   open_cases : (k : Checked) → Bytes s → k ≡ checked_by R s → (w : View) → open_of k ≡ O.At w → Opens R s w.r w.start

@@ -6,6 +6,7 @@
 
 ghost use Rattle.std.specs.Prelude.{◌≡◌, ◌+◌, ◌*◌, ◌^◌, ◌≤◌, ◌<◌, pos, ◌-ℤ◌, length};
 ghost use Rattle.codec.specs.Ids.{item_of, replica_of};
+ghost use Rattle.layout.specs.Checked.{checked_of};
 ghost use Rattle.layout.specs.Knowledge.{basic};
 ghost use Rattle.layout.specs.Permitted.{rules_within};
 ghost use Rattle.layout.specs.Parse.{checked_by};
@@ -17,7 +18,7 @@ ghost use Rattle.lookup.specs.Opened.{opened_of};
 ghost use Rattle.lookup.specs.Method.{start_at, open_of, Open, Ticked};
 
 use codec::{Item, Refusal, Replica};
-use layout::{Limits, ReplicaKey, VectorIndex};
+use layout::{Counts, Limits, ReplicaKey, VectorIndex};
 
 // A place among the ranges of a knowledge, for items in rising order: it only moves forward.
 #[derive(Clone, Copy)]
@@ -167,6 +168,7 @@ pub fn tick_at(s: &[u8], vector: usize, key: ReplicaKey) -> u64
 }
 
 // The tick that an opened knowledge knows of an item and a replica.
+#[inline(always)]
 pub fn known_tick(s: &[u8], v: View, i: Item, p: Replica) -> u64
     ensures { result ≡ tick_from s.now v.r v.start (item_of i) (replica_of p) }
 {
@@ -189,13 +191,12 @@ pub fn start(r: u32, v: u32, e: u32, g: u32) -> Cursor
     }
 }
 
-// Checks the bytes of a knowledge with limits of the caller's, the most replicas and the most ranges, each clamped to 1 to its
-// largest: what lookup goes on from. Counts are numbers of four bytes, and those of an accepted knowledge always fit. The check takes
-// the slice anew, so that the caller's own need not lie in memory.
-pub fn open_within(s: &[u8], limits: Limits) -> Result<View, Refusal>
-    ensures { opened_of result ≡ open_of (checked_by (rules_within limits.replicas limits.ranges) s.now) }
+// What the check answered, for lookup. Counts are numbers of four bytes, and those of an accepted knowledge always fit.
+#[inline(always)]
+pub fn from_check(c: Result<Counts, Refusal>) -> Result<View, Refusal>
+    ensures { opened_of result ≡ open_of (checked_of c) }
 {
-    let n = check_knowledge::check_within(&s[..], limits.replicas, limits.ranges)?;
+    let n = c?;
     let r = (n.r % 4294967296) as u32;
     let v = (n.v % 4294967296) as u32;
     let e = (n.e % 4294967296) as u32;
@@ -204,9 +205,18 @@ pub fn open_within(s: &[u8], limits: Limits) -> Result<View, Refusal>
     Ok(View { r, start })
 }
 
+// Checks the bytes of a knowledge with limits of the caller's, the most replicas and the most ranges, each clamped to 1 to its
+// largest: what lookup goes on from. The check takes the slice anew, so that the caller's own need not lie in memory.
+pub fn open_within(s: &[u8], limits: Limits) -> Result<View, Refusal>
+    ensures { opened_of result ≡ open_of (checked_by (rules_within limits.replicas limits.ranges) s.now) }
+{
+    from_check(check_knowledge::check_within(&s[..], limits.replicas, limits.ranges))
+}
+
 // ---- a span
 
 // Whether two ids are no span: one is not 24 bytes long, or the first is above the last.
+#[inline(always)]
 pub fn wrong_span(first: &[u8], last: &[u8]) -> bool
     ensures { result ≡ wrong_span first.now last.now }
 {
@@ -219,6 +229,7 @@ pub fn wrong_span(first: &[u8], last: &[u8]) -> bool
 // ---- the calls
 
 // The tick that an accepted knowledge knows of an item and a replica, each given as bytes.
+#[inline(always)]
 fn tick_of(s: &[u8], v: View, item: &[u8], replica: &[u8]) -> Result<u64, Refusal>
     requires { Open s.now v.r v.start }
     ensures { Ticked s.now item.now replica.now result }

@@ -64,6 +64,24 @@ module _ (out ids bounds t cols firsts numbers : List ℕ) where
   unfolding finished
   finished_refused n e p f = sym (ap (finished out ids bounds t cols firsts numbers n) f)
 
+  -- what the code gives: for what is refused, for what has no room in the buffer, and for what is written
+  module _ (n : ℕ) (p : Result Sizes Refusal) where
+    abbrev Ends : List ℕ → Result ℕ Refusal → Type 0
+    Ends u r = end_of u (answer_of r) ≡ finished out ids bounds t cols firsts numbers n p
+
+    pub ends_refused : (e : Refusal) → p ≡ Err e → Ends out (Err e)
+    unfolding answer_of
+    ends_refused e f = finished_refused n e p f
+
+    pub ends_short : (z : Sizes) → p ≡ Ok z → length out < length_of z → Ends out (Err BufferTooShort)
+    unfolding answer_of number
+    ends_short z f l = finished_ready z n p _ (end_short z n l) f
+
+    pub ends_written : (z : Sizes) → p ≡ Ok z → (u : List ℕ) (m : ℕ) → length_of z ≤ length out
+        → u ≡ laid out 0 (page_pieces z ids bounds t n cols firsts numbers) → m ≡ length_of z → Ends u (Ok m)
+    unfolding answer_of
+    ends_written z f u m l e g = finished_ready z n p _ (end_written z n u m l e g) f
+
 -- and it is as the reply says
 module _ (reply : Reply) (out ids bounds t cols firsts numbers : List ℕ) where
   abbrev Fine : End → Type 0
@@ -95,28 +113,6 @@ module _ (L : Limits) (q : Filled) (out ids bounds t : List ℕ) where
       → w ≡ finished out ids bounds t c' f' x' q.rows p → w ≡ planned_end (planned L q ids t c f x) q.rows out ids bounds t
   unfolding planned_end
   end_planned c f x c' f' x' p w e g = g ∙ ap (λ y. planned_end y q.rows out ids bounds t) e
-
-  -- for a plan that is refused, for one with no room in the buffer, and for one that is written
-  module _ (c f x c' f' x' : List ℕ) (p : Result Sizes Refusal) (made : plan_of c' f' x' p ≡ planned L q ids t c f x) where
-    abbrev Ends : List ℕ → Result ℕ Refusal → Type 0
-    Ends u r = end_of u (answer_of r) ≡ planned_end (planned L q ids t c f x) q.rows out ids bounds t
-
-    pub planned_refused : (e : Refusal) → p ≡ Err e → Ends out (Err e)
-    unfolding answer_of
-    planned_refused e g = end_planned c f x c' f' x' p _ made (finished_refused out ids bounds t c' f' x' q.rows e p g)
-
-    pub planned_short : (z : Sizes) → p ≡ Ok z → length out < length_of z → Ends out (Err BufferTooShort)
-    unfolding answer_of number
-    planned_short z g l =
-        end_planned c f x c' f' x' p _ made
-        (finished_ready out ids bounds t c' f' x' z q.rows p _ (end_short out ids bounds t c' f' x' z q.rows l) g)
-
-    pub planned_written : (z : Sizes) → p ≡ Ok z → (u : List ℕ) (m : ℕ) → length_of z ≤ length out
-        → u ≡ laid out 0 (page_pieces z ids bounds t q.rows c' f' x') → m ≡ length_of z → Ends u (Ok m)
-    unfolding answer_of
-    planned_written z g u m l e h =
-        end_planned c f x c' f' x' p _ made
-        (finished_ready out ids bounds t c' f' x' z q.rows p _ (end_written out ids bounds t c' f' x' z q.rows u m l e h) g)
 
   pub end_few : (w : End) → q.rows < few → w ≡ blank_end few L q out ids bounds t → w ≡ concluded L q out ids bounds t
   unfolding concluded

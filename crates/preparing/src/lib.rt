@@ -8,7 +8,7 @@ ghost use Rattle.layout.specs.Permitted.{rules_within};
 ghost use Rattle.tables.specs.MethodWords.{most_rows};
 ghost use Rattle.codec.specs.Answer.{answer_of};
 ghost use Rattle.codec.specs.MethodEnded.{end_of};
-ghost use Rattle.preparing.specs.MethodPrepared.{judged, blank_end, concluded};
+ghost use Rattle.preparing.specs.MethodPrepared.{judged, plan_of, planned, finished, blank_end, concluded};
 
 use codec::Refusal;
 use layout::Limits;
@@ -16,7 +16,7 @@ use sampling::Filled;
 use tables::Sizes;
 
 // Rows of scratch for a plan whose rows are few; the others take `tables::ROWS`. The plan of a table of `n` rows takes STRIDE, n and n numbers.
-const FEW: usize = 12;
+pub const FEW: usize = 12;
 
 // The sizes of what is planned, where they are within the limits: each limit is clamped to 1 to its largest.
 #[tactic(auto, unfolding(crate::specs::MethodPrepared::judged))]
@@ -30,6 +30,52 @@ fn judge(z: Sizes, limits: Limits) -> Result<Sizes, Refusal>
         return Err(Refusal::TooManyRanges);
     }
     Ok(z)
+}
+
+// Plans what is written for a table, and judges it by the limits: each is clamped to 1 to its largest. A table that is not filled, or
+// lists without room for its plan, get sizes of 0.
+#[inline(always)]
+pub fn prepare(
+    q: Filled,
+    limits: Limits,
+    ids: &[u64],
+    t: &[u64],
+    cols: &mut [u32],
+    firsts: &mut [u32],
+    numbers: &mut [u32],
+) -> Result<Sizes, Refusal>
+    ensures { plan_of cols.new firsts.new numbers.new result
+        ≡ planned (rules_within limits.replicas limits.ranges).limits q ids.now t.now
+        cols.old firsts.old numbers.old }
+{
+    let z = plan::plan(ids, t, q.columns, q.rows, cols, firsts, numbers);
+    judge(z, limits)
+}
+
+// How a call ends: with a refusal, or with what was made ready of so many rows, which is written where the buffer has room. Gives how
+// many bytes were written.
+#[inline(always)]
+pub fn finish(
+    out: &mut [u8],
+    p: Result<Sizes, Refusal>,
+    rows: u32,
+    ids: &[u64],
+    bounds: &[u64],
+    t: &[u64],
+    cols: &[u32],
+    firsts: &[u32],
+    numbers: &[u32],
+) -> Result<usize, Refusal>
+    ensures { end_of out.new (answer_of result) ≡ finished out.old ids.now bounds.now t.now
+        cols.now firsts.now numbers.now rows p }
+{
+    let z = p?;
+    let n = writer::length(z);
+    if out.len() < n {
+        return Err(Refusal::BufferTooShort);
+    }
+    writer::write(out, 0, z, ids, bounds, t, rows, cols, firsts, numbers);
+    Ok(n)
 }
 
 // Plans what is written for a table, judges it by the limits, and writes it where the buffer has room. The plan is in lists for the
@@ -49,22 +95,8 @@ fn conclude_in<const N: usize>(
     let mut cols = [0u32; tables::STRIDE];
     let mut firsts = [0u32; N];
     let mut numbers = [0u32; N];
-    let z = plan::plan(
-        ids,
-        t,
-        q.columns,
-        q.rows,
-        &mut cols,
-        &mut firsts,
-        &mut numbers,
-    );
-    let z = judge(z, limits)?;
-    let n = writer::length(z);
-    if out.len() < n {
-        return Err(Refusal::BufferTooShort);
-    }
-    writer::write(out, 0, z, ids, bounds, t, q.rows, &cols, &firsts, &numbers);
-    Ok(n)
+    let p = prepare(q, limits, ids, t, &mut cols, &mut firsts, &mut numbers);
+    finish(out, p, q.rows, ids, bounds, t, &cols, &firsts, &numbers)
 }
 
 // Plans what is written for a table, judges it by the limits, and writes it where the buffer has room. Gives how many bytes were written.

@@ -48,10 +48,10 @@ pub fn fits(s: &[u8], v: View, m: usize, n: usize, ids: usize, bounds: usize, t:
 // ---- cells
 
 // The column of a key, 0 where it has none.
-fn column_of(keys: &[u32], key: ReplicaKey) -> u32
-    ensures { result ≡ get_or keys.now key.0 0 }
+fn column_of(keys: &[u32], key: ReplicaKey) -> ReplicaKey
+    ensures { result.0 ≡ get_or keys.now key.0 0 }
 {
-    keys.get(key.0 as usize).copied().unwrap_or(0)
+    ReplicaKey(keys.get(key.0 as usize).copied().unwrap_or(0))
 }
 
 // Raises the tick in a row, in the column of a key, to the larger, where there is such a cell.
@@ -59,7 +59,7 @@ fn raise_cell(keys: &[u32], t: &mut [u64], k: u32, key: ReplicaKey, tick: u64)
     ensures { t.new ≡ raised_in keys.now t.old k key.0 tick }
 {
     let column = column_of(keys, key);
-    let i = tables::STRIDE * (k as usize) + column as usize;
+    let i = tables::STRIDE * (k as usize) + column.0 as usize;
     if i < t.len() {
         t[i] = codec::max(t[i], tick);
     }

@@ -1,12 +1,7 @@
--- `lookup::open_within` meets its contract, in each of the check's two answers.
-use Rattle.std.proofs.lemmas.Result.{err_from_is_err_and}
-use Rattle.lookup.proofs.Calls.{counts_opened, fault_opened}
+-- `lookup::open_within` meets its contract: it opens with what the check answers.
+use Rattle.std.proofs.Common.{◌∙◌, ap}
+use Rattle.lookup.specs.Method.{open_of}
 use Rattle.lookup.proofs.open_within.Goals as goal
 
-pub returns-in_err-n : goal.returns-in_err-n
-returns-in_err-n c =
-    let p = err_from_is_err_and c.from_residual.result c.from_residual.ensures.1 in
-    rw (p.1, p.2) (fault_opened _ _ c.in_err-n.ensures)
-
 pub returns : goal.returns
-returns c = counts_opened _ c.in_ok-n.n _ c.in_ok-n.ensures c.start-start.ensures
+returns c = c.from_check.ensures ∙ ap open_of c.check_within.ensures
