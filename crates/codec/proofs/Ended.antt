@@ -1,11 +1,30 @@
--- A call that writes has ended as its reply says: how that is shown in each case of the reply, and what it says in each.
+-- A call that writes has ended as its reply says: how that is shown in each case of the reply, and what it says in each. And what the answer is
+-- of a `Result` whose errors have numbers, by its cases.
 use Rattle.std.proofs.Common.{◌≡◌, ℕ, ◌<◌, ◌≤◌, Bool, true, false, leb, List, length, sym, refl, ◌∙◌, leb-false, leb-true}
-use Rattle.codec.specs.Answer.{Answer}
+use Rattle.std.specs.Prelude.{Result, Ok, Err}
+use Rattle.codec.specs.declared.Refusal.{Refusal}
+use Rattle.codec.specs.Refusal.{number}
+use Rattle.codec.specs.Answer.{Answer, answer_of}
 use Rattle.codec.specs.Answer.{Written, Refused}
 use Rattle.codec.specs.Reply.{Reply, gives, refuses}
 use Rattle.codec.specs.Part.{placed}
-use Rattle.codec.specs.MethodEnded.{Ended}
+use Rattle.codec.specs.MethodEnded.{Ended, answer_under}
 use Rattle.codec.proofs.Calls.{refused_answer, refused_after, short_answer, short_after, written_answer, written_after}
+
+module _ {E : Type 0} (number_of : E → ℕ) where
+  pub written_under : (n : ℕ) → answer_under number_of (Ok n) ≡ Written n
+  unfolding answer_under
+  written_under n = refl
+
+  pub refused_under : (e : E) → answer_under number_of (Err e) ≡ Refused (number_of e)
+  unfolding answer_under
+  refused_under e = refl
+
+-- under the numbers of the refusals it is the answer of the call
+pub under_refusals : (r : Result ℕ Refusal) → answer_under number r ≡ answer_of r
+unfolding answer_of answer_under
+under_refusals (Ok n) = refl
+under_refusals (Err e) = refl
 
 module _ (reply : Reply) (out : List ℕ) where
   pub ended_refused : (n : ℕ) → reply ≡ refuses n → Ended reply out out (Refused n)

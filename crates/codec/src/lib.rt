@@ -3,7 +3,8 @@
 // Every public function is total: a number of which a byte is missing is read as 0, and what has no room is not written at all.
 #![tactic(auto)]
 
-ghost use Rattle.std.specs.Prelude.{◌≡◌, ◌+◌, ◌^◌, ◌<◌, ◌≤◌, min, max, true, false, length};
+ghost use Rattle.std.proofs.Common.{ap};
+ghost use Rattle.std.specs.Prelude.{ℕ, ◌≡◌, ◌+◌, ◌^◌, ◌<◌, ◌≤◌, min, max, true, false, length};
 ghost use Rattle.codec.specs.Number.{be_at};
 ghost use Rattle.codec.specs.Total.{read_at, clamp};
 ghost use Rattle.codec.specs.Ids.{InWords, item_read, replica_read};
@@ -67,6 +68,33 @@ impl From<Refusal> for u32 {
     fn from(e: Refusal) -> u32 {
         e as u32
     }
+}
+
+// What a function may hand on as a refusal: a `Refusal`, or a number alone, whichever it is.
+pub trait Numbered: From<Refusal> + Into<u32> + Copy {
+    ghost number_of: { Self → ℕ };
+
+    // a refusal keeps its number
+    ghost of_refusal: { (r : _) (e : Self) → Self.from_gives r e → number_of e ≡ number r };
+
+    // and the number is what it says
+    ghost as_number: { (e : Self) (n : ℕ) → Self.converts e n → n ≡ number_of e };
+}
+
+impl Numbered for Refusal {
+    ghost number_of = { number };
+
+    ghost of_refusal = { λ r e g. ap number g };
+
+    ghost as_number = { λ e n g. g };
+}
+
+impl Numbered for u32 {
+    ghost number_of = { λ n. n };
+
+    ghost of_refusal = { λ r e g. g };
+
+    ghost as_number = { λ e n g. g };
 }
 
 // Do n bytes from `at` on go past the end of a slice.

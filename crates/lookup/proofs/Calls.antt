@@ -29,7 +29,6 @@ use Rattle.layout.specs.Permitted.{Permitted, rules_within}
 use Rattle.layout.specs.Decode.{decode}
 use Rattle.layout.specs.MethodPlaces.{vectors_place, ranges_place}
 use Rattle.layout.specs.Parse.{checked_by}
-use Rattle.layout.proofs.Told.{checked_counts, checked_refusal}
 use Rattle.layout.proofs.Places.{Reading, places}
 use Rattle.layout.proofs.Within.{within_permitted, basic_within, few_replicas}
 use Rattle.ticks.specs.Meaning.{known, contains}
@@ -46,7 +45,7 @@ use Rattle.lookup.specs.declared.Cursor.{Cursor}
 use Rattle.lookup.specs.declared.View.{View}
 use Rattle.lookup.specs.Opened.{opened_of}
 use Rattle.lookup.specs.Opened as O
-use Rattle.lookup.specs.Method.{start_at, tick_from, in_four, view, open_of, Opens, Open, Known, Ticked}
+use Rattle.lookup.specs.Method.{start_at, tick_from, in_four, view, open_of, checked_under, opened_under, Opens, Open, Known, Ticked}
 use Rattle.lookup.proofs.Loops.{cursor}
 use Rattle.lookup.proofs.Leaf.{opens_reading, leaf_known, known_small}
 
@@ -81,15 +80,27 @@ pub opened_refusal : (e : Refusal) → opened_of (Err e) ≡ O.Refused (number e
 unfolding opened_of
 opened_refusal e = refl
 
--- the same of what the check finds
-module _ (c : Result Counts Refusal) where
+-- the same of what the check finds, whatever its errors are and whichever numbers they have
+module _ {E : Type 0} (c : Result Counts E) (number_of : E → ℕ) where
   pub counts_opened : (n : Counts) (d : Cursor) → c ≡ Ok n → d ≡ start_at (in_four n.r) (in_four n.v) (in_four n.e) (in_four n.g)
-      → opened_of (Ok (view (in_four n.r) d)) ≡ open_of (checked_of c)
-  counts_opened n d is from =
-      opened_view _ ∙ opened_at (checked_of c) n.r n.v n.e n.g d (ap checked_of is ∙ checked_counts n) from
+      → opened_under number_of (Ok (view (in_four n.r) d)) ≡ open_of (checked_under number_of c)
+  unfolding opened_under checked_under
+  counts_opened n d is from = opened_at (checked_under number_of c) n.r n.v n.e n.g d (ap (checked_under number_of) is) from
 
-  pub fault_opened : (e : Refusal) → c ≡ Err e → opened_of (Err e) ≡ open_of (checked_of c)
-  fault_opened e is = opened_refusal e ∙ opened_refused (checked_of c) (number e) (ap checked_of is ∙ checked_refusal e)
+  pub fault_opened : (e : E) → c ≡ Err e → opened_under number_of (Err e) ≡ open_of (checked_under number_of c)
+  unfolding opened_under checked_under
+  fault_opened e is = opened_refused (checked_under number_of c) (number_of e) (ap (checked_under number_of) is)
+
+-- and under the numbers of the refusals it is what it is in a call
+pub checked_refusals : (c : Result Counts Refusal) → checked_under number c ≡ checked_of c
+unfolding checked_under checked_of
+checked_refusals (Ok n) = refl
+checked_refusals (Err e) = refl
+
+pub opened_refusals : (v : Result View Refusal) → opened_under number v ≡ opened_of v
+unfolding opened_under opened_of
+opened_refusals (Ok v) = refl
+opened_refusals (Err e) = refl
 
 module _ (R : Rules) (permitted : Permitted R.limits) (s : List ℕ) where
   open_cases : (k : Checked) → Bytes s → k ≡ checked_by R s → (w : View) → open_of k ≡ O.At w → Opens R s w.r w.start

@@ -3,6 +3,7 @@
 -- no elements, and no range is passed.
 use Rattle.std.specs.Prelude.{ℕ, zero, suc, ◌+◌, ◌-◌, ◌*◌, ◌%◌, ◌^◌, ◌≤◌, ◌<◌, ◌≡◌, true, false, List, eqb, ltb, leb, length, Result, Ok, Err}
 use Rattle.codec.specs.Number.{Bytes, be_at}
+use Rattle.layout.specs.declared.Counts.{Counts}
 use Rattle.layout.specs.declared.ReplicaKey.{ReplicaKey}
 use Rattle.layout.specs.declared.VectorIndex.{VectorIndex}
 use Rattle.layout.specs.Checked.{Checked}
@@ -123,6 +124,15 @@ view r c = record { r = r; start = c }
 unfoldable pub open_of : Checked → Opened
 open_of (A.Accepted r v e g) = O.At (view (in_four r) (start_at (in_four r) (in_four v) (in_four e) (in_four g)))
 open_of (A.Refused n) = O.Refused n
+
+-- what the check has answered, and what it comes to, where the errors have numbers; where they are refusals, `checked_of` and `opened_of`
+unfoldable pub checked_under : {E : Type 0} → (E → ℕ) → Result Counts E → Checked
+checked_under number_of (Ok n) = A.Accepted n.r n.v n.e n.g
+checked_under number_of (Err e) = A.Refused (number_of e)
+
+unfoldable pub opened_under : {E : Type 0} → (E → ℕ) → Result View E → Opened
+opened_under number_of (Ok v) = O.At v
+opened_under number_of (Err e) = O.Refused (number_of e)
 
 -- accepted bytes of r replicas, and the cursor before any of their ranges
 pub record Opens (R : Rules) (s : List ℕ) (r : ℕ) (c : Cursor) : Type 0 where

@@ -4,9 +4,8 @@
 // accepts, with the sizes that it answers, they give the known tick.
 #![tactic(auto)]
 
-ghost use Rattle.std.specs.Prelude.{◌≡◌, ◌+◌, ◌*◌, ◌^◌, ◌≤◌, ◌<◌, pos, ◌-ℤ◌, length};
+ghost use Rattle.std.specs.Prelude.{ℕ, ◌≡◌, ◌+◌, ◌*◌, ◌^◌, ◌≤◌, ◌<◌, pos, ◌-ℤ◌, length};
 ghost use Rattle.codec.specs.Ids.{item_of, replica_of};
-ghost use Rattle.layout.specs.Checked.{checked_of};
 ghost use Rattle.layout.specs.Knowledge.{basic};
 ghost use Rattle.layout.specs.Permitted.{rules_within};
 ghost use Rattle.layout.specs.Parse.{checked_by};
@@ -15,7 +14,7 @@ ghost use Rattle.ticks.specs.Lead.{lead_given};
 ghost use Rattle.ticks.specs.Calls.{contain_answer, lead_answer, wrong_span};
 ghost use Rattle.lookup.specs.Method.{key_at, stepped, vector_from, passed, advanced, There, tick_here, tick_of, tick_from};
 ghost use Rattle.lookup.specs.Opened.{opened_of};
-ghost use Rattle.lookup.specs.Method.{start_at, open_of, Open, Ticked};
+ghost use Rattle.lookup.specs.Method.{start_at, open_of, checked_under, opened_under, Open, Ticked};
 
 use codec::{Item, Refusal, Replica};
 use layout::{Counts, Limits, ReplicaKey, VectorIndex};
@@ -191,10 +190,11 @@ pub fn start(r: u32, v: u32, e: u32, g: u32) -> Cursor
     }
 }
 
-// What the check answered, for lookup. Counts are numbers of four bytes, and those of an accepted knowledge always fit.
+// What the check answered, for lookup; an error is handed on, of whatever type it is and whichever number it has. Counts are numbers of
+// four bytes, and those of an accepted knowledge always fit.
 #[inline(always)]
-pub fn from_check(c: Result<Counts, Refusal>) -> Result<View, Refusal>
-    ensures { opened_of result ≡ open_of (checked_of c) }
+pub fn from_check<E>(c: Result<Counts, E>) -> Result<View, E>
+    ensures { (number_of : E → ℕ) → opened_under number_of result ≡ open_of (checked_under number_of c) }
 {
     let n = c?;
     let r = (n.r % 4294967296) as u32;

@@ -19,9 +19,8 @@ use Rattle.tables.specs.MethodPieces.{laid, page_pieces}
 use Rattle.sampling.specs.declared.Filled.{Filled}
 use Rattle.std.specs.Prelude.{Result, Ok, Err}
 use Rattle.codec.specs.declared.Refusal.{Refusal}
-use Rattle.codec.specs.declared.Refusal.TheVariants.{BufferTooShort}
 use Rattle.codec.specs.Refusal.{number}
-use Rattle.codec.specs.MethodEnded.{End, end_of, Ended}
+use Rattle.codec.specs.MethodEnded.{End, end_of, Ended, answer_under}
 use Rattle.preparing.specs.MethodPrepared.{few, Plan, plan_of, planned, written_end, finished}
 use Rattle.codec.proofs.Ended.{ended_refused}
 use Rattle.preparing.specs.MethodPrepared.{planned_end, blank_end, concluded, Holds, Prepares}
@@ -54,33 +53,35 @@ module _ (out ids bounds t cols firsts numbers : List ℕ) where
     end_written u m l e f =
         ap₂ (λ v k. end_of v (A.Written k)) e f ∙ rw (le-ltb (length out) (length_of z) l, written_end)
 
-  pub finished_ready : (z : Sizes) (n : ℕ) (p : Result Sizes Refusal) (w : End) → w ≡ written_end out ids bounds t cols firsts numbers z n
-      → p ≡ Ok z → w ≡ finished out ids bounds t cols firsts numbers n p
-  unfolding finished
-  finished_ready z n p w e f = e ∙ sym (ap (finished out ids bounds t cols firsts numbers n) f)
+  -- whatever the errors are, of which each has a number
+  module _ {E : Type 0} (number_of : E → ℕ) where
+    pub finished_ready : (z : Sizes) (n : ℕ) (p : Result Sizes E) (w : End) → w ≡ written_end out ids bounds t cols firsts numbers z n
+        → p ≡ Ok z → w ≡ finished number_of out ids bounds t cols firsts numbers n p
+    unfolding finished
+    finished_ready z n p w e f = e ∙ sym (ap (finished number_of out ids bounds t cols firsts numbers n) f)
 
-  pub finished_refused : (n : ℕ) (e : Refusal) (p : Result Sizes Refusal) → p ≡ Err e
-      → end_of out (A.Refused (number e)) ≡ finished out ids bounds t cols firsts numbers n p
-  unfolding finished
-  finished_refused n e p f = sym (ap (finished out ids bounds t cols firsts numbers n) f)
+    pub finished_refused : (n : ℕ) (e : E) (p : Result Sizes E) → p ≡ Err e
+        → end_of out (A.Refused (number_of e)) ≡ finished number_of out ids bounds t cols firsts numbers n p
+    unfolding finished
+    finished_refused n e p f = sym (ap (finished number_of out ids bounds t cols firsts numbers n) f)
 
-  -- what the code gives: for what is refused, for what has no room in the buffer, and for what is written
-  module _ (n : ℕ) (p : Result Sizes Refusal) where
-    abbrev Ends : List ℕ → Result ℕ Refusal → Type 0
-    Ends u r = end_of u (answer_of r) ≡ finished out ids bounds t cols firsts numbers n p
+    -- what the code gives: for what is refused, for what has no room in the buffer, and for what is written
+    module _ (n : ℕ) (p : Result Sizes E) where
+      abbrev Ends : List ℕ → Result ℕ E → Type 0
+      Ends u r = end_of u (answer_under number_of r) ≡ finished number_of out ids bounds t cols firsts numbers n p
 
-    pub ends_refused : (e : Refusal) → p ≡ Err e → Ends out (Err e)
-    unfolding answer_of
-    ends_refused e f = finished_refused n e p f
+      pub ends_refused : (e : E) → p ≡ Err e → Ends out (Err e)
+      unfolding answer_under
+      ends_refused e f = finished_refused n e p f
 
-    pub ends_short : (z : Sizes) → p ≡ Ok z → length out < length_of z → Ends out (Err BufferTooShort)
-    unfolding answer_of number
-    ends_short z f l = finished_ready z n p _ (end_short z n l) f
+      pub ends_short : (z : Sizes) → p ≡ Ok z → length out < length_of z → (e : E) → number_of e ≡ 14 → Ends out (Err e)
+      unfolding answer_under
+      ends_short z f l e is = ap (λ k. end_of out (A.Refused k)) is ∙ finished_ready z n p _ (end_short z n l) f
 
-    pub ends_written : (z : Sizes) → p ≡ Ok z → (u : List ℕ) (m : ℕ) → length_of z ≤ length out
-        → u ≡ laid out 0 (page_pieces z ids bounds t n cols firsts numbers) → m ≡ length_of z → Ends u (Ok m)
-    unfolding answer_of
-    ends_written z f u m l e g = finished_ready z n p _ (end_written z n u m l e g) f
+      pub ends_written : (z : Sizes) → p ≡ Ok z → (u : List ℕ) (m : ℕ) → length_of z ≤ length out
+          → u ≡ laid out 0 (page_pieces z ids bounds t n cols firsts numbers) → m ≡ length_of z → Ends u (Ok m)
+      unfolding answer_under
+      ends_written z f u m l e g = finished_ready z n p _ (end_written z n u m l e g) f
 
 -- and it is as the reply says
 module _ (reply : Reply) (out ids bounds t cols firsts numbers : List ℕ) where
@@ -102,7 +103,7 @@ module _ (reply : Reply) (out ids bounds t cols firsts numbers : List ℕ) where
           (ended_written reply out ids bounds t cols firsts numbers z n h u (length_of z) refl l refl)
 
   fine_finished : (n : ℕ) (p : Result Sizes Refusal) → Prepares reply ids bounds t cols firsts numbers n p
-      → Fine (finished out ids bounds t cols firsts numbers n p)
+      → Fine (finished number out ids bounds t cols firsts numbers n p)
   unfolding finished
   fine_finished n (Ok z) h = fine_written z n h.is
   fine_finished n (Err e) h = ended_refused reply out (number e) h.is
@@ -110,7 +111,7 @@ module _ (reply : Reply) (out ids bounds t cols firsts numbers : List ℕ) where
 -- the end after a plan
 module _ (L : Limits) (q : Filled) (out ids bounds t : List ℕ) where
   pub end_planned : (c f x c' f' x' : List ℕ) (p : Result Sizes Refusal) (w : End) → plan_of c' f' x' p ≡ planned L q ids t c f x
-      → w ≡ finished out ids bounds t c' f' x' q.rows p → w ≡ planned_end (planned L q ids t c f x) q.rows out ids bounds t
+      → w ≡ finished number out ids bounds t c' f' x' q.rows p → w ≡ planned_end (planned L q ids t c f x) q.rows out ids bounds t
   unfolding planned_end
   end_planned c f x c' f' x' p w e g = g ∙ ap (λ y. planned_end y q.rows out ids bounds t) e
 

@@ -65,14 +65,14 @@ written_end out ids bounds t cols firsts numbers z n =
       | false ↦ end_of (laid out 0 (page_pieces z ids bounds t n cols firsts numbers)) (A.Written (length_of z))
     ]
 
--- with what was prepared for n rows: its refusal and the buffer as it was, or that
-unfoldable pub finished : List ℕ → List ℕ → List ℕ → List ℕ → List ℕ → List ℕ → List ℕ → ℕ → Result Sizes Refusal → End
-finished out ids bounds t cols firsts numbers n (Ok z) = written_end out ids bounds t cols firsts numbers z n
-finished out ids bounds t cols firsts numbers n (Err e) = end_of out (A.Refused (number e))
+-- with what was prepared for n rows: the number of its error and the buffer as it was, or that
+unfoldable pub finished : {E : Type 0} → (E → ℕ) → List ℕ → List ℕ → List ℕ → List ℕ → List ℕ → List ℕ → List ℕ → ℕ → Result Sizes E → End
+finished number_of out ids bounds t cols firsts numbers n (Ok z) = written_end out ids bounds t cols firsts numbers z n
+finished number_of out ids bounds t cols firsts numbers n (Err e) = end_of out (A.Refused (number_of e))
 
 -- with what planning has left for n rows
 unfoldable pub planned_end : Plan → ℕ → List ℕ → List ℕ → List ℕ → List ℕ → End
-planned_end w n out ids bounds t = finished out ids bounds t w.cols w.firsts w.numbers n w.prepared
+planned_end w n out ids bounds t = finished number out ids bounds t w.cols w.firsts w.numbers n w.prepared
 
 -- with a plan in lists of zeros, for n rows
 abbrev pub blank_end : ℕ → Limits → Filled → List ℕ → List ℕ → List ℕ → List ℕ → End

@@ -7,10 +7,10 @@ ghost use Rattle.std.specs.Prelude.{◌≡◌, ◌≤◌};
 ghost use Rattle.layout.specs.Permitted.{rules_within};
 ghost use Rattle.tables.specs.MethodWords.{most_rows};
 ghost use Rattle.codec.specs.Answer.{answer_of};
-ghost use Rattle.codec.specs.MethodEnded.{end_of};
+ghost use Rattle.codec.specs.MethodEnded.{end_of, answer_under};
 ghost use Rattle.preparing.specs.MethodPrepared.{judged, plan_of, planned, finished, blank_end, concluded};
 
-use codec::Refusal;
+use codec::{Numbered, Refusal};
 use layout::Limits;
 use sampling::Filled;
 use tables::Sizes;
@@ -52,12 +52,12 @@ pub fn prepare(
     judge(z, limits)
 }
 
-// How a call ends: with a refusal, or with what was made ready of so many rows, which is written where the buffer has room. Gives how
-// many bytes were written.
+// How a call ends: with an error, of whatever number, or with what was made ready of so many rows, which is written where the buffer has
+// room. Gives how many bytes were written.
 #[inline(always)]
-pub fn finish(
+pub fn finish<E: Numbered>(
     out: &mut [u8],
-    p: Result<Sizes, Refusal>,
+    p: Result<Sizes, E>,
     rows: u32,
     ids: &[u64],
     bounds: &[u64],
@@ -65,14 +65,14 @@ pub fn finish(
     cols: &[u32],
     firsts: &[u32],
     numbers: &[u32],
-) -> Result<usize, Refusal>
-    ensures { end_of out.new (answer_of result) ≡ finished out.old ids.now bounds.now t.now
+) -> Result<usize, E>
+    ensures { end_of out.new (answer_under E.number_of result) ≡ finished E.number_of out.old ids.now bounds.now t.now
         cols.now firsts.now numbers.now rows p }
 {
     let z = p?;
     let n = writer::length(z);
     if out.len() < n {
-        return Err(Refusal::BufferTooShort);
+        return Err(E::from(Refusal::BufferTooShort));
     }
     writer::write(out, 0, z, ids, bounds, t, rows, cols, firsts, numbers);
     Ok(n)

@@ -16,8 +16,9 @@ use Rattle.codec.specs.declared.Refusal.TheVariants.{BufferTooShort}
 use Rattle.codec.specs.Refusal.{number}
 use Rattle.codec.specs.Reply.{Reply, gives, refuses}
 use Rattle.codec.specs.Part.{placed}
-use Rattle.codec.specs.MethodEnded.{Ended}
-use Rattle.codec.specs.Answer.{Answer}
+use Rattle.std.specs.Prelude.{Result, Ok, Err}
+use Rattle.codec.specs.MethodEnded.{Ended, answer_under}
+use Rattle.codec.specs.Answer.{Answer, answer_of}
 use Rattle.codec.specs.Answer.{Written, Refused}
 use Rattle.codec.proofs.Writing.{placed_in, placed-length}
 use Rattle.codec.proofs.Replies.{fault_first, fault_gives}
@@ -94,15 +95,26 @@ module _ (may : Bool) (room front size : ℕ) where
 
 -- ---- the answer and the buffer, by the knowledge's answer
 
--- a refusal below 14, or not, by its number in the code
-module _ (e : Refusal) (x y : ℕ) (is : x ≡ number e) (short : y ≡ number BufferTooShort) where
-  pub small : x < y → number e < 14
+-- an error below 14, or not, by its number in the code
+module _ (n x y : ℕ) (is : x ≡ n) (short : y ≡ number BufferTooShort) where
+  pub small : x < y → n < 14
   unfolding number
   small h = omega (arith, is, short)
 
-  pub large : y ≤ x → 14 ≤ number e
+  pub large : y ≤ x → 14 ≤ n
   unfolding number
   large h = omega (arith, is, short)
+
+-- what was put around the knowledge is answered as it was, whatever the errors are that the call has: a refusal keeps its number
+module _ {E : Type 0} (number_of : E → ℕ) (p : Result ℕ Refusal) where
+  pub put_handed : (r : Refusal) (q : Result ℕ E) (e : E) → p ≡ Err r → q ≡ Err e → number_of e ≡ number r
+      → answer_under number_of q ≡ answer_of p
+  unfolding answer_under answer_of
+  put_handed r q e is f k = ap (answer_under number_of) f ∙ ap Refused k ∙ sym (ap answer_of is)
+
+  pub put_kept : (n : ℕ) → p ≡ Ok n → answer_under number_of (Ok n) ≡ answer_of p
+  unfolding answer_under answer_of
+  put_kept n is = sym (ap answer_of is)
 
 -- 11 or 12
 answer_own : (may : Bool) (front size n room : ℕ) → n < 14 → Refused n ≡ answer_around may front size (Refused n) room
@@ -121,6 +133,11 @@ module _ (may : Bool) (front size : ℕ) (around : ℕ → List ℕ) (a : Answer
     closed_written e r u f g = rw e (f, g)
 
     module _ (e : a ≡ Refused n) where
+      -- the buffer stays, whichever refusal is answered
+      pub closed_stays : out ≡ after_around front size around a out
+      unfolding after_around
+      closed_stays = sym (ap (λ x. after_around front size around x out) e)
+
       pub closed_fits : may ≡ true → Closed (Refused n) out
       unfolding answer_around after_around
       closed_fits f = rw (e, f) (refl, refl)

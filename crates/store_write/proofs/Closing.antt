@@ -10,7 +10,11 @@ use borrow.Author.Tests.{leb-true, leb-false}
 use Rattle.codec.specs.Number.{Bytes}
 use Rattle.codec.specs.Total.{clamp}
 use Rattle.codec.specs.Part.{placed, part}
-use Rattle.codec.specs.Answer.{Answer}
+use Rattle.std.specs.Prelude.{Result}
+use Rattle.codec.specs.Answer.{Answer, answer_of}
+use Rattle.codec.specs.declared.Refusal.{Refusal}
+use Rattle.codec.specs.Refusal.{number}
+use Rattle.codec.proofs.Ended.{under_refusals}
 use Rattle.codec.proofs.Writing.{placed-length, placed_swap}
 use Rattle.codec.proofs.Total.{clamp_within}
 use Rattle.layout.specs.Knowledge.{Limits, encode}
@@ -25,7 +29,7 @@ use Rattle.replication.proofs.Opening.Calls.{store_result, store_over, store_fit
 use Rattle.replication.proofs.Bytes.Sizes.{recs_size, store_size}
 use Rattle.records_join.specs.MethodJoin.{size_from, join_at, fronted}
 use Rattle.records_join.proofs.Copies.{joined_count, joined_size}
-use Rattle.codec.specs.MethodEnded.{Ended}
+use Rattle.codec.specs.MethodEnded.{Ended, answer_under}
 use Rattle.store_headers.specs.MethodHeaders.{store_head}
 use Rattle.store_headers.proofs.Headers.{store_placed, store_head_length}
 use Rattle.store_write.specs.MethodStoring.{Chosen}
@@ -98,3 +102,14 @@ close_store L st first {own} {a} {most} {s} {other} {picks} {count} {size} {out}
     (omega (arith, store_size st, recs_size st.records, i.sized))
     (λ m there fits. store_written st own s other picks count size first out i.id (i.chosen (leb-true count most m)) there fits)
     i.from i.to i.room.is i.part i.ended i.is r u h
+
+-- the same where its errors are refusals
+pub close_store_refused : (L : Limits) (st : Store) (first : List ℕ) (a r : Result ℕ Refusal) {own most : ℕ} {s other picks : List ℕ}
+    {count size : ℕ} {out : List ℕ} → Inside L st own (answer_of a) most s other picks count size first out → {u : List ℕ}
+    → (answer_under number r ≡ store_answer (answer_under number a) most count size (length out))
+    × (u ≡ store_after (answer_under number a) own s other picks count size out) → Ended (store_reply L st) first u (answer_of r)
+close_store_refused L st first a r {own} {most} {s} {other} {picks} {count} {size} {out} i {u} h =
+    close_store L st first i (
+      sym (under_refusals r) ∙ h.0 ∙ ap (λ x. store_answer x most count size (length out)) (under_refusals a),
+      h.1 ∙ ap (λ x. store_after x own s other picks count size out) (under_refusals a),
+    )

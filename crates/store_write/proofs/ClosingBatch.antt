@@ -8,7 +8,11 @@ use native.Mathlib.Omega.{arith}
 use lib.ListN.{length, take}
 use borrow.Author.Tests.{le-leb}
 use Rattle.codec.specs.Part.{placed, part}
-use Rattle.codec.specs.Answer.{Answer}
+use Rattle.std.specs.Prelude.{Result}
+use Rattle.codec.specs.Answer.{Answer, answer_of}
+use Rattle.codec.specs.declared.Refusal.{Refusal}
+use Rattle.codec.specs.Refusal.{number}
+use Rattle.codec.proofs.Ended.{under_refusals}
 use Rattle.codec.proofs.Writing.{placed-length, placed_swap}
 use Rattle.codec.proofs.Replies.{fault_gives}
 use Rattle.layout.specs.Knowledge.{Limits, encode}
@@ -20,7 +24,7 @@ use Rattle.replication.specs.MethodReplies.{batch_reply}
 use Rattle.replication.proofs.Opening.Calls.{batch_learned_result, batch_fits}
 use Rattle.replication.proofs.Bytes.Sizes.{recs_size, batch_size}
 use Rattle.records_join.specs.MethodJoin.{copied}
-use Rattle.codec.specs.MethodEnded.{Ended}
+use Rattle.codec.specs.MethodEnded.{Ended, answer_under}
 use Rattle.store_headers.specs.MethodHeaders.{batch_head}
 use Rattle.store_headers.proofs.Headers.{batch_placed, batch_head_length}
 use Rattle.store_write.specs.MethodStoring.{Chosen}
@@ -91,3 +95,14 @@ close_batch L b first {begin} {end} {a} {needed} {s} {picks} {count} {size} {out
     (omega (arith, batch_size b, recs_size b.records, i.chosen.sized, ap length needed_is))
     (λ m there fits. batch_written b begin end needed s picks count size first out i.begins i.stops needed_is i.chosen there fits)
     i.from i.to i.room.is i.part i.ended i.is r u h
+
+-- the same where its errors are refusals
+pub close_batch_refused : (L : Limits) (b : Batch) (first : List ℕ) (a r : Result ℕ Refusal) {begin end : ℕ} {needed s picks : List ℕ}
+    {count size : ℕ} {out : List ℕ} → InsideBatch L b begin end (answer_of a) needed s picks count size first out → {u : List ℕ}
+    → (answer_under number r ≡ batch_answer (answer_under number a) (length needed) size (length out))
+    × (u ≡ batch_after (answer_under number a) begin end needed s picks count size out) → Ended (batch_reply L b) first u (answer_of r)
+close_batch_refused L b first a r {begin} {end} {needed} {s} {picks} {count} {size} {out} i {u} h =
+    close_batch L b first i (
+      sym (under_refusals r) ∙ h.0 ∙ ap (λ x. batch_answer x (length needed) size (length out)) (under_refusals a),
+      h.1 ∙ ap (λ x. batch_after x begin end needed s picks count size out) (under_refusals a),
+    )

@@ -6,6 +6,7 @@
 
 ghost use Rattle.std.specs.Prelude.{◌≡◌, ◌+◌, ◌≤◌, length, take};
 ghost use Rattle.codec.specs.Answer.{answer_of};
+ghost use Rattle.codec.specs.MethodEnded.{answer_under};
 ghost use Rattle.codec.specs.Part.{placed};
 ghost use Rattle.codec.specs.Total.{clamp};
 ghost use Rattle.codec.specs.Ids.{item_of, replica_of};
@@ -17,7 +18,7 @@ ghost use Rattle.store_headers.specs.MethodHeaders.{store_head, batch_head};
 ghost use Rattle.store_write.specs.MethodStoring.{ends_with, leaves};
 ghost use Rattle.store_write.specs.MethodClosing.{store_room, store_answer, store_after, batch_room, batch_answer, batch_after};
 
-use codec::{Item, Refusal, Replica, Span};
+use codec::{Item, Numbered, Refusal, Replica, Span};
 use records_join::Extent;
 
 // ---- a store around a knowledge that is written into its room
@@ -76,33 +77,35 @@ fn put_around(
     Ok(total)
 }
 
-// Ends a call that writes a store, once its knowledge was written into its room or refused with `a`: with that refusal, with the one for too
-// many records where these left the knowledge no room, or with the whole store.
-pub fn close_store(
+// Ends a call that writes a store, once its knowledge was written into its room or refused with `a`, whichever number it has: with that refusal,
+// with the one for too many records where these left the knowledge no room, or with the whole store.
+pub fn close_store<E: Numbered>(
     out: &mut [u8],
     own: Replica,
-    a: Result<usize, Refusal>,
+    a: Result<usize, E>,
     records: u32,
     s: &[u8],
     other: &[u8],
     picks: &[usize],
     e: Extent,
-) -> Result<usize, Refusal>
-    ensures value { answer_of result ≡ store_answer (answer_of a) (clamp records largest_records) e.count e.length (length out.old) }
-    ensures out_after { out.new ≡ store_after (answer_of a) (replica_of own) s.now other.now picks.now
+) -> Result<usize, E>
+    ensures value { answer_under E.number_of result
+        ≡ store_answer (answer_under E.number_of a) (clamp records largest_records) e.count e.length (length out.old) }
+    ensures out_after { out.new ≡ store_after (answer_under E.number_of a) (replica_of own) s.now other.now picks.now
         e.count e.length out.old }
 {
     match a {
-        Ok(n) => put_around(out, own, n, s, other, picks, e),
+        Ok(n) => Ok(put_around(out, own, n, s, other, picks, e)?),
         Err(r) => {
             let most = codec::clamp(records, layout::LARGEST_RECORDS) as usize;
             if e.count <= most {
                 return Err(r);
             }
-            if u32::from(r) < u32::from(Refusal::BufferTooShort) {
+            let number: u32 = r.into();
+            if number < u32::from(Refusal::BufferTooShort) {
                 return Err(r);
             }
-            Err(Refusal::TooManyRecords)
+            Err(E::from(Refusal::TooManyRecords))
         }
     }
 }
@@ -165,22 +168,23 @@ fn put_batch_around(
     Ok(total)
 }
 
-// How a call ends that writes a batch, once its learned knowledge was written into its room or refused with `a`: with that refusal, or with
-// the whole batch.
-pub fn close_batch(
+// How a call ends that writes a batch, once its learned knowledge was written into its room or refused with `a`, whichever number it has: with
+// that refusal, or with the whole batch.
+pub fn close_batch<E: Numbered>(
     out: &mut [u8],
     first: Item,
     last: Item,
-    a: Result<usize, Refusal>,
+    a: Result<usize, E>,
     needed: &[u8],
     s: &[u8],
     picks: &[usize],
     e: Extent,
-) -> Result<usize, Refusal>
-    ensures value { answer_of result ≡ batch_answer (answer_of a) (length needed.now) e.length (length out.old) }
-    ensures out_after { out.new ≡ batch_after (answer_of a) (item_of first) (item_of last) needed.now s.now picks.now
-        e.count e.length out.old }
+) -> Result<usize, E>
+    ensures value { answer_under E.number_of result
+        ≡ batch_answer (answer_under E.number_of a) (length needed.now) e.length (length out.old) }
+    ensures out_after { out.new ≡ batch_after (answer_under E.number_of a) (item_of first) (item_of last) needed.now s.now
+        picks.now e.count e.length out.old }
 {
     let n = a?;
-    put_batch_around(out, first, last, needed, n, s, picks, e)
+    Ok(put_batch_around(out, first, last, needed, n, s, picks, e)?)
 }

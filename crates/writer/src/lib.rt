@@ -83,8 +83,8 @@ fn write_id(out: &mut [u8], at: usize, ids: &[u64], c: u32)
     ensures { Wrote out.old at (id_pieces ids.now (c ∷ [])) out.new (at + 16) }
 {
     let first = 2 * (c as usize);
-    codec::write::<8>(out, at, tables::word(ids, first));
-    codec::write::<8>(out, at + 8, tables::word(ids, first + 1));
+    codec::write::<8>(out, at, cells::word(ids, first));
+    codec::write::<8>(out, at + 8, cells::word(ids, first + 1));
 }
 
 // The ids of columns; the place after.
@@ -128,7 +128,7 @@ fn write_cell(out: &mut [u8], at: usize, t: &[u64], k: u32, c: u32, key: Replica
     ensures { Wrote out.old at (element_pieces (cell t.now k) key.0 (c ∷ []))
         out.new result × (result ≡ at + 12 * elements_of (cell t.now k c)) }
 {
-    let tick = tables::tick(t, k, c);
+    let tick = cells::tick(t, k, c);
     if tick == 0 {
         return at;
     }
@@ -197,9 +197,9 @@ fn write_range(out: &mut [u8], at: usize, bounds: &[u64], k: u32, index: VectorI
         out.new (at + 28) }
 {
     let first = 3 * (k as usize);
-    codec::write::<8>(out, at, tables::word(bounds, first));
-    codec::write::<8>(out, at + 8, tables::word(bounds, first + 1));
-    codec::write::<8>(out, at + 16, tables::word(bounds, first + 2));
+    codec::write::<8>(out, at, cells::word(bounds, first));
+    codec::write::<8>(out, at + 8, cells::word(bounds, first + 1));
+    codec::write::<8>(out, at + 16, cells::word(bounds, first + 2));
     codec::write::<4>(out, at + 24, index.0 as u64);
 }
 

@@ -6,7 +6,7 @@ use Rattle.codec.specs.Refusal.{number}
 use Rattle.layout.specs.Permitted.{largest_records}
 use Rattle.codec.proofs.Writing.{zeros-length}
 use Rattle.results.specs.MethodOpened.{limits_of}
-use Rattle.store_write.proofs.Closing.{store_room_lem, close_store}
+use Rattle.store_write.proofs.Closing.{store_room_lem, close_store_refused}
 use Rattle.edit.proofs.Changing.{change_11, change_inside}
 use Rattle.edit.proofs.write_changed.Goals as goal
 
@@ -19,7 +19,7 @@ pub returns : goal.returns
 returns c = let a = c.args in
     let bytes : Bytes a.store.now = record { below = λ i. omega (arith, c.type_inv.store i) } in
     let others : Bytes a.one.now = record { below = λ i. omega (arith, c.type_inv.one i) } in
-    λ st b. close_store (limits_of a.limits) st a.out.now
+    λ st b. close_store_refused (limits_of a.limits) st a.out.now _ _
     (change_inside a.limits _ _ _ _ _ bytes others _ _ _ _ c.join-e.ensures.count_value.0 c.join-e.ensures.count_value.1 c.join-e.ensures.chosen_after
     (omega (arith, zeros-length largest_records)) _ _ _ (store_room_lem _ c.room_in_store-room.ensures.value) _ _
     c.raise_own-raised.ensures st b)

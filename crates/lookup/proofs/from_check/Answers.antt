@@ -4,9 +4,9 @@ use Rattle.lookup.proofs.Calls.{counts_opened, fault_opened}
 use Rattle.lookup.proofs.from_check.Goals as goal
 
 pub returns-in_err-n : goal.returns-in_err-n
-returns-in_err-n c =
+returns-in_err-n g c number_of =
     let p = err_from_is_err_and c.from_residual.result c.from_residual.ensures.1 in
-    rw (p.1, p.2) (fault_opened _ _ c.in_err-n.was)
+    rw (p.1, p.2) (fault_opened _ number_of _ c.in_err-n.was)
 
 pub returns : goal.returns
-returns c = counts_opened _ c.in_ok-n.n _ c.in_ok-n.was c.start-start.ensures
+returns g c number_of = counts_opened _ number_of c.in_ok-n.n _ c.in_ok-n.was c.start-start.ensures
