@@ -116,8 +116,9 @@ fn run_of_fields(s: &[u8], list: &[Field], start: usize) -> Result<Read, Refusal
     Ok(x)
 }
 
-// A run of fixed fields, and the count after it.
+// A run of fixed fields, and the count after it. Inlined, so that its answer has a place on the stack only where it is asked for.
 #[cold]
+#[inline(always)]
 fn run_and_count(s: &[u8], list: &[Field], start: usize) -> Result<Read, Refusal>
     ensures { got_of result ≡ (fields s.now (fields_of list.now) 0 start ▷ number s.now 4) }
 {
@@ -198,6 +199,8 @@ pub fn count_of_ranges(s: &[u8], at: usize) -> Result<Read, Refusal>
     })
 }
 
+// The fields behind the last range. Inlined, so that its answer doesn't go through memory.
+#[inline(always)]
 pub fn closing_fields(s: &[u8], at: usize) -> Result<Read, Refusal>
     ensures { got_of result ≡ fields s.now closing 0 at }
 {

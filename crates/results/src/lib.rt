@@ -134,8 +134,9 @@ impl<'a> Work<'a> {
     }
 }
 
-// Writes the normal form of what either of two knowledges knows.
+// Writes the normal form of what either of two knowledges knows. Inlined, so that a merge which is refused before lays nothing out for it.
 #[tactic(auto, unfolding(crate::specs::MethodOpened::merged_end))]
+#[inline(always)]
 pub fn merge_opened(
     s: &[u8],
     v: View,

@@ -460,7 +460,9 @@ fn batch_needed(
     batch_learned(s, k, needed, l, count, limits)
 }
 
-// Checks a batch, with the most replicas, ranges and records, each clamped to 1 to its largest.
+// Checks a batch, with the most replicas, ranges and records, each clamped to 1 to its largest. Inlined, so that one whose header is
+// refused isn't answered through memory.
+#[inline(always)]
 pub fn open_batch(s: &[u8], limits: Limits) -> Result<OpenBatch, Refusal>
     ensures { result ≡ batch_opened (within limits.replicas limits.ranges limits.records) s.now }
 {
