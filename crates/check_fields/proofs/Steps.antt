@@ -15,6 +15,8 @@ use Rattle.codec.specs.declared.Refusal.{Refusal}
 use Rattle.layout.specs.declared.Read.{Read}
 use Rattle.layout.specs.Got.{Num, Fault, got_of}
 use Rattle.layout.specs.Read.{◌▷◌, number, same, limit, empty}
+use Rattle.codec.specs.Refusal.{number as refusal}
+use Rattle.check_fields.specs.Method.{got_under}
 
 -- one more part of a size, counted, and inside the bytes
 pub record Went (s : List ℕ) (size k at y b : ℕ) : Type 0 where
@@ -47,6 +49,22 @@ module _ (r : Result Read Refusal) (e : Refusal) (h : IsErrAnd r (λ x. x ≡ e)
   pub passed_on : (f : ℕ → ℕ → Got) → got_of r ≡ (g ▷ f)
   unfolding got_of
   passed_on f = passed ∙ sym i ∙ ap (λ (k : Got). k ▷ f) i
+
+-- the same where the errors have numbers, whichever type they are of
+module _ {E : Type 0} (number_of : E → ℕ) (g : Result Read E) where
+  pub under_fault : (e : E) → g ≡ Err e → (f : ℕ → ℕ → Got) → got_under number_of (Err e) ≡ (got_under number_of g ▷ f)
+  unfolding got_under
+  under_fault e is f = sym (ap (λ x. got_under number_of x ▷ f) is)
+
+-- under the numbers of the refusals it is what reading comes to
+pub got_refusals : (r : Result Read Refusal) → got_under refusal r ≡ got_of r
+unfolding got_under got_of
+got_refusals (Ok x) = refl
+got_refusals (Err e) = refl
+
+pub limited : (a b : Result Read Refusal) (lo hi : ℕ) → got_under refusal b ≡ (got_under refusal a ▷ limit lo hi)
+    → got_of b ≡ (got_of a ▷ limit lo hi)
+limited a b lo hi h = sym (got_refusals b) ∙ h ∙ ap (λ (k : Got). k ▷ limit lo hi) (got_refusals a)
 
 pub then_on : (x : Read) (g h : Got) (f : ℕ → ℕ → Got) → got_of (Ok x) ≡ g → h ≡ f x.number x.next → h ≡ (g ▷ f)
 unfolding got_of

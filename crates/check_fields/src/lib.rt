@@ -9,9 +9,9 @@ ghost use Rattle.std.specs.Prelude.{◌≡◌, ◌+◌, ◌*◌, ◌≤◌, leng
 ghost use Rattle.layout.specs.Got.{got_of};
 ghost use Rattle.layout.specs.Knowledge.{opening, before_vectors, before_elements, before_ranges, closing};
 ghost use Rattle.layout.specs.Read.{◌▷◌, repeat, number, same, fields, limit, among, element, first_vector, vector};
-ghost use Rattle.check_fields.specs.Method.{field_of, fields_of};
+ghost use Rattle.check_fields.specs.Method.{field_of, fields_of, got_under};
 
-use codec::Refusal;
+use codec::{Numbered, Refusal};
 use layout::Read;
 
 // the largest tick
@@ -127,11 +127,12 @@ fn run_and_count(s: &[u8], list: &[Field], start: usize) -> Result<Read, Refusal
 }
 
 // Holds a count against its limits.
-pub fn in_limits(x: Read, lo: usize, hi: usize) -> Result<Read, Refusal>
-    ensures { got_of result ≡ limit lo hi x.number x.next }
+pub fn in_limits<E: Numbered>(g: Result<Read, E>, lo: usize, hi: usize) -> Result<Read, E>
+    ensures { got_under E.number_of result ≡ (got_under E.number_of g ▷ limit lo hi) }
 {
+    let x = g?;
     if x.number < lo || hi < x.number {
-        return Err(Refusal::CountBeyondLimits);
+        return Err(E::from(Refusal::CountBeyondLimits));
     }
     Ok(x)
 }
@@ -296,6 +297,6 @@ fn elements(s: &[u8], r: usize, n: usize, start: usize) -> Result<Read, Refusal>
 pub fn vector_by_fields(s: &[u8], r: usize, at: usize) -> Result<Read, Refusal>
     ensures { got_of result ≡ vector s.now r 0 at }
 {
-    let n = in_limits(count_of_elements(s, at)?, 0, r)?;
+    let n = in_limits(count_of_elements(s, at), 0, r)?;
     elements(s, r, n.number, n.next)
 }

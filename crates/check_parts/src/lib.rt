@@ -71,7 +71,7 @@ fn replica_ids(s: &[u8], n: usize, start: usize) -> Result<Read, Refusal>
 pub fn replica_map(s: &[u8], most: u32) -> Result<Read, Refusal>
     ensures { got_of result ≡ replica_map most basic.judge s.now }
 {
-    let r = check_fields::in_limits(check_fields::count_of_replicas(s)?, 0, most as usize)?;
+    let r = check_fields::in_limits(check_fields::count_of_replicas(s), 0, most as usize)?;
     replica_ids(s, r.number, r.next)
 }
 
@@ -81,7 +81,7 @@ pub fn replica_map(s: &[u8], most: u32) -> Result<Read, Refusal>
 pub fn vector_count(s: &[u8], most: u32, at: usize) -> Result<Read, Refusal>
     ensures { got_of result ≡ vector_count most s.now at }
 {
-    check_fields::in_limits(check_fields::count_of_vectors(s, at)?, 1, most as usize + 1)
+    check_fields::in_limits(check_fields::count_of_vectors(s, at), 1, most as usize + 1)
 }
 
 // Are the n elements of a clock vector without a fault. What is wrong with one of them is gathered with no branch on it.
@@ -203,6 +203,6 @@ fn ranges(s: &[u8], v: usize, g: usize, start: usize) -> Result<Read, Refusal>
 pub fn range_list(s: &[u8], most: u32, v: usize, at: usize) -> Result<Read, Refusal>
     ensures { got_of result ≡ range_list most s.now v at }
 {
-    let g = check_fields::in_limits(check_fields::count_of_ranges(s, at)?, 1, most as usize)?;
+    let g = check_fields::in_limits(check_fields::count_of_ranges(s, at), 1, most as usize)?;
     ranges(s, v, g.number, g.next)
 }

@@ -8,7 +8,7 @@ pub const STRIDE: usize = 2 * (layout::LARGEST_REPLICAS as usize);
 pub const ROWS: usize = 2 * (layout::LARGEST_RANGES as usize) + 2;
 
 // What is to be written: how many replicas, clock vectors, elements of all vectors, and ranges.
-#[derive(Clone, Copy, Default)]
+#[derive(Clone, Copy)]
 pub struct Sizes {
     pub replicas: u32,
     pub vectors: u32,
